@@ -1,0 +1,5 @@
+pub mod Names
+pub mod Timestamps
+pub mod Updates
+pub mod Orders
+pub mod Texts

@@ -1,0 +1,10 @@
+pub mod Name
+pub mod Object
+pub mod Operation
+pub mod Code
+pub mod TagFields
+pub mod Timestamp
+pub mod Message
+pub mod Order
+pub mod Laws
+pub mod Reading

@@ -1,0 +1,437 @@
+//! Names: the seven kinds, keys, values and objects.
+//!
+//! Their texts are this project's own profile. UTF-8 is std's.
+
+ghost use Rattle.std.specs.Prelude.{◌≡◌, ◌≢◌, IfOk, IfErr, OnOk, IsTrue, position, not, Some};
+ghost use Rattle.std.specs.Prelude.{nat_eq, refl};
+ghost use Rattle.std.specs.Str.{is_utf8};
+ghost use Rattle.std.specs.Ordering.{nat_cmp, as_partial_cmp};
+ghost use Rattle.std.specs.Cmp.{partial_equiv_from_equiv};
+ghost use Rattle.std.specs.Cmp.Lexicographic.{pointwise, slice_cmp, nat_list_eq_equiv, nat_list_cmp_total, texts_ties, texts_po};
+ghost use Rattle.op_base.specs.Name.{is_key, is_value, is_object, is_key_byte, is_value_byte, key_fault, value_fault, object_fault, kind_word, kind_of, kind_part, key_part, is_colon, Refuses};
+
+use crate::memory::NoMemory;
+use std::alloc::{AllocError, Global};
+use std::cmp::Ordering;
+use std::error::Error;
+use std::marker::Model;
+use std::{fmt, str};
+
+/// A key has at most so many bytes.
+pub const MOST_KEY_BYTES: usize = 32;
+
+/// A value has at most so many bytes.
+pub const MOST_VALUE_BYTES: usize = 64;
+
+/// The type of an object. Objects of different kinds never meet.
+#[derive(Clone, Copy, Debug, PartialEq, Eq, PartialOrd, Ord, Hash)]
+pub enum Kind {
+    /// A set in which an add wins over a concurrent remove.
+    AwSet,
+    /// A set in which a remove wins over a concurrent add.
+    RwSet,
+    /// A flag in which an enable wins over a concurrent disable.
+    EwFlag,
+    /// A flag in which a disable wins over a concurrent enable.
+    DwFlag,
+    /// A register that keeps each of several concurrent writes.
+    MvReg,
+    /// A counter.
+    Counter,
+    /// A counter that can be cleared.
+    RCounter,
+}
+
+/// Why a text is no name.
+#[derive(Clone, Copy, Debug, PartialEq, Eq)]
+pub enum NameFault {
+    /// There is no byte.
+    Empty,
+    /// There are more bytes than a name may have.
+    TooLong,
+    /// The byte at this place, counted from 0, may not stand there. It is the first such byte.
+    BadByte { at: usize },
+    /// What stands before the first colon is no kind's word.
+    NoType,
+    /// The bytes aren't UTF-8.
+    NotUtf8,
+    /// The text is a name, and there is no memory for it.
+    NoMemory,
+}
+
+impl fmt::Display for NameFault {
+    fn fmt<W: fmt::Write>(&self, f: &mut fmt::Formatter<W>) -> fmt::Result {
+        match self {
+            NameFault::Empty => write!(f, "no byte"),
+            NameFault::TooLong => write!(f, "too many bytes"),
+            NameFault::BadByte { at } => write!(f, "a byte at place {at} that may not stand there"),
+            NameFault::NoType => write!(f, "no kind before the first colon"),
+            NameFault::NotUtf8 => write!(f, "no UTF-8"),
+            NameFault::NoMemory => write!(f, "out of memory"),
+        }
+    }
+}
+
+impl Error for NameFault {}
+
+impl From<NoMemory> for NameFault {
+    ghost use Rattle.std.specs.Prelude.{◌≡◌};
+    ghost use Rattle.op_base.specs.declared.name.NameFault.TheVariants as faults;
+
+    ghost from_gives = { λ _ e. e ≡ faults.NoMemory };
+
+    fn from(_error: NoMemory) -> NameFault {
+        NameFault::NoMemory
+    }
+}
+
+impl From<AllocError> for NameFault {
+    ghost use Rattle.std.specs.Prelude.{◌≡◌};
+    ghost use Rattle.op_base.specs.declared.name.NameFault.TheVariants as faults;
+
+    ghost from_gives = { λ _ e. e ≡ faults.NoMemory };
+
+    fn from(_error: AllocError) -> NameFault {
+        NameFault::NoMemory
+    }
+}
+
+/// A key: 1 to 32 bytes of `a-z`, `0-9`, `_`, `.` and `-`. Contracts see the list of its bytes.
+#[derive(Debug, Drop)]
+pub struct Key {
+    bytes: Vec<u8>,
+}
+
+impl Model for Key {
+    ghost use Rattle.std.specs.Prelude.{List, ℕ, IsTrue};
+    ghost use Rattle.op_base.specs.Name.{is_key};
+
+    ghost Value = { List ℕ };
+
+    ghost view = { λ k. k.bytes.items };
+
+    ghost invariant = { λ k. IsTrue (is_key k.bytes.items) };
+}
+
+/// A value: 1 to 64 bytes of UTF-8 with no byte at or below 0x20 and no 0x7F, so that a terminal prints it
+/// without surprises. Contracts see the list of its bytes.
+#[derive(Debug, Drop)]
+pub struct Value {
+    bytes: Vec<u8>,
+}
+
+impl Model for Value {
+    ghost use Rattle.std.specs.Prelude.{List, ℕ, IsTrue};
+    ghost use Rattle.op_base.specs.Name.{is_value};
+
+    ghost Value = { List ℕ };
+
+    ghost view = { λ v. v.bytes.items };
+
+    ghost invariant = { λ v. IsTrue (is_value v.bytes.items) };
+}
+
+/// The name of an object: its kind and its key. Its text is the kind's word, a colon and the key.
+#[derive(Debug, PartialEq, Eq, PartialOrd, Ord, Drop)]
+pub struct ObjectId {
+    /// The type of the object.
+    pub kind: Kind,
+    /// What tells it from the other objects of its kind.
+    pub key: Key,
+}
+
+impl Kind {
+    /// The word that names the kind in texts.
+    pub fn word(self) -> &'static str
+        ensures { result.now ≡ kind_word self }
+    {
+        match self {
+            Kind::AwSet => "awset",
+            Kind::RwSet => "rwset",
+            Kind::EwFlag => "ewflag",
+            Kind::DwFlag => "dwflag",
+            Kind::MvReg => "mvreg",
+            Kind::Counter => "counter",
+            Kind::RCounter => "rcounter",
+        }
+    }
+
+    /// The kind whose word this is.
+    pub fn read(bytes: &[u8]) -> Option<Kind>
+        ensures { result ≡ kind_of bytes.now }
+    {
+        match bytes {
+            b"awset" => Some(Kind::AwSet),
+            b"rwset" => Some(Kind::RwSet),
+            b"ewflag" => Some(Kind::EwFlag),
+            b"dwflag" => Some(Kind::DwFlag),
+            b"mvreg" => Some(Kind::MvReg),
+            b"counter" => Some(Kind::Counter),
+            b"rcounter" => Some(Kind::RCounter),
+            _ => None,
+        }
+    }
+}
+
+fn is_key_byte(b: u8) -> bool
+    ensures { result ≡ is_key_byte b }
+{
+    matches!(b, b'a'..=b'z' | b'0'..=b'9' | b'_' | b'.' | b'-')
+}
+
+fn is_value_byte(b: u8) -> bool
+    ensures { result ≡ is_value_byte b }
+{
+    b > 0x20 && b != 0x7F
+}
+
+fn bad_key_place(bytes: &[u8]) -> Option<usize>
+    ensures { result ≡ position (λ b. not (is_key_byte b)) bytes.now }
+{
+    bytes.iter().position(|b| !is_key_byte(*b))
+}
+
+fn bad_value_place(bytes: &[u8]) -> Option<usize>
+    ensures { result ≡ position (λ b. not (is_value_byte b)) bytes.now }
+{
+    bytes.iter().position(|b| !is_value_byte(*b))
+}
+
+fn is_utf8(bytes: &[u8]) -> bool
+    ensures { result ≡ is_utf8 bytes.now }
+{
+    str::from_utf8(bytes).is_ok()
+}
+
+/// Why bytes are no key, where they are none.
+fn key_fault(bytes: &[u8]) -> Option<NameFault>
+    ensures { result ≡ key_fault bytes.now }
+{
+    if bytes.is_empty() {
+        return Some(NameFault::Empty);
+    }
+    if bytes.len() > MOST_KEY_BYTES {
+        return Some(NameFault::TooLong);
+    }
+    let at = bad_key_place(bytes)?;
+    Some(NameFault::BadByte { at })
+}
+
+/// Why bytes are no value, where they are none.
+fn value_fault(bytes: &[u8]) -> Option<NameFault>
+    ensures { result ≡ value_fault bytes.now }
+{
+    if bytes.is_empty() {
+        return Some(NameFault::Empty);
+    }
+    if bytes.len() > MOST_VALUE_BYTES {
+        return Some(NameFault::TooLong);
+    }
+    if let Some(at) = bad_value_place(bytes) {
+        return Some(NameFault::BadByte { at });
+    }
+    if is_utf8(bytes) {
+        None
+    } else {
+        Some(NameFault::NotUtf8)
+    }
+}
+
+fn colon_place(bytes: &[u8]) -> Option<usize>
+    ensures { result ≡ position is_colon bytes.now }
+{
+    bytes.iter().position(|b| *b == b':')
+}
+
+/// What stands before the first colon and what stands after it; all and nothing where there is none.
+fn parts(bytes: &[u8]) -> (&[u8], &[u8])
+    ensures kind { result.0.now ≡ kind_part bytes.now }
+    ensures key { result.1.now ≡ key_part bytes.now }
+{
+    match colon_place(bytes) {
+        Some(at) => (&bytes[..at], &bytes[at + 1..]),
+        None => (bytes, &[]),
+    }
+}
+
+impl Key {
+    /// Reads a key: all of the bytes. The refusals are `Empty`, `TooLong` (above 32 bytes) and `BadByte` with the
+    /// first place of a byte that no key has, in this order; `NoMemory` comes after them.
+    pub fn read(alloc: Global, bytes: &[u8]) -> Result<Key, NameFault>
+        ensures key { IfOk result (λ key. key ≡ bytes.now) }
+        ensures valid { OnOk result (IsTrue (is_key bytes.now)) }
+        ensures refused { Refuses (key_fault bytes.now) result }
+    {
+        match key_fault(bytes) {
+            Some(fault) => Err(fault),
+            None => Ok(Key {
+                bytes: Vec::from_slice(alloc, bytes)?,
+            }),
+        }
+    }
+
+    /// The bytes, 1 to 32 of them.
+    pub fn as_slice(&self) -> &[u8]
+        ensures bytes { result.now ≡ self.now }
+        ensures valid { IsTrue (is_key self.now) }
+    {
+        self.bytes.as_slice()
+    }
+
+    /// An equal key.
+    pub fn copy(&self, alloc: Global) -> Result<Key, NoMemory>
+        ensures { IfOk result (λ copy. copy ≡ self.now) }
+    {
+        Ok(Key {
+            bytes: Vec::from_slice(alloc, self.bytes.as_slice())?,
+        })
+    }
+}
+
+impl Value {
+    /// Reads a value: all of the bytes. The refusals are `Empty`, `TooLong` (above 64 bytes), `BadByte` with the
+    /// first place of a byte that no value has, and `NotUtf8`, in this order; `NoMemory` comes after them.
+    pub fn read(alloc: Global, bytes: &[u8]) -> Result<Value, NameFault>
+        ensures value { IfOk result (λ value. value ≡ bytes.now) }
+        ensures valid { OnOk result (IsTrue (is_value bytes.now)) }
+        ensures refused { Refuses (value_fault bytes.now) result }
+    {
+        match value_fault(bytes) {
+            Some(fault) => Err(fault),
+            None => Ok(Value {
+                bytes: Vec::from_slice(alloc, bytes)?,
+            }),
+        }
+    }
+
+    /// The bytes, 1 to 64 of them.
+    pub fn as_slice(&self) -> &[u8]
+        ensures bytes { result.now ≡ self.now }
+        ensures valid { IsTrue (is_value self.now) }
+    {
+        self.bytes.as_slice()
+    }
+
+    /// An equal value.
+    pub fn copy(&self, alloc: Global) -> Result<Value, NoMemory>
+        ensures { IfOk result (λ copy. copy ≡ self.now) }
+    {
+        Ok(Value {
+            bytes: Vec::from_slice(alloc, self.bytes.as_slice())?,
+        })
+    }
+}
+
+impl ObjectId {
+    ghost use Rattle.op_base.specs.Object.{same_object};
+    ghost use Rattle.op_base.specs.Reading.{object_of};
+
+    /// Whether the other name is of the same object: of one kind, with one key.
+    pub fn is_same(&self, other: &ObjectId) -> bool
+        ensures { result ≡ same_object self.now other.now }
+    {
+        self == other
+    }
+
+    /// Reads an object's text: a kind's word, a colon and a key. The refusals are `NoType` and then the key's, with
+    /// places counted in the key; `NoMemory` comes after them.
+    pub fn read(alloc: Global, bytes: &[u8]) -> Result<ObjectId, NameFault>
+        ensures kind { IfOk result (λ object. Some object.kind ≡ kind_of (kind_part bytes.now)) }
+        ensures key { IfOk result (λ object. object.key ≡ key_part bytes.now) }
+        ensures valid { OnOk result (IsTrue (is_object bytes.now)) }
+        ensures object { IfOk result (λ object. object_of bytes.now ≡ Some object) }
+        ensures refused { Refuses (object_fault bytes.now) result }
+        ensures none { IfErr result (λ fault. fault ≢ NameFault.NoMemory → object_of bytes.now ≡ None) }
+    {
+        let (kind, key) = parts(bytes);
+        let kind = Kind::read(kind).ok_or(NameFault::NoType)?;
+        let key = Key::read(alloc, key)?;
+        Ok(ObjectId { kind, key })
+    }
+
+    /// An equal name.
+    pub fn copy(&self, alloc: Global) -> Result<ObjectId, NoMemory>
+        ensures { IfOk result (λ copy. copy ≡ self.now) }
+    {
+        Ok(ObjectId {
+            kind: self.kind,
+            key: self.key.copy(alloc)?,
+        })
+    }
+}
+
+impl PartialEq for Key {
+    ghost eq = { pointwise nat_eq };
+
+    ghost laws = { partial_equiv_from_equiv nat_list_eq_equiv };
+
+    fn eq(&self, other: &Key) -> bool {
+        self.bytes.as_slice() == other.bytes.as_slice()
+    }
+}
+
+impl Eq for Key {
+    ghost laws = { nat_list_eq_equiv };
+}
+
+impl PartialOrd for Key {
+    ghost partial_cmp = { as_partial_cmp (slice_cmp nat_cmp) };
+
+    ghost laws = { texts_po };
+
+    fn partial_cmp(&self, other: &Key) -> Option<Ordering> {
+        Some(self.cmp(other))
+    }
+}
+
+impl Ord for Key {
+    ghost cmp = { slice_cmp nat_cmp };
+
+    ghost total = { nat_list_cmp_total };
+
+    ghost matches_partial_cmp = { λ x y. refl };
+
+    ghost matches_eq = { texts_ties };
+
+    fn cmp(&self, other: &Key) -> Ordering {
+        self.bytes.as_slice().cmp(other.bytes.as_slice())
+    }
+}
+
+impl PartialEq for Value {
+    ghost eq = { pointwise nat_eq };
+
+    ghost laws = { partial_equiv_from_equiv nat_list_eq_equiv };
+
+    fn eq(&self, other: &Value) -> bool {
+        self.bytes.as_slice() == other.bytes.as_slice()
+    }
+}
+
+impl Eq for Value {
+    ghost laws = { nat_list_eq_equiv };
+}
+
+impl PartialOrd for Value {
+    ghost partial_cmp = { as_partial_cmp (slice_cmp nat_cmp) };
+
+    ghost laws = { texts_po };
+
+    fn partial_cmp(&self, other: &Value) -> Option<Ordering> {
+        Some(self.cmp(other))
+    }
+}
+
+impl Ord for Value {
+    ghost cmp = { slice_cmp nat_cmp };
+
+    ghost total = { nat_list_cmp_total };
+
+    ghost matches_partial_cmp = { λ x y. refl };
+
+    ghost matches_eq = { texts_ties };
+
+    fn cmp(&self, other: &Value) -> Ordering {
+        self.bytes.as_slice().cmp(other.bytes.as_slice())
+    }
+}

@@ -1,0 +1,166 @@
+//! Operations: what is sent, as itself.
+//!
+//! That an operation is sent as itself, computed from no state, is the idea of Baquero, Almeida and Shoker
+//! (arXiv 1710.04469). The kinds' acts and their codes are this project's own profile.
+
+ghost use Rattle.std.specs.Prelude.{◌≡◌, IsTrue, Some, is_ok, IfOk, IfErr};
+ghost use Rattle.op_base.specs.Operation.{act_code, has_act};
+
+use crate::memory::NoMemory;
+use crate::name::{Kind, ObjectId, Value};
+use std::alloc::Global;
+
+/// What is done to an object.
+#[derive(Debug, PartialEq, Eq, Drop)]
+pub enum Act {
+    /// Puts a value into a set.
+    Add(Value),
+    /// Takes a value out of a set.
+    Rmv(Value),
+    /// Undoes what happened before it.
+    Clear,
+    /// Sets a flag.
+    Enable,
+    /// Unsets a flag.
+    Disable,
+    /// Writes a register.
+    Write(Value),
+    /// Adds an amount to a counter.
+    Inc(u32),
+    /// Takes an amount from a counter.
+    Dec(u32),
+}
+
+/// An object and an act of its kind.
+#[derive(Debug, PartialEq, Eq, Drop)]
+pub struct Update {
+    /// The object that is changed.
+    pub object: ObjectId,
+    /// What is done to it.
+    pub act: Act,
+    pub ghost of_kind: { IsTrue (has_act object.kind act) },
+}
+
+/// What a message carries.
+#[derive(Debug, PartialEq, Eq, Drop)]
+pub enum Op {
+    /// Nothing but the message's timestamp.
+    NoOp,
+    /// An object's update.
+    Update(Update),
+}
+
+/// The code of an act at a kind, 1 to 19. `None` exactly where the kind has no such act.
+fn act_code(kind: Kind, act: &Act) -> Option<u8>
+    ensures { result ≡ act_code kind act.now }
+{
+    let code = match (kind, act) {
+        (Kind::AwSet, Act::Add(_)) => 1,
+        (Kind::AwSet, Act::Rmv(_)) => 2,
+        (Kind::AwSet, Act::Clear) => 3,
+        (Kind::RwSet, Act::Add(_)) => 4,
+        (Kind::RwSet, Act::Rmv(_)) => 5,
+        (Kind::RwSet, Act::Clear) => 6,
+        (Kind::EwFlag, Act::Enable) => 7,
+        (Kind::EwFlag, Act::Disable) => 8,
+        (Kind::EwFlag, Act::Clear) => 9,
+        (Kind::DwFlag, Act::Enable) => 10,
+        (Kind::DwFlag, Act::Disable) => 11,
+        (Kind::DwFlag, Act::Clear) => 12,
+        (Kind::MvReg, Act::Write(_)) => 13,
+        (Kind::MvReg, Act::Clear) => 14,
+        (Kind::Counter, Act::Inc(_)) => 15,
+        (Kind::Counter, Act::Dec(_)) => 16,
+        (Kind::RCounter, Act::Inc(_)) => 17,
+        (Kind::RCounter, Act::Dec(_)) => 18,
+        (Kind::RCounter, Act::Clear) => 19,
+        _ => return None,
+    };
+    Some(code)
+}
+
+impl Act {
+    /// An equal act.
+    pub fn copy(&self, alloc: Global) -> Result<Act, NoMemory>
+        ensures { IfOk result (λ copy. copy ≡ self.now) }
+    {
+        match self {
+            Act::Add(value) => Ok(Act::Add(value.copy(alloc)?)),
+            Act::Rmv(value) => Ok(Act::Rmv(value.copy(alloc)?)),
+            Act::Clear => Ok(Act::Clear),
+            Act::Enable => Ok(Act::Enable),
+            Act::Disable => Ok(Act::Disable),
+            Act::Write(value) => Ok(Act::Write(value.copy(alloc)?)),
+            Act::Inc(amount) => Ok(Act::Inc(*amount)),
+            Act::Dec(amount) => Ok(Act::Dec(*amount)),
+        }
+    }
+}
+
+impl Update {
+    ghost use Rattle.op_base.specs.Reading.{update_of};
+
+    /// An update of an object. The pair comes back exactly where the object's kind has no such act.
+    pub fn new(object: ObjectId, act: Act) -> Result<Update, (ObjectId, Act)>
+        ensures exact { is_ok result ≡ has_act object.kind act }
+        ensures object { IfOk result (λ update. update.object ≡ object) }
+        ensures act { IfOk result (λ update. update.act ≡ act) }
+        ensures update { IfOk result (λ update. update_of object act ≡ Some update) }
+        ensures none { IfErr result (λ pair. update_of object act ≡ None) }
+        ensures returned { IfErr result (λ pair. pair ≡ (object, act)) }
+    {
+        if act_code(object.kind, &act).is_some() {
+            Ok(Update { object, act })
+        } else {
+            Err((object, act))
+        }
+    }
+
+    /// The object that is changed.
+    pub fn object(&self) -> &ObjectId
+        ensures { result.now ≡ self.now.object }
+    {
+        &self.object
+    }
+
+    /// What is done to it.
+    pub fn act(&self) -> &Act
+        ensures { result.now ≡ self.now.act }
+    {
+        &self.act
+    }
+
+    /// An equal update.
+    pub fn copy(&self, alloc: Global) -> Result<Update, NoMemory>
+        ensures { IfOk result (λ copy. copy ≡ self.now) }
+    {
+        Ok(Update {
+            object: self.object.copy(alloc)?,
+            act: self.act.copy(alloc)?,
+        })
+    }
+}
+
+impl Op {
+    ghost use Rattle.op_base.specs.Code.{op_code};
+
+    /// The code of the operation, 0 to 19.
+    pub fn code(&self) -> u8
+        ensures { result ≡ op_code self.now }
+    {
+        match self {
+            Op::NoOp => 0,
+            Op::Update(update) => act_code(update.object.kind, &update.act).unwrap_or(0),
+        }
+    }
+
+    /// An equal operation.
+    pub fn copy(&self, alloc: Global) -> Result<Op, NoMemory>
+        ensures { IfOk result (λ copy. copy ≡ self.now) }
+    {
+        match self {
+            Op::NoOp => Ok(Op::NoOp),
+            Op::Update(update) => Ok(Op::Update(update.copy(alloc)?)),
+        }
+    }
+}

@@ -1,0 +1,116 @@
+//! Timestamps: one number a member, as a textbook vector clock has it.
+
+ghost use Rattle.std.specs.Prelude.{◌≡◌, ◌≤◌, ◌<◌, ◌^◌, ◌↔◌, length, slice_set, IsTrue};
+ghost use Rattle.op_base.specs.Timestamp.{entry, zero_tag, join, at_most, covers};
+ghost use Rattle.op_base.specs.declared.tag.TheConstants.{MOST_MEMBERS};
+
+use std::marker::Model;
+
+/// A store has at most so many members.
+pub const MOST_MEMBERS: usize = 16;
+
+/// A timestamp of 1 to 16 numbers, one a member. Contracts see the list of them.
+#[derive(Clone, Copy, Debug, PartialEq, Eq)]
+pub struct Tag {
+    n: u8,
+    parts: [u32; 16],
+}
+
+impl Model for Tag {
+    ghost use Rattle.std.specs.Prelude.{ℕ, List};
+
+    ghost Value = { List ℕ };
+
+    ghost use Rattle.op_base.specs.TagFields.{IsPadded, numbers_of, padded, padded-numbers_of};
+
+    ghost view = { numbers_of };
+
+    ghost invariant = { IsPadded };
+
+    ghost inverse = { padded };
+
+    ghost inverse_ok = { padded-numbers_of };
+}
+
+/// The id of a message: its origin and its number. It is printed `origin:number`.
+#[derive(Clone, Copy, Debug, PartialEq, Eq, PartialOrd, Ord, Hash)]
+pub struct MessageId {
+    /// The member that sent it.
+    pub origin: u8,
+    /// How many messages the member had sent with it, from 1.
+    pub seq: u32,
+}
+
+impl Tag {
+    /// The timestamp of so many members before anything was sent: all zeros.
+    pub fn zero(n: u8) -> Tag
+        requires some { 1 ≤ n }
+        requires few { n ≤ MOST_MEMBERS }
+        ensures { result ≡ zero_tag n }
+    {
+        Tag { n, parts: [0; 16] }
+    }
+
+    /// How many members it is of, 1 to 16.
+    pub fn members(&self) -> u8
+        ensures members { result ≡ length self.now }
+        ensures some { 1 ≤ result }
+        ensures few { result ≤ MOST_MEMBERS }
+    {
+        self.n
+    }
+
+    /// The number at a member.
+    pub fn at(&self, x: u8) -> u32
+        requires { x < length self.now }
+        ensures { result ≡ entry self.now x }
+    {
+        self.parts[x as usize]
+    }
+
+    /// Sets the number at a member.
+    pub fn set(&mut self, x: u8, v: u32)
+        requires { x < length self.old }
+        ensures { self.new ≡ slice_set self.old x v }
+    {
+        self.parts[x as usize] = v;
+    }
+
+    /// The greater of each two numbers.
+    pub fn join(&self, other: &Tag) -> Tag
+        requires { length self.now ≡ length other.now }
+        ensures { result ≡ join self.now other.now }
+    {
+        let mut joined = *self;
+        for x in 0..self.members() {
+            joined.set(x, self.at(x).max(other.at(x)));
+        }
+        joined
+    }
+
+    /// Whether no number is above the other timestamp's.
+    pub fn at_most(&self, other: &Tag) -> bool
+        requires { length self.now ≡ length other.now }
+        ensures { result ≡ at_most self.now other.now }
+    {
+        self.numbers()
+            .iter()
+            .zip(other.numbers())
+            .all(|(a, b)| a <= b)
+    }
+
+    /// The numbers, members upwards.
+    fn numbers(&self) -> &[u32]
+        ensures { result.now ≡ self.now }
+    {
+        &self.parts[..self.n as usize]
+    }
+
+    /// Whether the number at the id's origin is at least the id's.
+    pub fn covers_id(&self, id: MessageId) -> bool
+        requires { id.origin < length self.now }
+        ensures { result ≡ covers self.now id }
+    {
+        self.at(id.origin) >= id.seq
+    }
+}
