@@ -1,0 +1,43 @@
+//! A count of faults that no machine's number bounds, since contracts alone read it.
+//!
+//! A sink whose room is used up fails at every write, for as long as it is written to. With a
+//! number of a fixed size it would have no answer left once its faults reach the largest: it can
+//! take no byte, and a failure has to raise the count. So the count stands in a ghost field. The
+//! two functions that set it are proved by hand, and no other code can change it.
+
+ghost use Rattle.std.specs.Prelude.{◌≡◌, ◌+◌, ℕ};
+ghost use Rattle.std.specs.Borrow.{ftrue};
+
+use std::marker::{Model, Send, Sync};
+
+/// How often something has failed. It takes no bytes, and only `one_more` raises it.
+#[derive(Drop)]
+pub struct FaultCount {
+    seal: (),
+    pub ghost faults: { ℕ },
+}
+
+impl Model for FaultCount {
+    ghost also_owns = { λ _. ftrue };
+}
+
+// A struct with `also_owns` has neither by itself. This one owns nothing.
+unsafe impl Send for FaultCount {}
+
+unsafe impl Sync for FaultCount {}
+
+impl FaultCount {
+    /// No fault yet.
+    pub fn none() -> FaultCount
+        ensures { result.faults ≡ 0 }
+    {
+        FaultCount { seal: () }
+    }
+
+    /// The count after one fault more.
+    pub fn one_more(&self) -> FaultCount
+        ensures { result.faults ≡ self.now.faults + 1 }
+    {
+        FaultCount { seal: () }
+    }
+}

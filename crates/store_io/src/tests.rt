@@ -1,0 +1,202 @@
+//! What no clause says: that the definitions of the clauses are those that were meant, and what
+//! passes the edge.
+use super::*;
+use std::alloc::Allocator;
+use std::fmt::Display;
+use std::io;
+use std::io::{BufRead, ErrorKind, Input, Lines, Print, Read};
+use std::test::Fail;
+
+const FAILED: Result<usize, Failed> = Err(Failed);
+
+#[test]
+fn a_memory_source_gives_pieces_and_fails_where_told(rt: HostRuntime) -> Result<(), Fail> {
+    let alloc = rt.alloc();
+    // Seven bytes and a buffer of four.
+    let cases: [(usize, &[u32], &[Result<usize, Failed>]); 7] = [
+        (
+            1,
+            &[],
+            &[
+                Ok(1),
+                Ok(1),
+                Ok(1),
+                Ok(1),
+                Ok(1),
+                Ok(1),
+                Ok(1),
+                Ok(0),
+                Ok(0),
+            ],
+        ),
+        (3, &[], &[Ok(3), Ok(3), Ok(1), Ok(0)]),
+        (9, &[], &[Ok(4), Ok(3), Ok(0)]),
+        (3, &[1], &[FAILED, Ok(3), Ok(3), Ok(1), Ok(0)]),
+        (9, &[2], &[Ok(4), FAILED, Ok(3), Ok(0)]),
+        (
+            3,
+            &[4, 1, 2],
+            &[FAILED, FAILED, Ok(3), FAILED, Ok(3), Ok(1), Ok(0)],
+        ),
+        (9, &[3, 3], &[Ok(4), Ok(3), FAILED, Ok(0)]),
+    ];
+    for (piece, failing, answers) in cases {
+        assert!(rt; piece >= 1);
+        let bytes = b"abcdefg".to_vec(alloc)?;
+        let mut source = MemorySource::new(bytes, piece, failing.to_vec(alloc)?);
+        let mut given = Vec::new(alloc);
+        for answer in answers {
+            let mut buf = [0; 4];
+            let read = source.read(&mut buf);
+            assert_eq!(rt; read, *answer, "piece {piece}, failing {failing:?}");
+            if let Ok(count) = read {
+                assert!(rt; count <= 4);
+                given.extend_from_slice(&buf[..count])?;
+            }
+        }
+        assert_eq!(rt; given.as_slice(), b"abcdefg".as_slice());
+    }
+    Ok(())
+}
+
+#[test]
+fn a_memory_sink_takes_pieces_until_its_room_is_used(rt: HostRuntime) -> Result<(), Fail> {
+    let alloc = rt.alloc();
+    // Each write is of three bytes, and there is room for five.
+    let cases: [(usize, &[u32], &[Result<usize, Failed>], &[u8]); 6] = [
+        (1, &[], &[Ok(1), Ok(1), Ok(1)], b"aaa"),
+        (2, &[], &[Ok(2), Ok(2), Ok(1), FAILED, FAILED], b"ababa"),
+        (4, &[], &[Ok(3), Ok(2), FAILED], b"abcab"),
+        (2, &[1], &[FAILED, Ok(2), Ok(2), Ok(1), FAILED], b"ababa"),
+        (1, &[2, 4], &[Ok(1), FAILED, Ok(1), FAILED, Ok(1)], b"aaa"),
+        (
+            2,
+            &[3, 4],
+            &[Ok(2), Ok(2), FAILED, FAILED, Ok(1), FAILED],
+            b"ababa",
+        ),
+    ];
+    for (piece, failing, answers, held) in cases {
+        assert!(rt; piece >= 1);
+        let mut sink = MemorySink::create(alloc, 5, piece, failing.to_vec(alloc)?)?;
+        for answer in answers {
+            assert_eq!(rt;
+                sink.write(b"abc"),
+                *answer,
+                "piece {piece}, failing {failing:?}"
+            );
+        }
+        assert_eq!(rt; sink.bytes(), held);
+    }
+    Ok(())
+}
+
+#[test]
+fn a_whole_write_that_fails_leaves_a_prefix(rt: HostRuntime) -> Result<(), Fail> {
+    let alloc = rt.alloc();
+    let mut sink = MemorySink::create(alloc, 8, 2, [3].to_vec(alloc)?)?;
+    assert_eq!(rt; write_whole(&mut sink, b"abcdefg"), Err(Failed));
+    assert_eq!(rt; sink.bytes(), b"abcd".as_slice());
+    assert_eq!(rt; write_whole(&mut sink, b""), Ok(()));
+    assert_eq!(rt; write_whole(&mut sink, b"xyz"), Ok(()));
+    assert_eq!(rt; sink.bytes(), b"abcdxyz".as_slice());
+    assert_eq!(rt; write_whole(&mut sink, b"uv"), Err(Failed));
+    assert_eq!(rt; sink.bytes(), b"abcdxyzu".as_slice());
+    Ok(())
+}
+
+#[test]
+fn a_steady_source_gives_what_fits(rt: HostRuntime) -> Result<(), Fail> {
+    let mut source = SteadySource::new(b"abcde".to_vec(rt.alloc())?);
+    let mut buf = [0; 3];
+    assert_eq!(rt; source.read(&mut buf), Ok(3));
+    assert_eq!(rt; buf, *b"abc");
+    assert_eq!(rt; source.read(&mut buf), Ok(2));
+    assert_eq!(rt; buf, *b"dec");
+    assert_eq!(rt; source.read(&mut buf), Ok(0));
+    Ok(())
+}
+
+/// A runtime whose input has `a`, then a fault and then the end. Its output refuses three bytes,
+/// takes nothing of two, and takes one.
+struct Edge;
+
+#[derive(Drop)]
+struct EdgeReader {
+    calls: u8,
+}
+
+impl Read for EdgeReader {
+    fn read(&mut self, buf: &mut [u8]) -> io::Result<usize> {
+        self.calls = self.calls.saturating_add(1);
+        match (self.calls, buf) {
+            (1, [first, ..]) => {
+                *first = b'a';
+                Ok(1)
+            }
+            (2, _) => Err(io::Error::from(ErrorKind::Other)),
+            _ => Ok(0),
+        }
+    }
+}
+
+impl BufRead for EdgeReader {
+    fn fill_buf(&mut self) -> io::Result<&[u8]> {
+        Ok(&[])
+    }
+
+    fn consume(&mut self, _amount: usize) {}
+}
+
+impl Input for Edge {
+    type Reader = EdgeReader;
+
+    fn read_line<A: Allocator + Clone>(&self, _buf: &mut String<A>) -> io::Result<usize> {
+        Ok(0)
+    }
+
+    fn lines<A: Allocator>(&self, alloc: A) -> Lines<EdgeReader, A> {
+        self.reader().lines(alloc)
+    }
+
+    fn reader(&self) -> EdgeReader {
+        EdgeReader { calls: 0 }
+    }
+}
+
+impl Print for Edge {
+    fn print<D: Display + Drop>(&self, _value: D) -> io::Result<()> {
+        Ok(())
+    }
+
+    fn println<D: Display + Drop>(&self, _value: D) -> io::Result<()> {
+        Ok(())
+    }
+
+    fn write_all(&self, _bytes: &[u8]) -> io::Result<()> {
+        Ok(())
+    }
+
+    fn write_some(&self, bytes: &[u8]) -> io::Result<usize> {
+        match bytes.len() {
+            1 => Ok(1),
+            2 => Ok(0),
+            _ => Err(io::Error::from(ErrorKind::BrokenPipe)),
+        }
+    }
+}
+
+#[test]
+fn the_standard_streams_pass_on_counts_and_faults(rt: HostRuntime) {
+    let mut source = StdinSource::new(&Edge);
+    let mut buf = [0; 2];
+    assert_eq!(rt; source.read(&mut buf), Ok(1));
+    assert_eq!(rt; buf, *b"a\0");
+    assert_eq!(rt; source.read(&mut buf), FAILED);
+    assert_eq!(rt; source.read(&mut buf), Ok(0));
+
+    let mut sink = StdoutSink::new(&Edge);
+    assert_eq!(rt; sink.write(b"abc"), FAILED);
+    assert_eq!(rt; sink.write(b"ab"), FAILED);
+    assert_eq!(rt; sink.write(b"a"), Ok(1));
+}
