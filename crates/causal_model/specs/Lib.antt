@@ -1,0 +1,10 @@
+pub mod History
+pub mod Stability
+pub mod Query
+pub mod Sending
+pub mod Laws
+pub use Rattle.op_base.specs.Message
+pub use Rattle.op_base.specs.Timestamp
+pub use Rattle.op_base.specs.Name
+pub use Rattle.op_base.specs.Object
+pub use Rattle.op_base.specs.Operation
