@@ -1,0 +1,9 @@
+pub mod Numbers
+pub mod Standing
+pub mod Rules
+pub use Rattle.causal_model.specs.History
+pub use Rattle.causal_model.specs.Stability
+pub use Rattle.causal_model.specs.Sending
+pub use Rattle.causal_model.specs.Query
+pub use Rattle.op_base.specs.Message
+pub use Rattle.op_base.specs.Object

@@ -1,0 +1,25 @@
+//! What the calls of a replica answer.
+
+use op_base::Message;
+
+/// Why a replica wasn't made.
+#[derive(Clone, Copy, Debug, PartialEq, Eq)]
+pub enum CreateFault {
+    /// A number is out of its range: 1 to 16 members (for now 1), a window of 1 to 64, a limit of 1 to 65535, a
+    /// member below the number of members.
+    BadNumbers,
+    NoMemory,
+}
+
+/// What comes of sending an operation.
+#[derive(Debug, PartialEq, Eq, Drop)]
+pub enum Local {
+    /// The message that was sent.
+    Sent(Message),
+    /// As many own operations are unstable as the window has. Nothing was sent.
+    Busy,
+    /// The member has sent all the messages that it may. Nothing was sent.
+    End,
+    /// There is no memory. Nothing was sent.
+    NoMemory,
+}

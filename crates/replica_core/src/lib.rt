@@ -1,0 +1,10 @@
+//! One replica: it sends operations of its own, and answers queries from the messages that it has.
+//!
+//! Its contracts speak of every history that its fields stand for, in the words of `causal_model`.
+#![tactic(auto)]
+
+mod answers;
+mod replica;
+
+pub use answers::{CreateFault, Local};
+pub use replica::Replica;
