@@ -1,0 +1,158 @@
+-- What a call of the program answers, from what it read and made of that.
+use Rattle.std.proofs.Common.{◌≡◌, ◌⊎◌, ℕ, ◌<◌, ◌≤◌, Bool, true, false, cond, ◌==◌, nat_lt, List, [], ◌++◌, length, take_all, Option, Some, None, inl, inr, sym, ap, subst, refl, ◌∙◌, arith, length-append}
+use Rattle.std.specs.Option.{option_map}
+use Rattle.std.proofs.lemmas.Bool.{false≢true}
+use Rattle.std.proofs.lemmas.Bool.Decides.{nat_tests}
+use Rattle.std.proofs.lemmas.List.{append-nil, append_cancel_right}
+use Rattle.store_io.specs.Bytes.{Gave, Ended, Took}
+use Rattle.store_program.specs.declared.read.Ending.{Ending}
+use Rattle.store_program.specs.declared.read.Ending.TheVariants.{End, TooLong, Failed}
+use Rattle.store_program.specs.declared.run.Status.{Status}
+use Rattle.store_program.specs.declared.run.Status.TheVariants as status
+use Rattle.store_program.specs.Lines.{lines_of, from_command}
+use Rattle.store_program.specs.Transcript.{transcript}
+use Rattle.store_program.specs.Run.{Verdict, headless, too_long, broken, runs, verdict, most_input, lacks_header, begins_badly, has_ended, Answers, WritesScript, Gives}
+use Rattle.store_program.specs.Reading.{EndsAs}
+use Rattle.store_program.specs.Judging.{is_unbroken, RunsInput}
+
+abbrev some_list : List ℕ → Option (List ℕ)
+some_list xs = Some xs
+
+some_same : (xs ys : List ℕ) → some_list xs ≡ some_list ys → xs ≡ ys
+some_same xs ys e = cc
+
+abbrev by_tests : Bool → Bool → Bool → Verdict
+by_tests bad long unbroken = cond bad headless (cond long too_long (cond unbroken runs broken))
+
+-- the bytes that were given are the ones that the source had more before
+given_is : (before after : Option (List ℕ)) (given rest found : List ℕ) → Gave before after found → Gives before after given rest → found ≡ given
+given_is before after given rest found gave gives =
+    let e : some_list (found ++ rest) ≡ some_list (given ++ rest) = ap (option_map (λ r. found ++ r)) (sym gives.after) ∙ sym gave ∙ gives.before in
+    append_cancel_right found given rest (some_same (found ++ rest) (given ++ rest) e)
+
+-- no call failed exactly where the count of faults is as before
+unbroken_is : (ending : Ending) (count : ℕ) (left : Option (List ℕ)) (before after : ℕ) → EndsAs ending count left before after → (before == after) ≡ is_unbroken ending
+unbroken_is End count left before after h = grind (arith, nat_tests, h.2)
+unbroken_is TooLong count left before after h = grind (arith, nat_tests, h.1)
+unbroken_is Failed count left before after h = grind (arith, nat_tests, h.1)
+
+-- the verdict that each status but a want of memory belongs to
+no_bad_words : (v : Verdict) (given : List ℕ) (old new : Option (List ℕ)) → Answers v given status.BadWords old new → ⊥
+no_bad_words headless given old new h = elim h.0 [ inl e ↦ cc | inr e ↦ cc ]
+no_bad_words too_long given old new h = elim h.0 [ inl e ↦ cc | inr e ↦ cc ]
+no_bad_words broken given old new h = elim h.0 [ inl e ↦ cc | inr e ↦ cc ]
+no_bad_words runs given old new h = h
+
+fine_runs : (v : Verdict) (given : List ℕ) (old new : Option (List ℕ)) → Answers v given status.Fine old new → v ≡ runs
+fine_runs headless given old new h = elim h.0 [ inl e ↦ cc | inr e ↦ cc ]
+fine_runs too_long given old new h = elim h.0 [ inl e ↦ cc | inr e ↦ cc ]
+fine_runs broken given old new h = elim h.0 [ inl e ↦ cc | inr e ↦ cc ]
+fine_runs runs given old new h = refl
+
+read_fault_breaks : (v : Verdict) (given : List ℕ) (old new : Option (List ℕ)) → Answers v given status.ReadFault old new → v ≡ broken
+read_fault_breaks headless given old new h = elim h.0 [ inl e ↦ cc | inr e ↦ cc ]
+read_fault_breaks too_long given old new h = elim h.0 [ inl e ↦ cc | inr e ↦ cc ]
+read_fault_breaks broken given old new h = refl
+read_fault_breaks runs given old new h = absurd h
+
+-- by which tests a verdict comes
+runs_by : (bad long unbroken : Bool) → by_tests bad long unbroken ≡ runs → (long ≡ false) × (unbroken ≡ true)
+runs_by true long unbroken e = absurd cc
+runs_by false true unbroken e = absurd cc
+runs_by false false true e = (refl, refl)
+runs_by false false false e = absurd cc
+
+breaks_by : (bad long unbroken : Bool) → by_tests bad long unbroken ≡ broken → unbroken ≡ false
+breaks_by true long unbroken e = absurd cc
+breaks_by false true unbroken e = absurd cc
+breaks_by false false true e = absurd cc
+breaks_by false false false e = refl
+
+-- a source that ended gave no byte too many
+ended_where : (ending : Ending) (count : ℕ) (left : Option (List ℕ)) (before after : ℕ) → EndsAs ending count left before after
+    → nat_lt most_input count ≡ false → is_unbroken ending ≡ true → Ended left
+ended_where End count left before after ends short unbroken = ends.1
+ended_where TooLong count left before after ends short unbroken = absurd (false≢true (sym short ∙ grind (arith, nat_tests, ends.0)))
+ended_where Failed count left before after ends short unbroken = absurd (false≢true unbroken)
+
+failed_where : (ending : Ending) (count : ℕ) (left : Option (List ℕ)) (before after : ℕ) → EndsAs ending count left before after
+    → is_unbroken ending ≡ false → before < after
+failed_where End count left before after ends broke = absurd (false≢true (sym broke))
+failed_where TooLong count left before after ends broke = absurd (false≢true (sym broke))
+failed_where Failed count left before after ends broke = ends.1
+
+-- what was written where a script is run is its transcript, unless memory ran out or the sink failed
+script_written : (given : List ℕ) (r : Status) (old new : Option (List ℕ)) → WritesScript given r old new → (r ≡ status.WriteFault → ⊥)
+    → (r ≡ status.NoMemory) ⊎ ((r ≡ status.Fine) × Took old new (transcript given))
+script_written given status.Fine old new h unfailed = inr (refl, h)
+script_written given status.WriteFault old new h unfailed = absurd (unfailed refl)
+script_written given status.NoMemory old new h unfailed = inl refl
+script_written given status.BadWords old new h unfailed = absurd h
+script_written given status.BadHeader old new h unfailed = absurd h
+script_written given status.TooLong old new h unfailed = absurd h
+script_written given status.ReadFault old new h unfailed = absurd h
+
+-- reading that no call failed in, of an input that isn't too long, came to its end
+ends_all : (ending : Ending) (count : ℕ) (left : Option (List ℕ)) (before after : ℕ) → EndsAs ending count left before after
+    → after ≡ before → count ≤ most_input → Ended left
+ends_all End count left before after ends steady few = ends.1
+ends_all TooLong count left before after ends steady few = absurd (omega (arith, ends.0))
+ends_all Failed count left before after ends steady few = absurd (omega (arith, ends.1))
+
+split_left : (given input : List ℕ) (left : Option (List ℕ)) → Some input ≡ option_map (λ rest. given ++ rest) left
+    → (rest : List ℕ) × (left ≡ Some rest) × (input ≡ given ++ rest)
+split_left given input None e = absurd cc
+split_left given input (Some rest) e = (rest, refl, some_same input (given ++ rest) e)
+
+-- an input with a header that isn't too long is run
+good_runs : (input : List ℕ) → length input ≤ most_input → lacks_header true (from_command (lines_of input)) ≡ false → verdict true input ≡ runs
+good_runs input short good =
+    let ended : has_ended true input ≡ true = grind (arith, nat_tests) in
+    let long : nat_lt most_input (length input) ≡ false = grind (arith, nat_tests) in
+    let bad : begins_badly (has_ended true input) input ≡ false
+    = ap (λ (e : Bool). begins_badly e input) ended ∙ ap (λ (bytes : List ℕ). lacks_header true (from_command (lines_of bytes))) (take_all most_input input short) ∙ good in
+    λ i. by_tests (bad i) (long i) true
+
+-- where memory ran out and nothing was written, that answers each verdict
+pub no_memory_answers : (v : Verdict) (given : List ℕ) (old new : Option (List ℕ)) → new ≡ old → Answers v given status.NoMemory old new
+no_memory_answers headless given old new same = (inr refl, same)
+no_memory_answers too_long given old new same = (inr refl, same)
+no_memory_answers broken given old new same = (inr refl, same)
+no_memory_answers runs given old new same = same
+
+module _ (left_before left_after : Option (List ℕ)) (before after : ℕ) (old new : Option (List ℕ)) (r : Status)
+    (ran : RunsInput left_before left_after before after old new r) where
+  pub words_were_good : r ≡ status.BadWords → ⊥
+  words_were_good e = no_bad_words _ ran.given old new (subst (λ (s : Status). Answers (verdict (is_unbroken ran.ending) ran.given) ran.given s old new) e ran.answers)
+
+  pub answers_given : (given rest : List ℕ) → Gives left_before left_after given rest → Answers (verdict (before == after) given) given r old new
+  answers_given given rest gives =
+      subst (λ (unbroken : Bool). Answers (verdict unbroken given) given r old new) (sym (unbroken_is ran.ending _ left_after before after ran.ends))
+      (subst (λ (bytes : List ℕ). Answers (verdict (is_unbroken ran.ending) bytes) bytes r old new) (given_is left_before left_after given rest ran.given ran.gave gives) ran.answers)
+
+  pub fine_ended : r ≡ status.Fine → Ended left_after
+  fine_ended e =
+      let ran_to : verdict (is_unbroken ran.ending) ran.given ≡ runs = fine_runs _ ran.given old new (subst (λ (s : Status). Answers (verdict (is_unbroken ran.ending) ran.given) ran.given s old new) e ran.answers) in
+      let tests = runs_by (begins_badly (has_ended (is_unbroken ran.ending) ran.given) ran.given) (nat_lt most_input (length ran.given)) (is_unbroken ran.ending) ran_to in
+      ended_where ran.ending (length ran.given) left_after before after ran.ends tests.0 tests.1
+
+  pub read_failed : r ≡ status.ReadFault → before < after
+  read_failed e =
+      let broke : verdict (is_unbroken ran.ending) ran.given ≡ broken = read_fault_breaks _ ran.given old new (subst (λ (s : Status). Answers (verdict (is_unbroken ran.ending) ran.given) ran.given s old new) e ran.answers) in
+      failed_where ran.ending (length ran.given) left_after before after ran.ends
+      (breaks_by (begins_badly (has_ended (is_unbroken ran.ending) ran.given) ran.given) (nat_lt most_input (length ran.given)) (is_unbroken ran.ending) broke)
+
+  -- a source that told its bytes has some left
+  left_is : (input : List ℕ) → left_before ≡ Some input → (rest : List ℕ) × (left_after ≡ Some rest) × (input ≡ ran.given ++ rest)
+  left_is input tells = split_left ran.given input left_after (sym tells ∙ ran.gave)
+
+  pub completes : (input : List ℕ) → left_before ≡ Some input → length input ≤ most_input → lacks_header true (from_command (lines_of input)) ≡ false
+      → after ≡ before → (r ≡ status.WriteFault → ⊥) → (r ≡ status.NoMemory) ⊎ ((r ≡ status.Fine) × Took old new (transcript input))
+  completes input tells short good steady unfailed =
+      let left = left_is input tells in
+      let few : length ran.given ≤ most_input = omega (arith, ap length left.2, length-append ran.given left.0) in
+      let over : left.0 ≡ [] = subst (λ (l : Option (List ℕ)). Ended l) left.1 (ends_all ran.ending (length ran.given) left_after before after ran.ends steady few) in
+      let gives : Gives left_before left_after input [] = record { before = tells ∙ ap some_list (sym (append-nil input)); after = left.1 ∙ ap some_list over } in
+      let same : (before == after) ≡ true = grind (arith, nat_tests, steady) in
+      let runs_it : verdict (before == after) input ≡ runs = ap (λ (unbroken : Bool). verdict unbroken input) same ∙ good_runs input short good in
+      script_written input r old new (subst (λ (v : Verdict). Answers v input r old new) runs_it (answers_given input [] gives)) unfailed

@@ -1,0 +1,266 @@
+//! Runs over memory: whole scripts, faults of source and sink, and inputs at their limits.
+
+ghost use Rattle.std.specs.Prelude.{◌≤◌};
+
+use crate::read::MOST_INPUT;
+use crate::run::{Status, run};
+use std::alloc::{AllocError, Global};
+use std::test::Fail;
+use store_io::{MemorySink, MemorySource, OpenGate};
+
+const FIRST: &[u8] = b"store 1 1\ndo 0 counter:a inc 5\nask 0 counter:a\n";
+
+/// A source and a sink: how many bytes a call of each moves at most, and which calls of each fail.
+#[derive(Clone, Copy)]
+struct Streams<'a> {
+    read: usize,
+    failing_reads: &'a [u32],
+    write: usize,
+    failing_writes: &'a [u32],
+    ghost read_some: { 1 ≤ read },
+    ghost write_some: { 1 ≤ write },
+}
+
+const WHOLE: Streams<'static> = Streams {
+    read: 65536,
+    failing_reads: &[],
+    write: 65536,
+    failing_writes: &[],
+};
+
+/// Runs words over an input, and gives the status and what was written.
+fn outcome(
+    rt: &HostRuntime,
+    words: &[&str],
+    input: &[u8],
+    streams: Streams<'_>,
+) -> Result<(Status, Vec<u8>), AllocError> {
+    let alloc = rt.alloc();
+    let mut texts = Vec::new(alloc);
+    for word in words {
+        texts.push(String::from_str(alloc, word)?)?;
+    }
+    let mut source = MemorySource::new(
+        Vec::from_slice(alloc, input)?,
+        streams.read,
+        Vec::from_slice(alloc, streams.failing_reads)?,
+    );
+    let Ok(mut sink) = MemorySink::create(
+        alloc,
+        65536,
+        streams.write,
+        Vec::from_slice(alloc, streams.failing_writes)?,
+    ) else {
+        return Err(AllocError);
+    };
+    let status = run(
+        rt,
+        alloc,
+        texts.as_slice(),
+        &mut source,
+        &mut sink,
+        &OpenGate,
+    );
+    Ok((status, Vec::from_slice(alloc, sink.bytes())?))
+}
+
+/// Runs a script, and gives the status and what was written.
+fn script(rt: &HostRuntime, input: &[u8]) -> Result<(Status, Vec<u8>), AllocError> {
+    outcome(rt, &["store_program", "script"], input, WHOLE)
+}
+
+#[test]
+fn scripts_give_their_transcripts(rt: HostRuntime) -> Result<(), Fail> {
+    let cases: [(&[u8], Status, &[u8]); 25] = [
+        (FIRST, Status::Fine, b"ok 1\n= 5\n"),
+        // Headers.
+        (b"", Status::BadHeader, b""),
+        (b"\n# no command\n \t \r\n", Status::BadHeader, b""),
+        (b"store 17 1\n", Status::BadHeader, b""),
+        (b"store 2 2 70000\n", Status::BadHeader, b""),
+        (b"store 2 1\n", Status::BadHeader, b""),
+        (b"store 1 0\n", Status::BadHeader, b""),
+        (b"store 1 65\n", Status::BadHeader, b""),
+        (b"store 1 1 0\n", Status::BadHeader, b""),
+        (b"store 1 1 65536\n", Status::BadHeader, b""),
+        (b"store 1\n", Status::BadHeader, b""),
+        (b"store 1 1 1 1\n", Status::BadHeader, b""),
+        (b"stores 1 1\n", Status::BadHeader, b""),
+        (b"do 0 counter:a inc 5\nstore 1 1\n", Status::BadHeader, b""),
+        (b"store 1 1", Status::Fine, b""),
+        (b"store 1 64 65535", Status::Fine, b""),
+        // The end of a member's messages.
+        (
+            b"store 1 1 3\ndo 0 counter:c inc 1\ndo 0 counter:c inc 1\ndo 0 counter:c inc 1\ndo 0 counter:c inc 1\nask 0 counter:c\n",
+            Status::Fine,
+            b"ok 1\nok 2\nok 3\nend\n= 3\n",
+        ),
+        // Blanks, tabs, carriage returns, comments, no newline at the end, leading zeros.
+        (
+            b" \t# first\r\n  store\t01  0001 \r\n\tdo  0\tcounter:a inc 0000000007 \r\n#ask 0 counter:a\n   \n ask 00 counter:a\r",
+            Status::Fine,
+            b"ok 1\n= 7\n",
+        ),
+        // The greatest amount, one above it, and eleven digits.
+        (
+            b"store 1 1\ndo 0 counter:a inc 4294967295\ndo 0 counter:a inc 4294967296\ndo 0 counter:a dec 00000000001\nask 0 counter:a\n",
+            Status::Fine,
+            b"ok 1\nbad 9\nbad 9\n= 4294967295\n",
+        ),
+        // Sums below 0, and counters apart.
+        (
+            b"store 1 2\ndo 0 counter:a dec 4294967295\ndo 0 counter:a dec 4294967295\ndo 0 counter:b inc 1\nask 0 counter:a\nask 0 counter:b\nask 0 counter:c\n",
+            Status::Fine,
+            b"ok 1\nok 2\nok 3\n= -8589934590\n= 1\n= 0\n",
+        ),
+        // What is no command, or not built.
+        (
+            b"store 1 1\nfrob\ndo 0\ndo 1 counter:a inc 1\ndo x counter:a inc 1\ndo 0 counter: inc 1\ndo 0 counter:A inc 1\ndo 0 set:a inc 1\ndo 0 rcounter:a inc 1\n",
+            Status::Fine,
+            b"bad 9\nbad 9\nbad 9\nbad 9\nbad 9\nbad 9\nbad 9\nbad 9\n",
+        ),
+        (
+            b"store 1 1\ndo 0 counter:a add x\ndo 0 counter:a inc\ndo 0 counter:a inc x\ndo 0 counter:a inc 1 1\nask 0\nask 0 counter:a b\nstore 1 1\n",
+            Status::Fine,
+            b"bad 9\nbad 9\nbad 9\nbad 9\nbad 9\nbad 9\nbad 9\n",
+        ),
+        // Keys of 32 and of 33 bytes.
+        (
+            b"store 1 1\ndo 0 counter:abcdefghijklmnopqrstuvwxyz_0.9-x inc 1\ndo 0 counter:abcdefghijklmnopqrstuvwxyz_0.9-xy inc 1\n",
+            Status::Fine,
+            b"ok 1\nbad 9\n",
+        ),
+        // A header after comments, and a second one that is no command.
+        (
+            b"# a\n\n# b\nstore 1 1 5\nask 0 counter:a",
+            Status::Fine,
+            b"= 0\n",
+        ),
+        (b"store 1 1 # x\n", Status::BadHeader, b""),
+    ];
+    for (input, status, text) in cases {
+        let (found, written) = script(&rt, input)?;
+        assert_eq!(rt; found, status, "at {input:?}");
+        assert_eq!(rt; written.as_slice(), text, "at {input:?}");
+    }
+    Ok(())
+}
+
+#[test]
+fn only_the_words_of_a_script_are_taken(rt: HostRuntime) -> Result<(), Fail> {
+    let cases: [&[&str]; 6] = [
+        &[],
+        &["store_program"],
+        &["store_program", "frob"],
+        &["store_program", "scripts"],
+        &["store_program", "script", "script"],
+        &["script", ""],
+    ];
+    for words in cases {
+        let (status, written) = outcome(&rt, words, FIRST, WHOLE)?;
+        assert_eq!(rt; status, Status::BadWords);
+        assert!(rt; written.is_empty());
+    }
+    Ok(())
+}
+
+#[test]
+fn pieces_change_nothing_and_faults_are_told(rt: HostRuntime) -> Result<(), Fail> {
+    let words = ["store_program", "script"];
+    let none: &[u32] = &[];
+    let first: &[u32] = &[1];
+    let third: &[u32] = &[3];
+    let cases: [(usize, &[u32], usize, &[u32], Status, &[u8]); 9] = [
+        (1, none, 1, none, Status::Fine, b"ok 1\n= 5\n"),
+        (7, none, 2, none, Status::Fine, b"ok 1\n= 5\n"),
+        (1, none, 65536, none, Status::Fine, b"ok 1\n= 5\n"),
+        (65536, first, 65536, none, Status::ReadFault, b""),
+        (7, third, 1, none, Status::ReadFault, b""),
+        (47, &[2], 1, none, Status::ReadFault, b""),
+        (65536, none, 65536, first, Status::WriteFault, b""),
+        (65536, none, 2, third, Status::WriteFault, b"ok 1"),
+        (7, none, 1, &[9], Status::WriteFault, b"ok 1\n= 5"),
+    ];
+    for (read, failing_reads, write, failing_writes, status, text) in cases {
+        assert!(rt; read >= 1 && write >= 1);
+        let streams = Streams {
+            read,
+            failing_reads,
+            write,
+            failing_writes,
+        };
+        let (found, written) = outcome(&rt, &words, FIRST, streams)?;
+        assert_eq!(rt; found, status);
+        assert_eq!(rt; written.as_slice(), text);
+    }
+    // A whole first line that is no header is told before a fault that comes after it.
+    let streams = Streams {
+        read: 5,
+        failing_reads: third,
+        write: 1,
+        failing_writes: none,
+    };
+    assert_eq!(rt;
+        outcome(&rt, &words, b"frob\nstore 1 1\n", streams)?.0,
+        Status::BadHeader
+    );
+    assert_eq!(rt;
+        outcome(&rt, &words, b"store 1 1\nask 0", streams)?.0,
+        Status::ReadFault
+    );
+    Ok(())
+}
+
+/// A header, newlines up to a length, and then more bytes.
+fn padded(alloc: Global, head: &[u8], len: usize, tail: &[u8]) -> Result<Vec<u8>, AllocError> {
+    let mut bytes = Vec::with_capacity(alloc, len)?;
+    bytes.extend_from_slice(head)?;
+    for _ in head.len()..len {
+        bytes.push(b'\n')?;
+    }
+    bytes.extend_from_slice(tail)?;
+    Ok(bytes)
+}
+
+#[test]
+fn an_input_has_at_most_4194304_bytes(rt: HostRuntime) -> Result<(), Fail> {
+    let cases: [(&[u8], &[u8], Status, &[u8]); 5] = [
+        (b"store 1 1\n", b"", Status::Fine, b""),
+        (b"store 1 1\n", b"\n", Status::TooLong, b""),
+        (
+            b"store 1 1\nask 0 counter:a\n",
+            b"\n\n\n",
+            Status::TooLong,
+            b"",
+        ),
+        (b"store 9 1\n", b"\n", Status::BadHeader, b""),
+        // The first command line ends only behind the last byte that may come.
+        (b"", b"store 9 1\n", Status::TooLong, b""),
+    ];
+    for (head, tail, status, text) in cases {
+        let input = padded(rt.alloc(), head, MOST_INPUT, tail)?;
+        let (found, written) = script(&rt, input.as_slice())?;
+        assert_eq!(rt; found, status);
+        assert_eq!(rt; written.as_slice(), text);
+    }
+    Ok(())
+}
+
+#[test]
+fn a_line_has_at_most_512_bytes(rt: HostRuntime) -> Result<(), Fail> {
+    let alloc = rt.alloc();
+    for (blanks, reply) in [
+        (492usize, b"ok 1\n".as_slice()),
+        (493, b"bad 9\n".as_slice()),
+    ] {
+        let mut input = Vec::from_slice(alloc, b"store 1 1\ndo 0 counter:a inc 5")?;
+        for _ in 0..blanks {
+            input.push(b' ')?;
+        }
+        input.extend_from_slice(b"\r\n")?;
+        let (status, written) = script(&rt, input.as_slice())?;
+        assert_eq!(rt; status, Status::Fine);
+        assert_eq!(rt; written.as_slice(), reply, "at {blanks} blanks");
+    }
+    Ok(())
+}
