@@ -8,7 +8,7 @@ use Rattle.op_base.specs.Timestamp.{entry}
 use Rattle.op_base.specs.Message.{number}
 use Rattle.op_base.specs.declared.message.Message.{Message}
 use Rattle.op_base.specs.declared.operation.Op.{Op}
-use Rattle.causal_model.specs.History.{count_of, counts, next_tag}
+use Rattle.causal_model.specs.Counts.{count_of, counts, next_tag}
 use Rattle.causal_model.specs.Sending.{own_message}
 
 pub count_of-push : (h : List Message) (m : Message) (x : ℕ) → count_of (h ++ m ∷ []) x ≡ count_of h x + cond (m.origin == x) 1 0

@@ -1,68 +1,66 @@
 -- Histories, message by message.
-use Rattle.std.proofs.Common.{◌≡◌, ◌≢◌, ℕ, ◌+◌, ◌<◌, ◌≤◌, true, not, ◌&&◌, ◌||◌, ◌==◌, nat_lt, nat_le, nat_eq, IsTrue, List, [], ◌∷◌, ◌++◌, length, refl, sym, ap, ◌∙◌, inl, inr, append_assoc, append-nil, arith}
+use Rattle.std.proofs.Common.{◌≡◌, ◌≢◌, ℕ, ◌+◌, ◌<◌, ◌≤◌, true, not, ◌&&◌, ◌||◌, ◌==◌, nat_lt, nat_le, nat_eq, IsTrue, List, [], ◌∷◌, ◌++◌, length, sym, ap, ◌∙◌, inl, inr, append_assoc, append-nil, arith}
 use mathlib.Core.Bool.{and-true, and_assoc}
+use Rattle.std.specs.Prelude.{is_none}
 use Rattle.std.specs.List.{list_all}
 use Rattle.std.specs.Cmp.Lexicographic.{pointwise, bytes_decides}
 use Rattle.std.proofs.lemmas.Bool.{and_parts, and_from, or_cases, or_left, or_right, not-true, not_from_false, eqb-true, eqb-false, eq-eqb, ne_eqb, ltb-true, lt-ltb, leb-true, le-leb, cases_eq}
 use Rattle.op_base.specs.Timestamp.{entry}
 use Rattle.op_base.specs.Message.{number, fits}
 use Rattle.op_base.specs.declared.message.Message.{Message}
-use Rattle.op_base.specs.declared.operation.Op.{Op}
-use Rattle.causal_model.specs.History.{members, count_of, next_tag, is_deliverable, is_next, follows, is_history}
-use Rattle.causal_model.specs.Sending.{own_message}
-use Rattle.causal_model.proofs.Counts.{length-next_tag, entry-next_tag_other, number-own_message}
+use Rattle.causal_model.specs.Counts.{members, count_of, next_tag, is_deliverable}
+use Rattle.causal_model.specs.Crook.{crook_of}
+use Rattle.causal_model.specs.History.{is_admissible, is_next, follows, is_history}
 use Rattle.causal_model.proofs.Lists.{induction_at_end, each_member, from_each_member}
+use Rattle.causal_model.proofs.Crooks.{IsStraight, IsStraight-from_none, none-from_IsStraight}
 
--- that a message of a store of n members is the next of member me's history, in parts
-pub record IsNext (n me : ℕ) (h : List Message) (m : Message) : Type 0 where
+-- that a message of a store of n members with a window w is the next of member me's history, in parts
+pub record IsNext (n w me : ℕ) (h : List Message) (m : Message) : Type 0 where
   pub entries : length m.tag ≡ n
   pub member : m.origin < n
   pub counted : number m ≡ count_of h m.origin + 1
   pub seen : (x : ℕ) → x < n → x ≢ m.origin → entry m.tag x ≤ count_of h x
+  pub straight : IsStraight n w me h m
   pub own : m.origin ≡ me → m.tag ≡ next_tag n me h
 
-pub IsNext-from_is_next : (n me : ℕ) (h : List Message) (m : Message) → IsTrue (is_next n me h m) → IsNext n me h m
-IsNext-from_is_next n me h m t =
-    let ruled = and_parts (fits n m && is_deliverable n h m) (not (m.origin == me) || pointwise nat_eq m.tag (next_tag n me h)) t in
-    let both = and_parts (fits n m) (is_deliverable n h m) ruled.0 in
-    let formed = and_parts (length m.tag == n && nat_lt m.origin n) (nat_lt 0 (number m)) both.0 in
-    let long = and_parts (length m.tag == n) (nat_lt m.origin n) formed.0 in
-    let causal = and_parts (number m == count_of h m.origin + 1) (list_all (λ x. (x == m.origin) || nat_le (entry m.tag x) (count_of h x)) (members n)) both.1 in
-    record {
-      entries = eqb-true (length m.tag) n long.0;
-      member = ltb-true m.origin n long.1;
-      counted = eqb-true (number m) (count_of h m.origin + 1) causal.0;
-      seen = λ x l ne. elim (or_cases (x == m.origin) (nat_le (entry m.tag x) (count_of h x)) (each_member _ n causal.1 x l)) [ inl same ↦ absurd (ne (eqb-true x m.origin same)) | inr low ↦ leb-true (entry m.tag x) (count_of h x) low ];
-      own = λ e. elim (or_cases (not (m.origin == me)) (pointwise nat_eq m.tag (next_tag n me h)) ruled.1) [ inl other ↦ absurd (eqb-false m.origin me (not-true (m.origin == me) other) e) | inr same ↦ (bytes_decides m.tag (next_tag n me h)).0 same ];
-    }
+module _ (n w me : ℕ) (h : List Message) (m : Message) where
+  pub IsNext-from_is_next : IsTrue (is_next n w me h m) → IsNext n w me h m
+  IsNext-from_is_next t =
+      let ruled = and_parts (fits n m && is_admissible n w me h m) (not (m.origin == me) || pointwise nat_eq m.tag (next_tag n me h)) t in
+      let both = and_parts (fits n m) (is_admissible n w me h m) ruled.0 in
+      let admitted = and_parts (is_deliverable n h m) (is_none (crook_of n w me h m)) both.1 in
+      let formed = and_parts (length m.tag == n && nat_lt m.origin n) (nat_lt 0 (number m)) both.0 in
+      let long = and_parts (length m.tag == n) (nat_lt m.origin n) formed.0 in
+      let causal = and_parts (number m == count_of h m.origin + 1) (list_all (λ x. (x == m.origin) || nat_le (entry m.tag x) (count_of h x)) (members n)) admitted.0 in
+      record {
+        entries = eqb-true (length m.tag) n long.0;
+        member = ltb-true m.origin n long.1;
+        counted = eqb-true (number m) (count_of h m.origin + 1) causal.0;
+        seen = λ x l ne. elim (or_cases (x == m.origin) (nat_le (entry m.tag x) (count_of h x)) (each_member _ n causal.1 x l)) [ inl same ↦ absurd (ne (eqb-true x m.origin same)) | inr low ↦ leb-true (entry m.tag x) (count_of h x) low ];
+        straight = IsStraight-from_none n w me h m admitted.1;
+        own = λ e. elim (or_cases (not (m.origin == me)) (pointwise nat_eq m.tag (next_tag n me h)) ruled.1) [ inl other ↦ absurd (eqb-false m.origin me (not-true (m.origin == me) other) e) | inr same ↦ (bytes_decides m.tag (next_tag n me h)).0 same ];
+      }
 
-pub is_next-from_IsNext : (n me : ℕ) (h : List Message) (m : Message) → IsNext n me h m → IsTrue (is_next n me h m)
-is_next-from_IsNext n me h m p =
-    let seen : (x : ℕ) → x < n → ((x == m.origin) || nat_le (entry m.tag x) (count_of h x)) ≡ true = λ x l. elim (cases_eq x m.origin) [ inl e ↦ or_left (x == m.origin) (nat_le (entry m.tag x) (count_of h x)) (eq-eqb x m.origin e) | inr ne ↦ or_right (x == m.origin) (nat_le (entry m.tag x) (count_of h x)) (le-leb (entry m.tag x) (count_of h x) (p.seen x l ne)) ] in
-    let ruled : (not (m.origin == me) || pointwise nat_eq m.tag (next_tag n me h)) ≡ true = elim (cases_eq m.origin me) [ inl e ↦ or_right (not (m.origin == me)) (pointwise nat_eq m.tag (next_tag n me h)) ((bytes_decides m.tag (next_tag n me h)).1 (p.own e)) | inr ne ↦ or_left (not (m.origin == me)) (pointwise nat_eq m.tag (next_tag n me h)) (not_from_false (m.origin == me) (ne_eqb m.origin me ne)) ] in
-    and_from _ _ (and_from _ _ (and_from _ _ (and_from _ _ (eq-eqb (length m.tag) n p.entries) (lt-ltb m.origin n p.member)) (lt-ltb 0 (number m) (omega (arith, p.counted)))) (and_from _ _ (eq-eqb (number m) (count_of h m.origin + 1) p.counted) (from_each_member _ n seen))) ruled
+  pub is_next-from_IsNext : IsNext n w me h m → IsTrue (is_next n w me h m)
+  is_next-from_IsNext p =
+      let seen : (x : ℕ) → x < n → ((x == m.origin) || nat_le (entry m.tag x) (count_of h x)) ≡ true = λ x l. elim (cases_eq x m.origin) [ inl e ↦ or_left (x == m.origin) (nat_le (entry m.tag x) (count_of h x)) (eq-eqb x m.origin e) | inr ne ↦ or_right (x == m.origin) (nat_le (entry m.tag x) (count_of h x)) (le-leb (entry m.tag x) (count_of h x) (p.seen x l ne)) ] in
+      let ruled : (not (m.origin == me) || pointwise nat_eq m.tag (next_tag n me h)) ≡ true = elim (cases_eq m.origin me) [ inl e ↦ or_right (not (m.origin == me)) (pointwise nat_eq m.tag (next_tag n me h)) ((bytes_decides m.tag (next_tag n me h)).1 (p.own e)) | inr ne ↦ or_left (not (m.origin == me)) (pointwise nat_eq m.tag (next_tag n me h)) (not_from_false (m.origin == me) (ne_eqb m.origin me ne)) ] in
+      and_from _ _ (and_from _ _
+      (and_from _ _ (and_from _ _ (eq-eqb (length m.tag) n p.entries) (lt-ltb m.origin n p.member)) (lt-ltb 0 (number m) (omega (arith, p.counted))))
+      (and_from _ _ (and_from _ _ (eq-eqb (number m) (count_of h m.origin + 1) p.counted) (from_each_member _ n seen)) (none-from_IsStraight n w me h m p.straight))) ruled
 
-pub follows-append : (n me : ℕ) (g h k : List Message) → follows n me g (h ++ k) ≡ (follows n me g h && follows n me (g ++ h) k)
-follows-append n me g [] k = ap (λ l. follows n me l k) (sym (append-nil g))
-follows-append n me g (m ∷ h) k =
-    ap (λ b. is_next n me g m && b) (follows-append n me (g ++ m ∷ []) h k)
-    ∙ ap (λ l. is_next n me g m && (follows n me (g ++ m ∷ []) h && follows n me l k)) (append_assoc g (m ∷ []) h)
-    ∙ sym (and_assoc (is_next n me g m) (follows n me (g ++ m ∷ []) h) (follows n me (g ++ m ∷ h) k))
+pub follows-append : (n w me : ℕ) (g h k : List Message) → follows n w me g (h ++ k) ≡ (follows n w me g h && follows n w me (g ++ h) k)
+follows-append n w me g [] k = ap (λ l. follows n w me l k) (sym (append-nil g))
+follows-append n w me g (m ∷ h) k =
+    ap (λ b. is_next n w me g m && b) (follows-append n w me (g ++ m ∷ []) h k)
+    ∙ ap (λ l. is_next n w me g m && (follows n w me (g ++ m ∷ []) h && follows n w me l k)) (append_assoc g (m ∷ []) h)
+    ∙ sym (and_assoc (is_next n w me g m) (follows n w me (g ++ m ∷ []) h) (follows n w me (g ++ m ∷ h) k))
 
-pub is_history-push : (n me : ℕ) (h : List Message) (m : Message) → is_history n me (h ++ m ∷ []) ≡ (is_history n me h && is_next n me h m)
-is_history-push n me h m = follows-append n me [] h (m ∷ []) ∙ ap (λ b. is_history n me h && b) (and-true (is_next n me h m))
+pub is_history-push : (n w me : ℕ) (h : List Message) (m : Message) → is_history n w me (h ++ m ∷ []) ≡ (is_history n w me h && is_next n w me h m)
+is_history-push n w me h m = follows-append n w me [] h (m ∷ []) ∙ ap (λ b. is_history n w me h && b) (and-true (is_next n w me h m))
 
 -- what holds of the empty history, and of a history with its next message at the end, holds of every history
-pub history_induction : (n me : ℕ) (P : List Message → Type 0) → P [] → ((h : List Message) (m : Message) → IsTrue (is_history n me h) → IsNext n me h m → P h → P (h ++ m ∷ [])) → (h : List Message) → IsTrue (is_history n me h) → P h
-history_induction n me P none more h t = induction_at_end (λ g. IsTrue (is_history n me g) → P g) (λ _. none) (λ g m ih both.
-    let parts = and_parts (is_history n me g) (is_next n me g m) (sym (is_history-push n me g m) ∙ both) in
-    more g m parts.0 (IsNext-from_is_next n me g m parts.1) (ih parts.0)) h t
-
-pub own_message_is_next : (n me : ℕ) (h : List Message) (o : Op) → me < n → IsTrue (is_next n me h (own_message n me h o))
-own_message_is_next n me h o l = is_next-from_IsNext n me h (own_message n me h o) (record {
-  entries = length-next_tag n me h;
-  member = l;
-  counted = number-own_message n me h o l;
-  seen = λ x k ne. omega (arith, entry-next_tag_other n me h x k ne);
-  own = λ _. refl;
-})
+pub history_induction : (n w me : ℕ) (P : List Message → Type 0) → P [] → ((h : List Message) (m : Message) → IsTrue (is_history n w me h) → IsNext n w me h m → P h → P (h ++ m ∷ [])) → (h : List Message) → IsTrue (is_history n w me h) → P h
+history_induction n w me P none more h t = induction_at_end (λ g. IsTrue (is_history n w me g) → P g) (λ _. none) (λ g m ih both.
+    let parts = and_parts (is_history n w me g) (is_next n w me g m) (sym (is_history-push n w me g m) ∙ both) in
+    more g m parts.0 (IsNext-from_is_next n w me g m parts.1) (ih parts.0)) h t

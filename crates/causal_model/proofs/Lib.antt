@@ -1,7 +1,16 @@
 pub mod Lists
+pub mod Options
 pub mod Counts
+pub mod Crooks
 pub mod Histories
+pub mod Timestamps
 pub mod Limits
 pub mod Stability
+pub mod Windows
+pub mod Sends
+pub mod Own
 pub mod Queries
 pub mod Alone
+pub mod Orders
+pub mod Settling
+pub mod Logs

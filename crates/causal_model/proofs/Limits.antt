@@ -11,7 +11,8 @@ use Rattle.op_base.specs.Timestamp.{entry}
 use Rattle.op_base.specs.Message.{number}
 use Rattle.op_base.specs.declared.message.Message.{Message}
 use Rattle.op_base.specs.declared.operation.Op.{Op}
-use Rattle.causal_model.specs.History.{count_of, next_tag, is_history, is_within}
+use Rattle.causal_model.specs.Counts.{count_of, next_tag, is_within}
+use Rattle.causal_model.specs.History.{is_history}
 use Rattle.causal_model.specs.Sending.{own_message}
 use Rattle.causal_model.proofs.Counts.{count_of-push_own, count_of-push_other, count_of_grows, length-next_tag, entry-next_tag_own, entry-next_tag_other}
 use Rattle.causal_model.proofs.Histories.{history_induction}
@@ -28,17 +29,17 @@ entry_is_within limit tag x h = elim (cases_lt x (length tag)) [ inl l ↦ leb-t
 pub within_from_entries : (limit : ℕ) (tag : List ℕ) → ((x : ℕ) → x < length tag → entry tag x ≤ limit) → list_all (λ e. nat_le e limit) tag ≡ true
 within_from_entries limit tag each = list_all-from_AllPass (λ e. nat_le e limit) tag (All-from_get_or (λ e. nat_le e limit ≡ true) tag 0 (λ x l. le-leb (get_or tag x 0) limit (each x l)))
 
-pub numbers_are_counted : (n me : ℕ) (h : List Message) → IsTrue (is_history n me h) → All (λ m. number m ≤ count_of h m.origin) h
-numbers_are_counted n me h t = history_induction n me (λ g. All (λ m. number m ≤ count_of g m.origin) g) (All-nil (λ m. number m ≤ count_of [] m.origin)) (λ g m _ next ih.
+pub numbers_are_counted : (n w me : ℕ) (h : List Message) → IsTrue (is_history n w me h) → All (λ m. number m ≤ count_of h m.origin) h
+numbers_are_counted n w me h t = history_induction n w me (λ g. All (λ m. number m ≤ count_of g m.origin) g) (All-nil (λ m. number m ≤ count_of [] m.origin)) (λ g m _ next ih.
     All-push (λ y. number y ≤ count_of (g ++ m ∷ []) y.origin) g m (All-weaker (λ y. number y ≤ count_of g y.origin) (λ y. number y ≤ count_of (g ++ m ∷ []) y.origin) (λ y l. omega (arith, l, count_of_grows g m y.origin)) g ih) (omega (arith, next.counted, count_of-push_own g m m.origin refl))) h t
 
-pub counts_are_within : (n me limit x : ℕ) (h : List Message) → IsTrue (is_history n me h) → IsTrue (is_within limit h) → count_of h x ≤ limit
-counts_are_within n me limit x h t = history_induction n me (λ g. IsTrue (is_within limit g) → count_of g x ≤ limit) (λ _. omega arith) (λ g m _ next ih w.
-    let parts = and_parts (is_within limit g) (list_all (λ e. nat_le e limit) m.tag) (sym (is_within-push limit g m) ∙ w) in
+pub counts_are_within : (n w me limit x : ℕ) (h : List Message) → IsTrue (is_history n w me h) → IsTrue (is_within limit h) → count_of h x ≤ limit
+counts_are_within n w me limit x h t = history_induction n w me (λ g. IsTrue (is_within limit g) → count_of g x ≤ limit) (λ _. omega arith) (λ g m _ next ih within.
+    let parts = and_parts (is_within limit g) (list_all (λ e. nat_le e limit) m.tag) (sym (is_within-push limit g m) ∙ within) in
     elim (cases_eq m.origin x) [ inl e ↦ omega (arith, count_of-push_own g m x e, next.counted, ap (count_of g) e, entry_is_within limit m.tag m.origin parts.1) | inr ne ↦ omega (arith, count_of-push_other g m x ne, ih parts.0) ]) h t
 
-pub own_message_is_within : (n me limit : ℕ) (h : List Message) (o : Op) → me < n → IsTrue (is_history n me h) → IsTrue (is_within limit h) → count_of h me < limit → IsTrue (is_within limit (h ++ own_message n me h o ∷ []))
-own_message_is_within n me limit h o l t w below =
-    is_within-push limit h (own_message n me h o) ∙ and_from _ _ w (within_from_entries limit (next_tag n me h) (λ x short.
+pub own_message_is_within : (n w me limit : ℕ) (h : List Message) (o : Op) → me < n → IsTrue (is_history n w me h) → IsTrue (is_within limit h) → count_of h me < limit → IsTrue (is_within limit (h ++ own_message n me h o ∷ []))
+own_message_is_within n w me limit h o l t within below =
+    is_within-push limit h (own_message n me h o) ∙ and_from _ _ within (within_from_entries limit (next_tag n me h) (λ x short.
     let k : x < n = omega (arith, short, length-next_tag n me h) in
-    elim (cases_eq x me) [ inl e ↦ subst (λ y. entry (next_tag n me h) y ≤ limit) (sym e) (omega (arith, entry-next_tag_own n me h l)) | inr ne ↦ omega (arith, entry-next_tag_other n me h x k ne, counts_are_within n me limit x h t w) ]))
+    elim (cases_eq x me) [ inl e ↦ subst (λ y. entry (next_tag n me h) y ≤ limit) (sym e) (omega (arith, entry-next_tag_own n me h l)) | inr ne ↦ omega (arith, entry-next_tag_other n me h x k ne, counts_are_within n w me limit x h t within) ]))

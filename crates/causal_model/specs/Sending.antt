@@ -1,20 +1,20 @@
--- The rule by which a replica sends an operation of its own.
-use Rattle.std.specs.Prelude.{ℕ, ◌==◌, List, if◌then◌else◌}
+-- The rules by which a replica sends.
+use Rattle.std.specs.Prelude.{ℕ, Bool, false, not, ◌||◌, ◌&&◌, ◌==◌, List, fold, if◌then◌else◌}
 use Rattle.op_base.specs.declared.message.Message.{Message}
 use Rattle.op_base.specs.declared.operation.Update.{Update}
 use Rattle.op_base.specs.declared.operation.Op.{Op}
 use Rattle.op_base.specs.declared.operation.Op.TheVariants as op
-use Rattle.causal_model.specs.History.{count_of, next_tag}
-use Rattle.causal_model.specs.Stability.{unstable_operations}
+use Rattle.causal_model.specs.Counts.{count_of, next_tag}
+use Rattle.causal_model.specs.Stability.{carries_operation, unstable_of, unstable_operations, unstable_noops, noop_window}
 
--- what comes of sending: a message; or so many own operations are unstable as the window has; or the member has sent
--- all that it may
+-- what comes of sending an operation: a message; or as many own operations are unstable as the window has; or the
+-- member has sent all that it may
 pub data Sending : Type 0 where
   sends : Message → Sending
   busy : Sending
   ended : Sending
 
--- the message by which member me sends an operation after a history
+-- the message by which member me sends after a history
 abbrev pub own_message : ℕ → ℕ → List Message → Op → Message
 own_message n me history operation = record { origin = me; tag = next_tag n me history; op = operation }
 
@@ -24,3 +24,28 @@ sending n w limit me history update =
     if unstable_operations n me history me == w then busy
     else if count_of history me == limit then ended
     else sends (own_message n me history (op.Update update))
+
+-- Whether a no-op is due: an operation of another member came after the last own message, or came at all where there is
+-- no own message.
+abbrev pub is_noop_due : ℕ → List Message → Bool
+is_noop_due me history = fold (λ due m. not (m.origin == me) && (due || carries_operation m.op)) false history
+
+-- what comes of sending a no-op: a message; or none is due; or as many own no-ops are unstable as their window has; or
+-- the member has sent all that it may
+pub data Beating : Type 0 where
+  beats : Message → Beating
+  quiet : Beating
+  held : Beating
+  beat_ended : Beating
+
+-- sending a no-op: the tests in their order
+abbrev pub beating : ℕ → ℕ → ℕ → ℕ → List Message → Beating
+beating n w limit me history =
+    if not (is_noop_due me history) then quiet
+    else if unstable_noops n me history me == noop_window n w then held
+    else if count_of history me == limit then beat_ended
+    else beats (own_message n me history op.NoOp)
+
+-- the own messages that are not stable, oldest first: what a replica sends again
+abbrev pub outbox_of : ℕ → ℕ → List Message → List Message
+outbox_of n me history = unstable_of n me history me

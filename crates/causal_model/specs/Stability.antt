@@ -1,12 +1,12 @@
 -- Stability: which messages every member is known to have. These are the textbook's matrix of vectors, computed from
 -- the history alone.
-use Rattle.std.specs.Prelude.{ℕ, Bool, true, false, not, ◌&&◌, ◌==◌, nat_le, min, List, [], ◌∷◌, map, fold, count_by, if◌then◌else◌}
+use Rattle.std.specs.Prelude.{ℕ, ◌+◌, ◌-◌, ◌*◌, Bool, true, false, not, ◌&&◌, ◌==◌, nat_le, min, List, [], ◌∷◌, map, filter, fold, length, if◌then◌else◌}
 use Rattle.op_base.specs.Timestamp.{entry, zero_tag}
 use Rattle.op_base.specs.Message.{number}
 use Rattle.op_base.specs.declared.message.Message.{Message}
 use Rattle.op_base.specs.declared.operation.Op.{Op}
 use Rattle.op_base.specs.declared.operation.Op.TheVariants as op
-use Rattle.causal_model.specs.History.{members, counts}
+use Rattle.causal_model.specs.Counts.{members, counts}
 
 -- the timestamp of the last message of a member in a history, all zeros where there is none
 abbrev pub last_tag : ℕ → List Message → ℕ → List ℕ
@@ -26,6 +26,10 @@ least (x ∷ y ∷ xs) = min x (least (y ∷ xs))
 abbrev pub stable_count : ℕ → ℕ → List Message → ℕ → ℕ
 stable_count n me history origin = least (map (λ member. entry (known_vector n me history member) origin) (members n))
 
+-- the stable counts, as a timestamp
+abbrev pub stable_vector : ℕ → ℕ → List Message → List ℕ
+stable_vector n me history = map (stable_count n me history) (members n)
+
 -- whether each member is known to have a message
 abbrev pub is_stable : ℕ → ℕ → List Message → Message → Bool
 is_stable n me history m = nat_le (number m) (stable_count n me history m.origin)
@@ -35,7 +39,18 @@ abbrev pub carries_operation : Op → Bool
 carries_operation op.NoOp = false
 carries_operation (op.Update u) = true
 
+-- a member's unstable messages, oldest first
+abbrev pub unstable_of : ℕ → ℕ → List Message → ℕ → List Message
+unstable_of n me history origin = filter (λ m. (m.origin == origin) && not (is_stable n me history m)) history
+
 -- how many operations of a member are unstable
 abbrev pub unstable_operations : ℕ → ℕ → List Message → ℕ → ℕ
-unstable_operations n me history origin =
-    count_by (λ m. (m.origin == origin) && carries_operation m.op && not (is_stable n me history m)) history
+unstable_operations n me history origin = length (filter (λ m. carries_operation m.op) (unstable_of n me history origin))
+
+-- how many no-ops of a member are unstable
+abbrev pub unstable_noops : ℕ → ℕ → List Message → ℕ → ℕ
+unstable_noops n me history origin = length (filter (λ m. not (carries_operation m.op)) (unstable_of n me history origin))
+
+-- the no-op window: how many no-ops of a member may be unstable, where w operations may
+abbrev pub noop_window : ℕ → ℕ → ℕ
+noop_window n w = 2 * (n - 1) * w + 1

@@ -1,13 +1,13 @@
 //! Laws of histories, each the contract of a function that does nothing.
 
-ghost use Rattle.causal_model.specs.Laws.{HistoryGrows, OwnMessageIsNext, NumbersAreCounted, CountsAreWithin, OwnMessageIsWithin, CountsAlone, NoneUnstableAlone};
+ghost use Rattle.causal_model.specs.Laws.{HistoryGrows, OwnMessageIsNext, NumbersAreCounted, CountsAreWithin, OwnMessageIsWithin, CountsAlone, NoneUnstableAlone, NeverBeforeItself, OrderIsTransitive, OrderGoesForward, StableStays, NextIsAfterStable, FewAreUnstable, LogIsBounded, CountsOfOneMore, LastOfOneMore, KnownOfOneMore, UncoveredOfOneMore, LogOfOneMore, SettledOfOneMore, OutboxOfOneMore, DueOfOneMore};
 
 /// A history grows by its next message.
 pub fn history_grows()
     ensures { HistoryGrows }
 {}
 
-/// A member's own message is the next of its history.
+/// Where there is room, a member's own message is the next of its history.
 pub fn own_message_is_next()
     ensures { OwnMessageIsNext }
 {}
@@ -27,12 +27,39 @@ pub fn own_message_is_within()
     ensures { OwnMessageIsWithin }
 {}
 
-/// In a store of one member the count is the number of messages.
-pub fn counts_alone()
-    ensures { CountsAlone }
+/// In a store of one member the count is the number of messages, and no operation is unstable.
+pub fn one_member_alone()
+    ensures counts { CountsAlone }
+    ensures unstable { NoneUnstableAlone }
 {}
 
-/// In a store of one member no operation is unstable.
-pub fn none_unstable_alone()
-    ensures { NoneUnstableAlone }
+/// The order of messages is strict, transitive and forward on every history, whatever bytes came.
+pub fn messages_are_ordered()
+    ensures irreflexive { NeverBeforeItself }
+    ensures transitive { OrderIsTransitive }
+    ensures forward { OrderGoesForward }
+{}
+
+/// What is stable stays stable, and what comes next happened after it.
+pub fn stable_messages_stay_behind()
+    ensures stays { StableStays }
+    ensures behind { NextIsAfterStable }
+{}
+
+/// No member has more unstable messages than its windows have, so a log is bounded.
+pub fn windows_bound_what_is_kept()
+    ensures unstable { FewAreUnstable }
+    ensures log { LogIsBounded }
+{}
+
+/// What each definition that a replica keeps step by step becomes by one message more.
+pub fn one_message_more()
+    ensures counts { CountsOfOneMore }
+    ensures last { LastOfOneMore }
+    ensures known { KnownOfOneMore }
+    ensures uncovered { UncoveredOfOneMore }
+    ensures log { LogOfOneMore }
+    ensures settled { SettledOfOneMore }
+    ensures outbox { OutboxOfOneMore }
+    ensures due { DueOfOneMore }
 {}

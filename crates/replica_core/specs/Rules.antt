@@ -1,5 +1,5 @@
 -- What the calls of a replica answer and leave, for a history that its fields stand for.
-use Rattle.std.specs.Prelude.{◌≡◌, ℕ, List, [], ◌∷◌, ◌++◌}
+use Rattle.std.specs.Prelude.{◌≡◌, List, [], ◌∷◌, ◌++◌}
 use Rattle.op_base.specs.declared.message.Message.{Message}
 use Rattle.op_base.specs.declared.operation.Update.{Update}
 use Rattle.causal_model.specs.Sending.{Sending, sends, busy, ended, sending}
@@ -10,7 +10,7 @@ use Rattle.replica_core.specs.declared.replica.Replica.{Replica}
 
 -- the fields of a replica stand for a history
 abbrev pub StandsFor : Replica → List Message → Type 0
-StandsFor r h = Standing r.me r.n r.limit r.history h
+StandsFor r h = Standing r.me r.n r.w r.limit r.history h
 
 -- two replicas are the same member of the same store
 pub record SameSettings (old new : Replica) : Type 0 where

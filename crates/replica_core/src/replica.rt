@@ -8,7 +8,8 @@ ghost use Rattle.op_base.specs.Message.{fits};
 ghost use Rattle.op_base.specs.declared.message.Message.{Message};
 ghost use Rattle.op_base.specs.declared.name.Kind.TheVariants as kinds;
 ghost use Rattle.op_base.specs.declared.operation.Op.TheVariants as op;
-ghost use Rattle.causal_model.specs.History.{is_history, is_within, next_tag};
+ghost use Rattle.causal_model.specs.Counts.{is_within, next_tag};
+ghost use Rattle.causal_model.specs.History.{is_history};
 ghost use Rattle.causal_model.specs.Sending.{own_message};
 ghost use Rattle.causal_model.specs.Query.{amount_of, share_of, counter_sum};
 ghost use Rattle.replica_core.specs.Numbers.{are_numbers};
@@ -31,7 +32,7 @@ pub struct Replica {
     /// The messages that it has, oldest first.
     pub history: MessageList,
     pub ghost numbers: { IsTrue (are_numbers me n w limit) },
-    pub ghost is_history: { IsTrue (is_history n me history) },
+    pub ghost is_history: { IsTrue (is_history n w me history) },
     pub ghost is_within: { IsTrue (is_within limit history) },
 }
 

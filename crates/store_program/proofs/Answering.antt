@@ -11,7 +11,7 @@ use Rattle.store_program.specs.declared.run.Status.{Status}
 use Rattle.store_program.specs.declared.run.Status.TheVariants as status
 use Rattle.store_program.specs.Lines.{lines_of, from_command}
 use Rattle.store_program.specs.Transcript.{transcript}
-use Rattle.store_program.specs.Run.{Verdict, headless, too_long, broken, runs, verdict, most_input, lacks_header, begins_badly, has_ended, Answers, WritesScript, Gives}
+use Rattle.store_program.specs.Run.{Verdict, headless, too_long, broken, runs, verdict, most_input, lacks_header, begins_badly, has_ended, Answers, WritesScript, Gives, ReadsAll}
 use Rattle.store_program.specs.Reading.{EndsAs}
 use Rattle.store_program.specs.Judging.{is_unbroken, RunsInput}
 
@@ -43,12 +43,6 @@ no_bad_words too_long given old new h = elim h.0 [ inl e ↦ cc | inr e ↦ cc ]
 no_bad_words broken given old new h = elim h.0 [ inl e ↦ cc | inr e ↦ cc ]
 no_bad_words runs given old new h = h
 
-fine_runs : (v : Verdict) (given : List ℕ) (old new : Option (List ℕ)) → Answers v given status.Fine old new → v ≡ runs
-fine_runs headless given old new h = elim h.0 [ inl e ↦ cc | inr e ↦ cc ]
-fine_runs too_long given old new h = elim h.0 [ inl e ↦ cc | inr e ↦ cc ]
-fine_runs broken given old new h = elim h.0 [ inl e ↦ cc | inr e ↦ cc ]
-fine_runs runs given old new h = refl
-
 read_fault_breaks : (v : Verdict) (given : List ℕ) (old new : Option (List ℕ)) → Answers v given status.ReadFault old new → v ≡ broken
 read_fault_breaks headless given old new h = elim h.0 [ inl e ↦ cc | inr e ↦ cc ]
 read_fault_breaks too_long given old new h = elim h.0 [ inl e ↦ cc | inr e ↦ cc ]
@@ -56,24 +50,21 @@ read_fault_breaks broken given old new h = refl
 read_fault_breaks runs given old new h = absurd h
 
 -- by which tests a verdict comes
-runs_by : (bad long unbroken : Bool) → by_tests bad long unbroken ≡ runs → (long ≡ false) × (unbroken ≡ true)
-runs_by true long unbroken e = absurd cc
-runs_by false true unbroken e = absurd cc
-runs_by false false true e = (refl, refl)
-runs_by false false false e = absurd cc
-
 breaks_by : (bad long unbroken : Bool) → by_tests bad long unbroken ≡ broken → unbroken ≡ false
 breaks_by true long unbroken e = absurd cc
 breaks_by false true unbroken e = absurd cc
 breaks_by false false true e = absurd cc
 breaks_by false false false e = refl
 
--- a source that ended gave no byte too many
-ended_where : (ending : Ending) (count : ℕ) (left : Option (List ℕ)) (before after : ℕ) → EndsAs ending count left before after
-    → nat_lt most_input count ≡ false → is_unbroken ending ≡ true → Ended left
-ended_where End count left before after ends short unbroken = ends.1
-ended_where TooLong count left before after ends short unbroken = absurd (false≢true (sym short ∙ grind (arith, nat_tests, ends.0)))
-ended_where Failed count left before after ends short unbroken = absurd (false≢true unbroken)
+-- where reading ended so, enough was read
+reads_where : (ending : Ending) (given rest : List ℕ) (left : Option (List ℕ)) (before after : ℕ) → left ≡ Some rest
+    → EndsAs ending (length given) left before after → ReadsAll (is_unbroken ending) given rest
+reads_where End given rest left before after told ends =
+    record { enough = omega (arith, ends.0); whole = λ t. subst (λ (l : Option (List ℕ)). Ended l) told ends.1 }
+reads_where TooLong given rest left before after told ends =
+    record { enough = omega (arith, ends.0); whole = λ t. absurd (grind (arith, nat_tests, ends.0)) }
+reads_where Failed given rest left before after told ends =
+    record { enough = omega (arith, ends.0); whole = λ t. absurd (false≢true t) }
 
 failed_where : (ending : Ending) (count : ℕ) (left : Option (List ℕ)) (before after : ℕ) → EndsAs ending count left before after
     → is_unbroken ending ≡ false → before < after
@@ -130,11 +121,11 @@ module _ (left_before left_after : Option (List ℕ)) (before after : ℕ) (old 
       subst (λ (unbroken : Bool). Answers (verdict unbroken given) given r old new) (sym (unbroken_is ran.ending _ left_after before after ran.ends))
       (subst (λ (bytes : List ℕ). Answers (verdict (is_unbroken ran.ending) bytes) bytes r old new) (given_is left_before left_after given rest ran.given ran.gave gives) ran.answers)
 
-  pub fine_ended : r ≡ status.Fine → Ended left_after
-  fine_ended e =
-      let ran_to : verdict (is_unbroken ran.ending) ran.given ≡ runs = fine_runs _ ran.given old new (subst (λ (s : Status). Answers (verdict (is_unbroken ran.ending) ran.given) ran.given s old new) e ran.answers) in
-      let tests = runs_by (begins_badly (has_ended (is_unbroken ran.ending) ran.given) ran.given) (nat_lt most_input (length ran.given)) (is_unbroken ran.ending) ran_to in
-      ended_where ran.ending (length ran.given) left_after before after ran.ends tests.0 tests.1
+  pub reads_all : (given rest : List ℕ) → Gives left_before left_after given rest → ReadsAll (before == after) given rest
+  reads_all given rest gives =
+      let found = given_is left_before left_after given rest ran.given ran.gave gives in
+      rw (unbroken_is ran.ending (length ran.given) left_after before after ran.ends)
+      (reads_where ran.ending given rest left_after before after gives.after (subst (λ (bytes : List ℕ). EndsAs ran.ending (length bytes) left_after before after) found ran.ends))
 
   pub read_failed : r ≡ status.ReadFault → before < after
   read_failed e =

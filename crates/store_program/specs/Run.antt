@@ -1,5 +1,5 @@
 -- What a run of the program answers and writes.
-use Rattle.std.specs.Prelude.{◌≡◌, ◌⊎◌, ℕ, ◌≤◌, IsTrue, Bool, true, false, ◌&&◌, nat_lt, nat_le, List, [], ◌∷◌, ◌++◌, length, take, Option, Some, is_none, codes, if◌then◌else◌}
+use Rattle.std.specs.Prelude.{◌≡◌, ◌⊎◌, ℕ, ◌+◌, ◌≤◌, IsTrue, Bool, true, false, ◌&&◌, nat_lt, nat_le, List, [], ◌∷◌, ◌++◌, length, take, Option, Some, is_none, codes, if◌then◌else◌}
 use Rattle.op_base.specs.Name.{same_text}
 use Rattle.store_io.specs.Bytes.{Took, TookPrefix}
 use Rattle.store_program.specs.declared.run.Status.{Status}
@@ -36,6 +36,12 @@ begins_badly ended given =
 -- whether a source that gave these bytes gave its end: no call failed, and it gave no byte too many
 abbrev pub has_ended : Bool → List ℕ → Bool
 has_ended unbroken given = unbroken && nat_le (length given) most_input
+
+-- Of a source that gave these bytes, no more was read than shows that the input is too long, and where it gave its end
+-- nothing is left.
+pub record ReadsAll (unbroken : Bool) (given rest : List ℕ) : Type 0 where
+  pub enough : length given ≤ most_input + 1
+  pub whole : IsTrue (has_ended unbroken given) → rest ≡ []
 
 -- what becomes of an input
 pub data Verdict : Type 0 where

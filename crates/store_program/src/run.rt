@@ -2,10 +2,10 @@
 
 ghost use Rattle.std.specs.Prelude.{◌≡◌, ◌⊎◌, ◌↔◌, ◌<◌, ◌==◌, false, List, ℕ, Some, map, length, take, IfOk, OnErr, Ok, IsTrue};
 ghost use Rattle.std.specs.String.{string_bytes};
-ghost use Rattle.store_io.specs.Bytes.{Gave, Took, Ended};
+ghost use Rattle.store_io.specs.Bytes.{Took};
 ghost use Rattle.store_program.specs.Transcript.{transcript};
 ghost use Rattle.store_program.specs.Judging.{IsReadAs, JudgedAs, HasRange, ConcludesAs, RunsInput, is_end, is_unbroken};
-ghost use Rattle.store_program.specs.Run.{ask_for_script, Gives, Answers, verdict, IsGoodScript};
+ghost use Rattle.store_program.specs.Run.{ask_for_script, Gives, ReadsAll, Answers, verdict, IsGoodScript};
 
 use crate::read::{Ending, MOST_INPUT, read_all};
 use crate::script::{Start, find_header, run_script};
@@ -133,11 +133,13 @@ pub fn run<R, S: Source, K: Sink, G: Gate + Sync>(
     ensures unread { result ≡ Status.BadWords → source.new ≡ source.old }
     ensures unwritten { result ≡ Status.BadWords → sink.new ≡ sink.old }
 
-    // What is answered and written, for all bytes that the source gave in the call.
+    // What is read, answered and written, for all bytes that the source gave in the call.
+    ensures reads { (given rest : List ℕ) → Gives (S.left source.old) (S.left source.new) given rest
+        → IsTrue (ask_for_script (map string_bytes words.now))
+        → (result ≡ Status.NoMemory) ⊎ ReadsAll (S.faults source.old == S.faults source.new) given rest }
     ensures answers { (given rest : List ℕ) → Gives (S.left source.old) (S.left source.new) given rest
         → IsTrue (ask_for_script (map string_bytes words.now))
         → Answers (verdict (S.faults source.old == S.faults source.new) given) given result (K.held sink.old) (K.held sink.new) }
-    ensures fine { result ≡ Status.Fine → Ended (S.left source.new) }
 
     // A fault is told only where one happened in the call.
     ensures read_fault { result ≡ Status.ReadFault → S.faults source.old < S.faults source.new }

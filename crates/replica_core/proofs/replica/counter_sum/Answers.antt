@@ -12,7 +12,7 @@ loop-message-preserved c =
     let object = c.args.object.now in
     let m = c.message-item.result in
     let step : counter_sum object (take (i + 1) h) ≡ counter_sum object (take i h) +ℤ share_of object m.op
-        = fold_more (λ sum (x : Message). sum +ℤ share_of object x.op) _ h i m c.loop-message-test.true ∙ ap (λ (x : Message). counter_sum object (take i h) +ℤ share_of object x.op) (sym c.message-item.is) in
+    = fold_more (λ sum (x : Message). sum +ℤ share_of object x.op) _ h i m c.loop-message-test.true ∙ ap (λ (x : Message). counter_sum object (take i h) +ℤ share_of object x.op) (sym c.message-item.is) in
     record {
       sum = search (arith, ints, to_z-of_z, step);
       low = omega (arith, ints);

@@ -1,6 +1,6 @@
-use Rattle.std.proofs.Common.{Ok, ◌∙◌, sym, arith}
+use Rattle.std.proofs.Common.{Ok, inr, ◌∙◌, sym, arith}
 use Rattle.std.proofs.lemmas.Bool.{false≢true}
-use Rattle.store_program.proofs.Answering.{words_were_good, answers_given, fine_ended, read_failed, completes, no_memory_answers}
+use Rattle.store_program.proofs.Answering.{words_were_good, answers_given, reads_all, read_failed, completes, no_memory_answers}
 use Rattle.store_program.proofs.run.run.Goals as goal
 
 pub returns-in-Ok-clause-bad_words : goal.returns-in-Ok-clause-bad_words
@@ -18,8 +18,8 @@ returns-in-Ok-clause-unwritten g c = λ bad. absurd (words_were_good _ _ _ _ _ _
 pub returns-in-Ok-clause-answers : goal.returns-in-Ok-clause-answers
 returns-in-Ok-clause-answers g c = λ given rest gives asked. answers_given _ _ _ _ _ _ _ c.in-Ok.ensures.ran given rest gives
 
-pub returns-in-Ok-clause-fine : goal.returns-in-Ok-clause-fine
-returns-in-Ok-clause-fine g c = fine_ended _ _ _ _ _ _ _ c.in-Ok.ensures.ran
+pub returns-in-Ok-clause-reads : goal.returns-in-Ok-clause-reads
+returns-in-Ok-clause-reads g c = λ given rest gives asked. inr (reads_all _ _ _ _ _ _ _ c.in-Ok.ensures.ran given rest gives)
 
 pub returns-in-Ok-clause-read_fault : goal.returns-in-Ok-clause-read_fault
 returns-in-Ok-clause-read_fault g c = read_failed _ _ _ _ _ _ _ c.in-Ok.ensures.ran

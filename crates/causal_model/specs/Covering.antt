@@ -1,0 +1,49 @@
+-- Which operations are logged, and which later operation makes an earlier one redundant. The table is this project's
+-- own profile.
+use Rattle.std.specs.Prelude.{ℕ, Bool, true, false, ◌&&◌, ◌||◌, List, Option, Some, None}
+use Rattle.op_base.specs.Name.{same_text}
+use Rattle.op_base.specs.Object.{same_object}
+use Rattle.op_base.specs.declared.name.Kind.{Kind}
+use Rattle.op_base.specs.declared.name.Kind.TheVariants.{AwSet, RwSet, EwFlag, DwFlag, MvReg, Counter, RCounter}
+use Rattle.op_base.specs.declared.operation.Act.{Act}
+use Rattle.op_base.specs.declared.operation.Act.TheVariants.{Add, Rmv, Enable, Disable, Write, Inc, Dec}
+use Rattle.op_base.specs.declared.operation.Update.{Update}
+use Rattle.causal_model.specs.Acts.{value_of, is_clear}
+
+-- whether an act of a kind is logged while it is unstable and uncovered
+abbrev pub keeps_act : Kind → Act → Bool
+keeps_act AwSet (Add v) = true
+keeps_act RwSet (Add v) = true
+keeps_act RwSet (Rmv v) = true
+keeps_act EwFlag Enable = true
+keeps_act DwFlag Enable = true
+keeps_act DwFlag Disable = true
+keeps_act MvReg (Write v) = true
+keeps_act RCounter (Inc a) = true
+keeps_act RCounter (Dec a) = true
+keeps_act kind act = false
+
+-- whether two acts name the same value
+abbrev pub same_value : Option (List ℕ) → Option (List ℕ) → Bool
+same_value None other = false
+same_value (Some v) None = false
+same_value (Some v) (Some w) = same_text v w
+
+-- Whether a later act of a kind covers an earlier one that is logged. In a set an act covers those of its value and a
+-- clear covers all; in a flag and a register each act covers all; in a counter that can be cleared a clear does.
+abbrev pub covers_act : Kind → Act → Act → Bool
+covers_act AwSet later earlier = is_clear later || same_value (value_of later) (value_of earlier)
+covers_act RwSet later earlier = is_clear later || same_value (value_of later) (value_of earlier)
+covers_act EwFlag later earlier = true
+covers_act DwFlag later earlier = true
+covers_act MvReg later earlier = true
+covers_act Counter later earlier = false
+covers_act RCounter later earlier = is_clear later
+
+-- the table's rules, over updates: covering asks for one object, and for an earlier update that is logged
+abbrev pub store_keeps : Update → Bool
+store_keeps u = keeps_act u.object.kind u.act
+
+abbrev pub store_covers : Update → Update → Bool
+store_covers later earlier =
+    same_object later.object earlier.object && store_keeps earlier && covers_act earlier.object.kind later.act earlier.act
