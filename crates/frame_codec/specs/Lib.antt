@@ -1,0 +1,4 @@
+pub mod Grammar
+pub mod Fault
+pub mod Reading
+pub mod Laws

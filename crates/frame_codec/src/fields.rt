@@ -1,0 +1,224 @@
+//! The fields of a frame, each read from the front of the bytes that are left.
+//!
+//! A reader answers a value and the bytes behind it, or the field's fault. Want of memory is no fault of the bytes,
+//! so it stands beside the rest: a fault of a later field comes before it.
+
+ghost use Rattle.std.specs.Prelude.{◌≡◌, ◌+◌, ◌*◌, ◌≤◌, ◌<◌, ◌||◌, ◌==◌, nat_lt, nat_le, length, take, drop, slice_index, is_ok, IfOk, IfErr, IfSome, is_some, IsTrue, MatchResult, true, Ok, Some, None};
+ghost use Rattle.op_base.specs.Operation.{has_act};
+ghost use Rattle.std.specs.List.{list_any};
+ghost use Rattle.std.specs.Int.{w32, from_be_bytes};
+ghost use Rattle.op_base.specs.Name.{is_key, is_value};
+ghost use Rattle.frame_codec.specs.Fault.{numbers, text_of, behind_text, is_text_field};
+ghost use Rattle.frame_codec.specs.Reading.{is_name, is_argument, act_at, behind_act, row_of, operation_fault, SaysOperation, behind_operation};
+
+use crate::fault::FrameFault;
+use byteorder::{BigEndian, ByteOrder};
+use op_base::{Act, Key, Kind, NameFault, NoMemory, ObjectId, Op, Tag, Update, Value};
+use std::alloc::Global;
+
+/// An act without its argument.
+#[derive(Clone, Copy, Debug, PartialEq, Eq)]
+enum Verb {
+    Add,
+    Rmv,
+    Clear,
+    Enable,
+    Disable,
+    Write,
+    Inc,
+    Dec,
+}
+
+/// What stands at the front, unless there is no memory for it, and the bytes behind it.
+type Field<'a, T> = Result<(Result<T, NoMemory>, &'a [u8]), FrameFault>;
+
+/// The timestamp of n members, 1 to 16, whose numbers stand at the front.
+pub fn timestamp(bytes: &[u8], n: u8) -> Tag
+    requires some { 1 ≤ n }
+    requires few { n ≤ 16 }
+    requires whole { 4 * n ≤ length bytes.now }
+    ensures { result ≡ numbers n bytes.now }
+{
+    let mut tag = Tag::zero(n);
+    for x in 0..n {
+        tag.set(x, BigEndian::read_u32(&bytes[4 * x as usize..]));
+    }
+    tag
+}
+
+/// Whether the origin's entry is 0, or some entry is above the limit.
+pub fn is_bad_number(tag: &Tag, origin: u8, limit: u32) -> bool
+    requires { origin < length tag.now }
+    ensures { result ≡ ((slice_index tag.now origin == 0) || list_any (λ e. nat_lt limit e) tag.now) }
+{
+    tag.at(origin) == 0 || is_above(tag, limit)
+}
+
+/// Whether some entry is above the limit.
+fn is_above(tag: &Tag, limit: u32) -> bool
+    ensures { result ≡ list_any (λ e. nat_lt limit e) tag.now }
+{
+    for x in 0..tag.members() {
+        if tag.at(x) > limit {
+            return true;
+        }
+    }
+    false
+}
+
+/// A text behind its length byte, and what stands behind it. `None` where it is cut.
+fn text_field(bytes: &[u8]) -> Option<(&[u8], &[u8])>
+    ensures whole { is_some result ≡ is_text_field (λ _. true) bytes.now }
+    ensures text { IfSome result (λ x. x.0.now ≡ text_of bytes.now) }
+    ensures rest { IfSome result (λ x. x.1.now ≡ behind_text bytes.now) }
+{
+    let (len, rest) = bytes.split_first()?;
+    rest.split_at_checked(*len as usize)
+}
+
+/// A name that was read, or want of memory for it. Where the text was none, this fault.
+fn name_or<T>(
+    read: Result<T, NameFault>,
+    fault: FrameFault,
+) -> Result<Result<T, NoMemory>, FrameFault>
+    ensures tested { is_ok result ≡ is_name read }
+    ensures fault { IfErr result (λ e. e ≡ fault) }
+    ensures name { IfOk result (λ r. IfOk r (λ name. read ≡ Ok name)) }
+{
+    match read {
+        Ok(name) => Ok(Ok(name)),
+        Err(error) => match error {
+            NameFault::NoMemory => Ok(Err(NoMemory)),
+            _ => Err(fault),
+        },
+    }
+}
+
+/// A key behind its length byte.
+fn key_field<'a>(alloc: Global, bytes: &'a [u8]) -> Field<'a, Key>
+    ensures tested { is_ok result ≡ is_text_field is_key bytes.now }
+    ensures fault { IfErr result (λ fault. fault ≡ FrameFault.BadKey) }
+    ensures key { IfOk result (λ x. IfOk x.0 (λ key. key ≡ text_of bytes.now)) }
+    ensures rest { IfOk result (λ x. x.1.now ≡ behind_text bytes.now) }
+{
+    let Some((text, rest)) = text_field(bytes) else {
+        return Err(FrameFault::BadKey);
+    };
+    name_or(Key::read(alloc, text), FrameFault::BadKey).map(|key| (key, rest))
+}
+
+/// A value behind its length byte.
+fn value_field<'a>(alloc: Global, bytes: &'a [u8]) -> Field<'a, Value>
+    ensures tested { is_ok result ≡ is_text_field is_value bytes.now }
+    ensures fault { IfErr result (λ fault. fault ≡ FrameFault.Argument) }
+    ensures value { IfOk result (λ x. IfOk x.0 (λ value. value ≡ text_of bytes.now)) }
+    ensures rest { IfOk result (λ x. x.1.now ≡ behind_text bytes.now) }
+{
+    let Some((text, rest)) = text_field(bytes) else {
+        return Err(FrameFault::Argument);
+    };
+    name_or(Value::read(alloc, text), FrameFault::Argument).map(|value| (value, rest))
+}
+
+/// An amount, and what stands behind it.
+fn amount_field(bytes: &[u8]) -> Result<(u32, &[u8]), FrameFault>
+    ensures tested { is_ok result ≡ nat_le 4 (length bytes.now) }
+    ensures fault { IfErr result (λ fault. fault ≡ FrameFault.Argument) }
+    ensures amount { IfOk result (λ x. x.0 ≡ from_be_bytes w32 (take 4 bytes.now)) }
+    ensures rest { IfOk result (λ x. x.1.now ≡ drop 4 bytes.now) }
+{
+    let (front, rest) = bytes.split_at_checked(4).ok_or(FrameFault::Argument)?;
+    Ok((BigEndian::read_u32(front), rest))
+}
+
+/// The kind and the verb of an update's code. For a number that is none they are those of 19.
+fn kind_and_verb(code: u8) -> (Kind, Verb)
+    ensures { result ≡ row_of code }
+{
+    match code {
+        1 => (Kind::AwSet, Verb::Add),
+        2 => (Kind::AwSet, Verb::Rmv),
+        3 => (Kind::AwSet, Verb::Clear),
+        4 => (Kind::RwSet, Verb::Add),
+        5 => (Kind::RwSet, Verb::Rmv),
+        6 => (Kind::RwSet, Verb::Clear),
+        7 => (Kind::EwFlag, Verb::Enable),
+        8 => (Kind::EwFlag, Verb::Disable),
+        9 => (Kind::EwFlag, Verb::Clear),
+        10 => (Kind::DwFlag, Verb::Enable),
+        11 => (Kind::DwFlag, Verb::Disable),
+        12 => (Kind::DwFlag, Verb::Clear),
+        13 => (Kind::MvReg, Verb::Write),
+        14 => (Kind::MvReg, Verb::Clear),
+        15 => (Kind::Counter, Verb::Inc),
+        16 => (Kind::Counter, Verb::Dec),
+        17 => (Kind::RCounter, Verb::Inc),
+        18 => (Kind::RCounter, Verb::Dec),
+        _ => (Kind::RCounter, Verb::Clear),
+    }
+}
+
+/// The act of a verb, with its argument.
+fn act_field<'a>(alloc: Global, verb: Verb, bytes: &'a [u8]) -> Field<'a, Act>
+    ensures tested { is_ok result ≡ is_argument verb bytes.now }
+    ensures fault { IfErr result (λ fault. fault ≡ FrameFault.Argument) }
+    ensures act { IfOk result (λ x. IfOk x.0 (λ act. act ≡ act_at verb bytes.now)) }
+    ensures rest { IfOk result (λ x. x.1.now ≡ behind_act verb bytes.now) }
+{
+    match verb {
+        Verb::Add => {
+            let (value, rest) = value_field(alloc, bytes)?;
+            Ok((value.map(Act::Add), rest))
+        }
+        Verb::Rmv => {
+            let (value, rest) = value_field(alloc, bytes)?;
+            Ok((value.map(Act::Rmv), rest))
+        }
+        Verb::Clear => Ok((Ok(Act::Clear), bytes)),
+        Verb::Enable => Ok((Ok(Act::Enable), bytes)),
+        Verb::Disable => Ok((Ok(Act::Disable), bytes)),
+        Verb::Write => {
+            let (value, rest) = value_field(alloc, bytes)?;
+            Ok((value.map(Act::Write), rest))
+        }
+        Verb::Inc => {
+            let (amount, rest) = amount_field(bytes)?;
+            Ok((Ok(Act::Inc(amount)), rest))
+        }
+        Verb::Dec => {
+            let (amount, rest) = amount_field(bytes)?;
+            Ok((Ok(Act::Dec(amount)), rest))
+        }
+    }
+}
+
+/// The update of a kind, with what was read of it.
+fn update(
+    kind: Kind,
+    key: Result<Key, NoMemory>,
+    act: Result<Act, NoMemory>,
+) -> Result<Update, NoMemory>
+    requires { IfOk act (λ act. IsTrue (has_act kind act)) }
+    ensures object { IfOk result (λ update. update.object.kind ≡ kind) }
+    ensures key { IfOk result (λ update. key ≡ Ok update.object.key) }
+    ensures act { IfOk result (λ update. act ≡ Ok update.act) }
+{
+    let object = ObjectId { kind, key: key? };
+    Ok(Update { object, act: act? })
+}
+
+/// The operation of a code, with its key and its argument.
+pub fn operation<'a>(alloc: Global, code: u8, bytes: &'a [u8]) -> Field<'a, Op>
+    requires { code ≤ 19 }
+    ensures fault { MatchResult result (λ _. operation_fault code bytes.now ≡ None) (λ fault. operation_fault code bytes.now ≡ Some fault) }
+    ensures operation { IfOk result (λ x. IfOk x.0 (λ op. SaysOperation code bytes.now op)) }
+    ensures rest { IfOk result (λ x. x.1.now ≡ behind_operation code bytes.now) }
+{
+    if code == 0 {
+        return Ok((Ok(Op::NoOp), bytes));
+    }
+    let (kind, verb) = kind_and_verb(code);
+    let (key, rest) = key_field(alloc, bytes)?;
+    let (act, rest) = act_field(alloc, verb, rest)?;
+    Ok((update(kind, key, act).map(Op::Update), rest))
+}

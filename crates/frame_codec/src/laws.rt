@@ -1,0 +1,28 @@
+//! Laws of frames. Each is the contract of a function that does nothing.
+
+ghost use Rattle.frame_codec.specs.Laws.{OneFrame, OneMessage, NoFrameBegins, FramesHaveNoFault, WithoutFaultIsAFrame};
+
+/// A message has one frame in a store.
+pub fn one_frame_a_message()
+    ensures { OneFrame }
+{}
+
+/// A frame is the frame of one message.
+pub fn one_message_a_frame()
+    ensures { OneMessage }
+{}
+
+/// No frame is the beginning of another, so frames can be read one after the other.
+pub fn no_frame_begins_another()
+    ensures { NoFrameBegins }
+{}
+
+/// A frame has no fault.
+pub fn a_frame_has_no_fault()
+    ensures { FramesHaveNoFault }
+{}
+
+/// Bytes without a fault are a frame of some message.
+pub fn without_fault_is_a_frame()
+    ensures { WithoutFaultIsAFrame }
+{}
