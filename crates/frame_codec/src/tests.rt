@@ -1,3 +1,5 @@
+//! Frames by worked vectors, every code at its extremes, and bytes that are cut, replaced or lengthened.
+
 ghost use Rattle.std.specs.Prelude.{◌≡◌, length};
 
 use super::*;

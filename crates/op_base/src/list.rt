@@ -1,4 +1,4 @@
-//! A list of values, which contracts see as the list of what it holds, oldest first.
+//! A list of values, which contracts see as the list of what it holds, in order.
 //!
 //! It is std's `Vec` with its capacity out of sight: made from one and given back without memory.
 
@@ -35,7 +35,7 @@ impl<T> ListOf<T> {
         }
     }
 
-    /// The empty list, with room for so many elements.
+    /// The empty list, with room for so many elements. The room saves time, and contracts don't see it.
     pub fn with_capacity(alloc: Global, capacity: usize) -> Result<ListOf<T>, NoMemory>
         ensures { IfOk result (λ list. list ≡ []) }
     {

@@ -45,7 +45,7 @@ impl Message {
         }
     }
 
-    /// An equal message.
+    /// An equal message. `NoMemory` leaves nothing behind.
     pub fn copy(&self, alloc: Global) -> Result<Message, NoMemory>
         ensures { IfOk result (λ copy. copy ≡ self.now) }
     {
@@ -69,7 +69,7 @@ impl Entry {
         }
     }
 
-    /// An equal entry.
+    /// An equal entry. `NoMemory` leaves nothing behind.
     pub fn copy(&self, alloc: Global) -> Result<Entry, NoMemory>
         ensures { IfOk result (λ copy. copy ≡ self.now) }
     {

@@ -278,7 +278,7 @@ impl Key {
         self.bytes.as_slice()
     }
 
-    /// An equal key.
+    /// An equal key. `NoMemory` leaves nothing behind.
     pub fn copy(&self, alloc: Global) -> Result<Key, NoMemory>
         ensures { IfOk result (λ copy. copy ≡ self.now) }
     {
@@ -312,7 +312,7 @@ impl Value {
         self.bytes.as_slice()
     }
 
-    /// An equal value.
+    /// An equal value. `NoMemory` leaves nothing behind.
     pub fn copy(&self, alloc: Global) -> Result<Value, NoMemory>
         ensures { IfOk result (λ copy. copy ≡ self.now) }
     {
@@ -349,7 +349,7 @@ impl ObjectId {
         Ok(ObjectId { kind, key })
     }
 
-    /// An equal name.
+    /// An equal name. `NoMemory` leaves nothing behind.
     pub fn copy(&self, alloc: Global) -> Result<ObjectId, NoMemory>
         ensures { IfOk result (λ copy. copy ≡ self.now) }
     {

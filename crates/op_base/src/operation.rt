@@ -38,6 +38,7 @@ pub struct Update {
     pub object: ObjectId,
     /// What is done to it.
     pub act: Act,
+    /// The act is one of the object's kind.
     pub ghost of_kind: { IsTrue (has_act object.kind act) },
 }
 
@@ -80,7 +81,7 @@ fn act_code(kind: Kind, act: &Act) -> Option<u8>
 }
 
 impl Act {
-    /// An equal act.
+    /// An equal act. `NoMemory` leaves nothing behind.
     pub fn copy(&self, alloc: Global) -> Result<Act, NoMemory>
         ensures { IfOk result (λ copy. copy ≡ self.now) }
     {
@@ -130,7 +131,7 @@ impl Update {
         &self.act
     }
 
-    /// An equal update.
+    /// An equal update. `NoMemory` leaves nothing behind.
     pub fn copy(&self, alloc: Global) -> Result<Update, NoMemory>
         ensures { IfOk result (λ copy. copy ≡ self.now) }
     {
@@ -154,7 +155,7 @@ impl Op {
         }
     }
 
-    /// An equal operation.
+    /// An equal operation. `NoMemory` leaves nothing behind.
     pub fn copy(&self, alloc: Global) -> Result<Op, NoMemory>
         ensures { IfOk result (λ copy. copy ≡ self.now) }
     {

@@ -7,14 +7,14 @@ use crate::list::ListOf;
 use crate::name::{ObjectId, Value};
 use crate::tag::MessageId;
 
-/// What is settled of an object, or of one value of it.
+/// What is settled of an object, or of one value of it. A mark or a sum that the object's kind has not is `false` or 0.
 #[derive(Clone, Copy, Debug, PartialEq, Eq)]
 pub struct Cell {
     /// A settled add, enable or write is there.
     pub on: bool,
     /// A settled remove or disable is there, and still counts.
     pub off: bool,
-    /// The sum of what is settled of a counter.
+    /// The sum of a counter: of `counter` over all its messages, of `rcounter` over those that are settled.
     pub sum: i128,
 }
 

@@ -3,14 +3,14 @@
 //! A sink whose room is used up fails at every write, for as long as it is written to. With a
 //! number of a fixed size it would have no answer left once its faults reach the largest: it can
 //! take no byte, and a failure has to raise the count. So the count stands in a ghost field. The
-//! two functions that set it are proved by hand, and no other code can change it.
+//! two functions that make one are proved by hand, and no other code can make one.
 
 ghost use Rattle.std.specs.Prelude.{◌≡◌, ◌+◌, ℕ};
 ghost use Rattle.std.specs.Borrow.{ftrue};
 
 use std::marker::{Model, Send, Sync};
 
-/// How often something has failed. It takes no bytes, and only `one_more` raises it.
+/// How often something has failed. It takes no bytes. `seal` keeps other code from making one but by the two functions.
 #[derive(Drop)]
 pub struct FaultCount {
     seal: (),
@@ -21,9 +21,10 @@ impl Model for FaultCount {
     ghost also_owns = { λ _. ftrue };
 }
 
-// A struct with `also_owns` has neither by itself. This one owns nothing.
+// SAFETY: it owns nothing. A struct with `also_owns` isn't `Send` by itself.
 unsafe impl Send for FaultCount {}
 
+// SAFETY: it owns nothing that two threads could share.
 unsafe impl Sync for FaultCount {}
 
 impl FaultCount {

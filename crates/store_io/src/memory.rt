@@ -182,6 +182,7 @@ impl Sink for MemorySink {
             return Err(Failed);
         }
         let count = self.piece.min(piece.len()).min(room);
+        // The room was taken when the sink was made, so this needs no memory.
         self.held.extend_from_slice(&piece[..count]).unwrap();
         Ok(count)
     }

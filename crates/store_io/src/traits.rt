@@ -30,7 +30,7 @@ pub trait Source {
     /// The bytes that are left, where the source tells them.
     ghost left: { Self → Option (List ℕ) };
 
-    /// How many calls have failed. It never falls.
+    /// A count that rises in each call that fails, and in no other.
     ghost faults: { Self → ℕ };
 
     /// Moves the first bytes that are left to the front of `buf`, and says how many. `Ok(0)` is the
@@ -51,7 +51,7 @@ pub trait Sink {
     /// The bytes that it holds, where it tells them.
     ghost held: { Self → Option (List ℕ) };
 
-    /// How many calls have failed. It never falls.
+    /// A count that rises in each call that fails, and in no other.
     ghost faults: { Self → ℕ };
 
     /// Appends the first bytes of `piece`, at least one, and says how many. `Failed` comes only
@@ -66,7 +66,7 @@ pub trait Sink {
 }
 
 /// Appends all of `piece`, in as many writes as the sink needs. On `Failed`, which comes only where
-/// the sink had a fault, it holds a prefix of `piece` behind what it held.
+/// the sink had a fault, it holds a front of `piece`, and not all of it, behind what it held.
 pub fn write_whole<K: Sink>(sink: &mut K, piece: &[u8]) -> Result<(), Failed>
     ensures ok { OnOk result (Took (K.held sink.old) (K.held sink.new) piece.now) }
     ensures steady { OnOk result (K.faults sink.new ≡ K.faults sink.old) }
