@@ -14,3 +14,7 @@ pub mod Alone
 pub mod Orders
 pub mod Settling
 pub mod Logs
+pub mod RCounters
+pub mod Steps
+pub mod Rules
+pub mod Places

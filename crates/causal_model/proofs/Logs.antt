@@ -21,7 +21,7 @@ use Rattle.causal_model.specs.Log.{is_kept, is_covered_by, is_uncovered, kept_lo
 use Rattle.causal_model.specs.Order.{happened_before}
 use Rattle.causal_model.specs.Query.{does}
 use Rattle.causal_model.specs.Sending.{outbox_of}
-use Rattle.causal_model.specs.Settled.{has_settled}
+use Rattle.causal_model.specs.Settled.{has_settled, has_pending}
 use Rattle.causal_model.specs.Stability.{is_stable, carries_operation, unstable_operations}
 use Rattle.causal_model.proofs.Lists.{filter-filter, count_by-le-count_by}
 use Rattle.causal_model.proofs.Orders.{never_before_itself}
@@ -32,7 +32,7 @@ use Rattle.causal_model.proofs.Windows.{unstable-count}
 
 -- ---- what is uncovered
 
-either_fails : (a b : Bool) → not (a || (b || false)) ≡ (not a && not b)
+pub either_fails : (a b : Bool) → not (a || (b || false)) ≡ (not a && not b)
 either_fails true b = refl
 either_fails false true = refl
 either_fails false false = refl
@@ -43,7 +43,7 @@ is_uncovered-push covers h m e =
     ap not (list_any-append covered h (m ∷ [])) ∙ either_fails (list_any covered h) (covered m)
 
 -- a number above the counts is above what each message has seen
-never_before_counted : (h : List Message) (m e : Message) → count_of h m.origin < number m → ((x : ℕ) → entry e.tag x ≤ count_of h x) → happened_before m e ≡ false
+pub never_before_counted : (h : List Message) (m e : Message) → count_of h m.origin < number m → ((x : ℕ) → entry e.tag x ≤ count_of h x) → happened_before m e ≡ false
 never_before_counted h m e above counted = and_right _ _ (lt-leb (number m) (entry e.tag m.origin) (omega (arith, above, counted m.origin)))
 
 -- the new message neither happened before one of the history nor before itself
@@ -130,6 +130,16 @@ has_settled-push n w me h m object passes t =
     let now : Message → Bool = settles (is_uncovered store_covers (h ++ m ∷ [])) in
     let new : (now m || false) ≡ (does object passes m && is_stable n me (h ++ m ∷ []) m) = settled_new (does object passes m) (is_stable n me (h ++ m ∷ []) m) (is_uncovered store_covers (h ++ m ∷ []) m) (last_is_uncovered store_covers n w me h m t) in
     list_any-append now h (m ∷ []) ∙ ap (λ b. list_any now h || b) new ∙ (λ i. list_any (settles (λ e. is_uncovered-push store_covers h m e i)) h || (does object passes m && is_stable n me (h ++ m ∷ []) m))
+
+pub has_pending-push : (n w me : ℕ) (h : List Message) (m : Message) (object : ObjectId) (passes : Act → Bool) → IsTrue (is_history n w me (h ++ m ∷ []))
+    → has_pending n me (h ++ m ∷ []) object passes
+    ≡ (list_any (λ e. does object passes e && (not (is_stable n me (h ++ m ∷ []) e) && (is_uncovered store_covers h e && not (is_covered_by store_covers e.op m.op && happened_before e m)))) h
+    || (does object passes m && not (is_stable n me (h ++ m ∷ []) m)))
+has_pending-push n w me h m object passes t =
+    let waits : (Message → Bool) → Message → Bool = λ uncovered e. does object passes e && (not (is_stable n me (h ++ m ∷ []) e) && uncovered e) in
+    let now : Message → Bool = waits (is_uncovered store_covers (h ++ m ∷ [])) in
+    let new : (now m || false) ≡ (does object passes m && not (is_stable n me (h ++ m ∷ []) m)) = settled_new (does object passes m) (not (is_stable n me (h ++ m ∷ []) m)) (is_uncovered store_covers (h ++ m ∷ []) m) (last_is_uncovered store_covers n w me h m t) in
+    list_any-append now h (m ∷ []) ∙ ap (λ b. list_any now h || b) new ∙ (λ i. list_any (waits (λ e. is_uncovered-push store_covers h m e i)) h || (does object passes m && not (is_stable n me (h ++ m ∷ []) m)))
 
 -- ---- how long a log is
 

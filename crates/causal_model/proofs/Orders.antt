@@ -26,7 +26,7 @@ use Rattle.causal_model.proofs.Timestamps.{tag_of_has, entry-zero_tag, tags_are_
 abbrev pub Sees : Message → Message → Type 0
 Sees b a = number a ≤ entry b.tag a.origin
 
-same_id_itself : (m : Message) → same_id m m ≡ true
+pub same_id_itself : (m : Message) → same_id m m ≡ true
 same_id_itself m = and_from (m.origin == m.origin) (number m == number m) (eq-eqb m.origin m.origin refl) (eq-eqb (number m) (number m) refl)
 
 pub never_before_itself : (m : Message) → happened_before m m ≡ false
@@ -155,3 +155,7 @@ module _ (n w me : ℕ) where
       let back : Sees b c = omega (arith, seen, ap (entry b.tag) (eqb-true a.origin c.origin both.0), eqb-true (number a) (number c) both.1) in
       omega (arith, forward, seen_is_not_later h has_c.0 has_b.0 c b t place_c place_b back)) in
       and_from _ _ (not_from_false (same_id a c) other) (le-leb (number a) (entry c.tag a.origin) (omega (arith, seen, through)))
+
+  pub order_is_asymmetric : (h : List Message) (a b : Message) → IsTrue (is_history n w me h) → Contains h a → Contains h b → IsTrue (happened_before a b) → happened_before b a ≡ false
+  order_is_asymmetric h a b t has_a has_b ab = false_from_ne_true (happened_before b a) (λ ba.
+      both_ways (happened_before a a) (never_before_itself a) (order_is_transitive h a b a t has_a has_b has_a ab ba))

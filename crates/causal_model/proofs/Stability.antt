@@ -23,6 +23,11 @@ known_vector-push n me h m y =
       | false ↦ last_tag-push n h m y
     ]
 
+pub stable_count-push : (n me : ℕ) (h : List Message) (m : Message) (x : ℕ)
+    → stable_count n me (h ++ m ∷ []) x
+    ≡ least (map (λ y. entry (if y == me then set (counts n h) m.origin (count_of h m.origin + 1) else (if m.origin == y then m.tag else known_vector n me h y)) x) (members n))
+stable_count-push n me h m x = λ i. least (map (λ y. entry (known_vector-push n me h m y i) x) (members n))
+
 -- ---- no member is known to have less with one message more
 
 least-map-le : (f g : ℕ → ℕ) (xs : List ℕ) → ((x : ℕ) → f x ≤ g x) → least (map f xs) ≤ least (map g xs)

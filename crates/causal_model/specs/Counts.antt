@@ -1,4 +1,5 @@
--- Counts: how many messages of each member a history has, and which message can come next.
+-- Counts: how many messages of each member a history has, and which message can come next. The timestamps are the
+-- textbook's vectors; delivery is as in Baquero, Almeida and Shoker (arXiv 1710.04469).
 use Rattle.std.specs.Prelude.{ℕ, ◌+◌, Bool, ◌||◌, ◌&&◌, ◌==◌, nat_le, List, map, count_by, slice_set}
 use Rattle.std.specs.List.{range_with_len, list_all}
 use Rattle.op_base.specs.Timestamp.{entry}
@@ -22,7 +23,7 @@ abbrev pub next_tag : ℕ → ℕ → List Message → List ℕ
 next_tag n me history = slice_set (counts n history) me (count_of history me + 1)
 
 -- Whether a message can be delivered after a history: it is its origin's next, and each other message that it has
--- seen is there. This is causal delivery, as in the paper.
+-- seen is there. This is causal delivery, as in Baquero, Almeida and Shoker (arXiv 1710.04469).
 abbrev pub is_deliverable : ℕ → List Message → Message → Bool
 is_deliverable n history m =
     (number m == count_of history m.origin + 1)

@@ -1,5 +1,5 @@
--- Which operations are logged, and which later operation makes an earlier one redundant. The table is this project's
--- own profile.
+-- Which operations are logged, and which later operation makes an earlier one redundant. That one may do so is the idea
+-- of Baquero, Almeida and Shoker (arXiv 1710.04469); the table is this project's own profile.
 use Rattle.std.specs.Prelude.{ℕ, Bool, true, false, ◌&&◌, ◌||◌, List, Option, Some, None}
 use Rattle.op_base.specs.Name.{same_text}
 use Rattle.op_base.specs.Object.{same_object}
@@ -40,10 +40,12 @@ covers_act MvReg later earlier = true
 covers_act Counter later earlier = false
 covers_act RCounter later earlier = is_clear later
 
--- the table's rules, over updates: covering asks for one object, and for an earlier update that is logged
+-- the table's rule of what is logged, over updates
 abbrev pub store_keeps : Update → Bool
 store_keeps u = keeps_act u.object.kind u.act
 
+-- The table's rule of what covers, over updates: both are of one object, the earlier one is one that is logged, and the
+-- later act covers the earlier.
 abbrev pub store_covers : Update → Update → Bool
 store_covers later earlier =
     same_object later.object earlier.object && store_keeps earlier && covers_act earlier.object.kind later.act earlier.act

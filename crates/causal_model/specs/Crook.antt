@@ -31,13 +31,14 @@ abbrev pub regress_of : ℕ → List Message → Message → Option Crook
 regress_of n history m =
     option_map (λ x. Regress x (entry (last_tag n history m.origin) x) (entry m.tag x)) (fallen_at n (last_tag n history m.origin) m.tag)
 
--- the message of member x that this one has seen last had more at some member
+-- the last message of member x that this one has seen had more at some member
 abbrev pub unclosed_at : ℕ → List Message → Message → ℕ → Option Crook
 unclosed_at n history m x =
     if (x == m.origin) || (entry m.tag x == 0) then None
     else option_map (λ y. Unclosed x y (entry (tag_of n history x (entry m.tag x)) y) (entry m.tag y))
     (fallen_at n (tag_of n history x (entry m.tag x)) m.tag)
 
+-- the cause at the first member where there is one
 abbrev pub unclosed_of : ℕ → List Message → Message → Option Crook
 unclosed_of n history m = first_some (map (unclosed_at n history m) (members n))
 

@@ -1,4 +1,6 @@
 -- Histories: the messages that one member has delivered, its own among them, oldest first.
+-- Causal delivery is as in Baquero, Almeida and Shoker (arXiv 1710.04469); the checks for crooked messages are
+-- this project's own profile.
 use Rattle.std.specs.Prelude.{ℕ, Bool, true, not, ◌||◌, ◌&&◌, ◌==◌, nat_eq, is_none, List, [], ◌∷◌, ◌++◌}
 use Rattle.std.specs.Cmp.Lexicographic.{pointwise}
 use Rattle.op_base.specs.Message.{fits}

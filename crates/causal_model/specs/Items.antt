@@ -1,6 +1,6 @@
--- A finite map of items, as a list of them.
-use Rattle.std.specs.Prelude.{◌≡◌, ℕ, Bool, false, pos, List, [], ◌∷◌, Option, Some, None, if◌then◌else◌, AllPairs}
-use Rattle.std.specs.Ordering.{is_eq}
+-- A finite map of items, as a list of them. The cells are this project's own profile.
+use Rattle.std.specs.Prelude.{◌≡◌, ℕ, Bool, false, not, ◌||◌, pos, List, [], ◌∷◌, Option, Some, None, if◌then◌else◌, AllPairs}
+use Rattle.std.specs.Ordering.{is_eq, int_eq}
 use Rattle.op_base.specs.Order.{item_cmp}
 use Rattle.op_base.specs.declared.name.ObjectId.{ObjectId}
 use Rattle.op_base.specs.declared.outcome.Cell.{Cell}
@@ -9,6 +9,10 @@ use Rattle.op_base.specs.declared.outcome.Item.{Item}
 -- the cell with no mark and the sum 0
 abbrev pub zero_cell : Cell
 zero_cell = record { on = false; off = false; sum = pos 0 }
+
+-- whether a cell has a mark or a sum other than 0
+abbrev pub is_filled : Cell → Bool
+is_filled cell = cell.on || cell.off || not (int_eq cell.sum (pos 0))
 
 -- whether an item is of an object and a value
 abbrev pub is_at : ObjectId → Option (List ℕ) → Item → Bool

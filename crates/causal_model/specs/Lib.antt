@@ -18,4 +18,5 @@ pub use Rattle.op_base.specs.Name
 pub use Rattle.op_base.specs.Object
 pub use Rattle.op_base.specs.Operation
 pub mod Worked
+pub mod Table
 pub mod Laws

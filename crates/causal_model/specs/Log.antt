@@ -1,5 +1,5 @@
--- The log of a history: what remains of it in a partially ordered log, as the paper has it. It filters the whole
--- history; nothing is pruned step by step.
+-- The log of a history: what remains of it in a partially ordered log, as in Baquero, Almeida and Shoker (arXiv
+-- 1710.04469). It filters the whole history; nothing is pruned step by step.
 use Rattle.std.specs.Prelude.{ℕ, Bool, false, not, ◌&&◌, List, filter}
 use Rattle.op_base.specs.declared.message.Message.{Message}
 use Rattle.op_base.specs.declared.operation.Update.{Update}

@@ -88,6 +88,7 @@ abbrev pub put_named : Option (List ℕ) → List (List ℕ) → List (List ℕ)
 put_named None values = values
 put_named (Some value) values = put_value value values
 
+-- the values with the one that an operation names of this object, where it is of this object and names one
 abbrev pub put_of : ObjectId → Op → List (List ℕ) → List (List ℕ)
 put_of object op.NoOp values = values
 put_of object (op.Update u) values = if same_object u.object object then put_named (value_of u.act) values else values

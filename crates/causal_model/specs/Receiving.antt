@@ -1,5 +1,7 @@
 -- The rule by which a replica receives. Its state is a history and the early messages: those that were accepted and are
--- not yet delivered, in the order in which they came, at most one of an id.
+-- not yet delivered, in the order in which they came, at most one of an id. That a message waits until it can be
+-- delivered is causal delivery, as in Baquero, Almeida and Shoker (arXiv 1710.04469); the tests and their order are this
+-- project's own profile.
 use Rattle.std.specs.Prelude.{ℕ, zero, suc, ◌+◌, Bool, not, ◌||◌, ◌&&◌, ◌==◌, nat_le, nat_lt, List, [], ◌∷◌, ◌++◌, map, filter, length, Option, Some, None, if◌then◌else◌}
 use Rattle.std.specs.List.{list_any, find}
 use Rattle.op_base.specs.Timestamp.{entry}
@@ -48,37 +50,41 @@ deliverable_of n s member = find (λ m. (m.origin == member) && is_deliverable n
 abbrev pub next_early : ℕ → State → Option Message
 next_early n s = first_some (map (deliverable_of n s) (members n))
 
--- the early messages without those of a message's id
-abbrev pub without : Message → List Message → List Message
-without m early = filter (λ other. not (same_id m other)) early
+-- the early messages that aren't of an id
+abbrev pub without : MessageId → List Message → List Message
+without id early = filter (λ m. not (has_id id m)) early
 
 -- what becomes of an early message: it is delivered, or dropped where it is crooked
 abbrev pub step_of : Message → Option Crook → Step
 step_of m None = step.Took (id_of m)
 step_of m (Some crook) = step.Crook (id_of m) crook
 
+-- the history after an early message was taken: with it, or as it was where the message is crooked
 abbrev pub history_with : List Message → Message → Option Crook → List Message
 history_with history m None = history ++ m ∷ []
 history_with history m (Some crook) = history
 
 -- the state after an early message was taken
 abbrev pub state_with : ℕ → ℕ → ℕ → State → Message → State
-state_with n w me s m = record { history = history_with s.history m (crook_of n w me s.history m); early = without m s.early }
+state_with n w me s m = record { history = history_with s.history m (crook_of n w me s.history m); early = without (id_of m) s.early }
 
--- The steps that are made from a state, and the state then: each takes one early message, until none can be delivered.
--- There are at most as many as early messages, since each step leaves one fewer.
+-- the steps from a state and the state after them, where this early message is taken next, or none is
 abbrev pub steps_from : Option Message → State → (Message → List Step × State) → List Step × State
 steps_from None s take_one = ([], s)
 steps_from (Some m) s take_one = take_one m
 
+-- a step, and then the later ones
 abbrev pub with_step : Step → List Step × State → List Step × State
 with_step step later = (step ∷ later.0, later.1)
 
+-- at most so many steps that are made from a state, and the state after them
 abbrev pub steps_within : ℕ → ℕ → ℕ → ℕ → State → List Step × State
 steps_within n w me zero s = ([], s)
 steps_within n w me (suc most) s =
     steps_from (next_early n s) s (λ m. with_step (step_of m (crook_of n w me s.history m)) (steps_within n w me most (state_with n w me s m)))
 
+-- The steps that are made from a state, and the state then: each takes one early message, until none can be delivered.
+-- There are at most as many as early messages, since each step leaves one fewer.
 abbrev pub steps : ℕ → ℕ → ℕ → State → List Step × State
 steps n w me s = steps_within n w me (length s.early) s
 

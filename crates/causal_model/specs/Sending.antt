@@ -1,4 +1,5 @@
--- The rules by which a replica sends.
+-- The rules by which a replica sends. The windows, the limit, the no-ops and the order of the tests are this project's
+-- own profile.
 use Rattle.std.specs.Prelude.{ℕ, Bool, false, not, ◌||◌, ◌&&◌, ◌==◌, List, fold, if◌then◌else◌}
 use Rattle.op_base.specs.declared.message.Message.{Message}
 use Rattle.op_base.specs.declared.operation.Update.{Update}

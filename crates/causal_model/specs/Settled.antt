@@ -1,7 +1,8 @@
--- Settled items: what remains of the stable messages of a history without their timestamps, as the paper's plain state.
--- Each cell asks all messages of the history; no entry is moved step by step. The cells are this project's profile.
+-- Settled items: what remains of the stable messages of a history without their timestamps, as in the plain state of
+-- Baquero, Almeida and Shoker (arXiv 1710.04469). Of `counter` the sum is over all messages, stable or not. Each cell
+-- asks all messages of the history; no entry is moved step by step. The cells are this project's own profile.
 use Rattle.std.specs.Prelude.{ℕ, Bool, false, not, ◌&&◌, ◌||◌, ℤ, pos, List, [], ◌∷◌, map, filter, fold, Option, Some, None, if◌then◌else◌}
-use Rattle.std.specs.Ordering.{is_lt, is_eq, int_eq}
+use Rattle.std.specs.Ordering.{is_lt, is_eq}
 use Rattle.std.specs.List.{list_any}
 use Rattle.op_base.specs.Order.{item_cmp}
 use Rattle.op_base.specs.declared.name.ObjectId.{ObjectId}
@@ -15,6 +16,7 @@ use Rattle.op_base.specs.declared.operation.Op.{Op}
 use Rattle.op_base.specs.declared.operation.Op.TheVariants as op
 use Rattle.causal_model.specs.Acts.{is_add_of, is_rmv_of, is_write_of, is_enable, is_disable, value_of}
 use Rattle.causal_model.specs.Covering.{store_covers}
+use Rattle.causal_model.specs.Items.{is_filled}
 use Rattle.causal_model.specs.Log.{is_uncovered}
 use Rattle.causal_model.specs.Query.{does, counter_sum}
 use Rattle.causal_model.specs.Stability.{is_stable}
@@ -71,10 +73,6 @@ abbrev pub settled_cell : ℕ → ℕ → List Message → ObjectId → Option (
 settled_cell n me history object None = object_cell n me history object.kind object
 settled_cell n me history object (Some value) = value_cell n me history object.kind object value
 
--- whether a cell has a mark or a sum
-abbrev pub is_filled : Cell → Bool
-is_filled cell = cell.on || cell.off || not (int_eq cell.sum (pos 0))
-
 -- an object and a value put into a list in the order of items, once
 abbrev pub put_place : ObjectId → Option (List ℕ) → List (ObjectId × Option (List ℕ)) → List (ObjectId × Option (List ℕ))
 put_place object value [] = (object, value) ∷ []
@@ -83,6 +81,7 @@ put_place object value (p ∷ ps) =
     else if is_eq (item_cmp object value p.0 p.1) then p ∷ ps
     else p ∷ put_place object value ps
 
+-- the places with the one that an operation names; the no-op names none
 abbrev pub put_place_of : Op → List (ObjectId × Option (List ℕ)) → List (ObjectId × Option (List ℕ))
 put_place_of op.NoOp places = places
 put_place_of (op.Update u) places = put_place u.object (value_of u.act) places

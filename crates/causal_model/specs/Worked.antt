@@ -1,6 +1,6 @@
 -- Worked histories: what the definitions give, computed, beside what was meant. Each is the contract of a function of
--- worked.rt.
-use Rattle.std.specs.Prelude.{◌≡◌, ℕ, zero, suc, true, false, IsTrue, List, [], ◌∷◌, ◌++◌, map, length, Some, None, pos, codes}
+-- worked.rt. What was meant is the rules of this project's own profile, worked out by hand.
+use Rattle.std.specs.Prelude.{◌≡◌, ℕ, zero, suc, true, false, IsTrue, List, [], ◌∷◌, ◌++◌, map, length, All, Some, None, pos, codes}
 use Rattle.op_base.specs.Message.{id_of}
 use Rattle.op_base.specs.Operation.{has_act}
 use Rattle.op_base.specs.declared.name.ObjectId.{ObjectId}
@@ -16,17 +16,18 @@ use Rattle.op_base.specs.declared.outcome.Answer.TheVariants.{Values, Flag, Sum}
 use Rattle.op_base.specs.declared.outcome.Crook.TheVariants as crook
 use Rattle.op_base.specs.declared.outcome.Step.TheVariants as step
 use Rattle.causal_model.specs.Order.{happened_before}
-use Rattle.causal_model.specs.Counts.{counts}
+use Rattle.causal_model.specs.Counts.{counts, is_deliverable}
 use Rattle.causal_model.specs.Stability.{stable_vector}
 use Rattle.causal_model.specs.Crook.{crook_of}
 use Rattle.causal_model.specs.History.{is_history}
 use Rattle.causal_model.specs.Query.{answer}
 use Rattle.causal_model.specs.Covering.{store_keeps, store_covers}
 use Rattle.causal_model.specs.Log.{kept_log}
-use Rattle.causal_model.specs.Settled.{settled_cell, settled_items}
+use Rattle.causal_model.specs.Settled.{on_cell, settled_cell, settled_items}
 use Rattle.causal_model.specs.Sending.{sends, busy, ended, sending, is_noop_due, beats, quiet, held, beat_ended, beating, outbox_of}
 use Rattle.causal_model.specs.Receiving.{State, start, old, again, far, accepts, receiving}
-use Rattle.causal_model.specs.Journal.{replay, receiving_notes}
+use Rattle.causal_model.specs.Journal.{replay, receiving_notes, IsLegal}
+use Rattle.causal_model.specs.declared.note.Note.{Note}
 use Rattle.causal_model.specs.declared.note.Note.TheVariants as note
 
 -- the object of a kind with a key
@@ -93,6 +94,8 @@ pub record AddWins : Type 0 where
   pub at_1 : answer awset_s adds_at_1 ≡ Values (x ∷ [])
   -- before the second add came, it wasn't
   pub removed : answer awset_s (first_add ∷ remove ∷ []) ≡ Values []
+  -- a clear after an add leaves nothing
+  pub cleared : answer awset_s (first_add ∷ does_to 1 (1 ∷ 1 ∷ []) awset_s Clear yes ∷ []) ≡ Values []
 
 -- what is stable there, and what is logged, settled and sent again
 pub record StableAndLog : Type 0 where
@@ -158,6 +161,21 @@ pub record StableRemoveIsVoided : Type 0 where
   pub inside : answer rwset_s after_clear ≡ Values (x ∷ [])
   pub unmarked : settled_cell 3 0 after_clear rwset_s (Some x) ≡ record { on = false; off = false; sum = pos 0 }
 
+-- Three members. Each knows only of its own: member 0 adds, member 1 adds, member 2 removes. Members 1 and 2 then
+-- acknowledge one another, and not member 0.
+abbrev pub both_marks : List Message
+both_marks =
+    does_to 0 (1 ∷ 0 ∷ 0 ∷ []) rwset_s (Add x) yes ∷ does_to 1 (0 ∷ 1 ∷ 0 ∷ []) rwset_s (Add x) yes ∷ does_to 2 (0 ∷ 0 ∷ 1 ∷ []) rwset_s (Rmv x) yes
+    ∷ noop 1 (0 ∷ 2 ∷ 1 ∷ []) ∷ noop 2 (0 ∷ 1 ∷ 2 ∷ []) ∷ []
+
+pub record BothMarks : Type 0 where
+  pub history : IsTrue (is_history 3 4 0 both_marks)
+  -- an add and a remove are settled, and member 0's add is pending
+  pub stable : stable_vector 3 0 both_marks ≡ 0 ∷ 1 ∷ 1 ∷ []
+  pub marks : settled_cell 3 0 both_marks rwset_s (Some x) ≡ record { on = true; off = true; sum = pos 0 }
+  -- the remove has no add after it
+  pub out : answer rwset_s both_marks ≡ Values []
+
 -- ---- flags, registers and counters
 
 -- Member 0 enables a flag, and member 1 disables it, mostly without having seen it.
@@ -167,20 +185,37 @@ flag_f kind = object kind (codes "f")
 abbrev pub enable_e : Message
 enable_e = does_to 0 (1 ∷ 0 ∷ []) (flag_f EwFlag) Enable yes
 
+abbrev pub ew_unseen : List Message
+ew_unseen = enable_e ∷ does_to 1 (0 ∷ 1 ∷ []) (flag_f EwFlag) Disable yes ∷ []
+
+abbrev pub ew_seen : List Message
+ew_seen = enable_e ∷ does_to 1 (1 ∷ 1 ∷ []) (flag_f EwFlag) Disable yes ∷ []
+
 abbrev pub both_d : List Message
 both_d = does_to 0 (1 ∷ 0 ∷ []) (flag_f DwFlag) Enable yes ∷ does_to 1 (0 ∷ 1 ∷ []) (flag_f DwFlag) Disable yes ∷ []
 
+abbrev pub dw_enabled : List Message
+dw_enabled = both_d ++ does_to 0 (2 ∷ 1 ∷ []) (flag_f DwFlag) Enable yes ∷ []
+
+abbrev pub dw_cleared : List Message
+dw_cleared = both_d ++ does_to 1 (0 ∷ 2 ∷ []) (flag_f DwFlag) Clear yes ∷ []
+
 pub record ConcurrentFlags : Type 0 where
+  pub histories : All (λ h. IsTrue (is_history 2 4 0 h)) (ew_unseen ∷ ew_seen ∷ dw_enabled ∷ dw_cleared ∷ [])
   -- of two concurrent ones the enable wins in the one kind, and the disable in the other
-  pub enable_wins : answer (flag_f EwFlag) (enable_e ∷ does_to 1 (0 ∷ 1 ∷ []) (flag_f EwFlag) Disable yes ∷ []) ≡ Flag true
+  pub enable_wins : answer (flag_f EwFlag) ew_unseen ≡ Flag true
   pub disable_wins : answer (flag_f DwFlag) both_d ≡ Flag false
   -- what has seen the other wins in both
-  pub disabled : answer (flag_f EwFlag) (enable_e ∷ does_to 1 (1 ∷ 1 ∷ []) (flag_f EwFlag) Disable yes ∷ []) ≡ Flag false
-  pub enabled : answer (flag_f DwFlag) (both_d ++ does_to 0 (2 ∷ 1 ∷ []) (flag_f DwFlag) Enable yes ∷ []) ≡ Flag true
+  pub disabled : answer (flag_f EwFlag) ew_seen ≡ Flag false
+  pub enabled : answer (flag_f DwFlag) dw_enabled ≡ Flag true
   -- a clear voids the disable that it has seen, and not the enable that it hasn't
-  pub cleared : answer (flag_f DwFlag) (both_d ++ does_to 1 (0 ∷ 2 ∷ []) (flag_f DwFlag) Clear yes ∷ []) ≡ Flag true
+  pub cleared : answer (flag_f DwFlag) dw_cleared ≡ Flag true
+  -- a clear after an enable leaves it off
+  pub cleared_after : answer (flag_f EwFlag) (enable_e ∷ does_to 1 (1 ∷ 1 ∷ []) (flag_f EwFlag) Clear yes ∷ []) ≡ Flag false
   -- the flag of the other kind was never enabled
   pub other_kind : answer (flag_f DwFlag) (enable_e ∷ []) ≡ Flag false
+  -- a settled enable is an on mark
+  pub items : settled_items 2 0 (enable_e ∷ noop 1 (1 ∷ 1 ∷ []) ∷ []) ≡ record { object = flag_f EwFlag; value = None; cell = on_cell true } ∷ []
 
 -- Two members write two registers, each without having seen the other: both write a to one, b and a to the other.
 abbrev pub mvreg_m : ObjectId
@@ -189,9 +224,12 @@ mvreg_m = object MvReg (codes "m")
 abbrev pub mvreg_q : ObjectId
 mvreg_q = object MvReg (codes "q")
 
+abbrev pub own_write : Message
+own_write = does_to 0 (1 ∷ 0 ∷ []) mvreg_m (Write (codes "a")) yes
+
 abbrev pub writes : List Message
 writes =
-    does_to 0 (1 ∷ 0 ∷ []) mvreg_m (Write (codes "a")) yes ∷ does_to 0 (2 ∷ 0 ∷ []) mvreg_q (Write (codes "b")) yes
+    own_write ∷ does_to 0 (2 ∷ 0 ∷ []) mvreg_q (Write (codes "b")) yes
     ∷ does_to 1 (0 ∷ 1 ∷ []) mvreg_m (Write (codes "a")) yes ∷ does_to 1 (0 ∷ 2 ∷ []) mvreg_q (Write (codes "a")) yes ∷ []
 
 pub record ConcurrentWrites : Type 0 where
@@ -200,6 +238,11 @@ pub record ConcurrentWrites : Type 0 where
   pub once : answer mvreg_m writes ≡ Values (codes "a" ∷ [])
   -- two values are in byte order, and not in that of their writes
   pub in_order : answer mvreg_q writes ≡ Values (codes "a" ∷ codes "b" ∷ [])
+  -- a settled write is an on mark of its value
+  pub items : settled_items 2 0 (own_write ∷ noop 1 (1 ∷ 1 ∷ []) ∷ [])
+      ≡ record { object = mvreg_m; value = Some (codes "a"); cell = on_cell true } ∷ []
+  -- a clear after a write leaves none
+  pub cleared : answer mvreg_m (own_write ∷ does_to 1 (1 ∷ 1 ∷ []) mvreg_m Clear yes ∷ []) ≡ Values []
 
 -- A counter is raised by 5 at one member and cleared at another, neither having seen the other.
 abbrev pub rcounter_c : ObjectId
@@ -208,12 +251,20 @@ rcounter_c = object RCounter (codes "c")
 abbrev pub raise : Message
 raise = does_to 0 (1 ∷ 0 ∷ []) rcounter_c (Inc 5) yes
 
+abbrev pub unseen_clear : Message
+unseen_clear = does_to 1 (0 ∷ 1 ∷ []) rcounter_c Clear yes
+
+abbrev pub seen_clear : Message
+seen_clear = does_to 1 (1 ∷ 1 ∷ []) rcounter_c Clear yes
+
 pub record ConcurrentClear : Type 0 where
+  pub histories_0 : All (λ h. IsTrue (is_history 2 4 0 h)) ((raise ∷ unseen_clear ∷ []) ∷ (raise ∷ seen_clear ∷ []) ∷ [])
+  pub history_1 : IsTrue (is_history 2 4 1 (unseen_clear ∷ raise ∷ []))
   -- at both members the amount that the clear hasn't seen is left
-  pub at_0 : answer rcounter_c (raise ∷ does_to 1 (0 ∷ 1 ∷ []) rcounter_c Clear yes ∷ []) ≡ Sum (pos 5)
-  pub at_1 : answer rcounter_c (does_to 1 (0 ∷ 1 ∷ []) rcounter_c Clear yes ∷ raise ∷ []) ≡ Sum (pos 5)
+  pub at_0 : answer rcounter_c (raise ∷ unseen_clear ∷ []) ≡ Sum (pos 5)
+  pub at_1 : answer rcounter_c (unseen_clear ∷ raise ∷ []) ≡ Sum (pos 5)
   -- what it has seen is cleared
-  pub after : answer rcounter_c (raise ∷ does_to 1 (1 ∷ 1 ∷ []) rcounter_c Clear yes ∷ []) ≡ Sum (pos 0)
+  pub after : answer rcounter_c (raise ∷ seen_clear ∷ []) ≡ Sum (pos 0)
 
 -- One member adds 5 to a counter and another takes 5 away.
 abbrev pub counter_c : ObjectId
@@ -226,6 +277,7 @@ abbrev pub down : Message
 down = does_to 1 (0 ∷ 1 ∷ []) counter_c (Dec 5) yes
 
 pub record SettledCounters : Type 0 where
+  pub histories : All (λ h. IsTrue (is_history 2 4 0 h)) ((up ∷ down ∷ []) ∷ (raise ∷ noop 1 (1 ∷ 1 ∷ []) ∷ []) ∷ [])
   -- a counter's item has the amounts of all messages, stable or not
   pub unstable : map (λ item. item.cell.sum) (settled_items 2 0 (up ∷ [])) ≡ pos 5 ∷ []
   -- inc 5 and dec 5 together leave no item
@@ -246,6 +298,7 @@ own_operations =
     ∷ does_to 0 (15 ∷ 0 ∷ []) rcounter_c (Inc 1) yes ∷ does_to 0 (16 ∷ 0 ∷ []) rcounter_c (Dec 1) yes ∷ []
 
 pub record LoggedByKind : Type 0 where
+  pub history : IsTrue (is_history 2 16 0 own_operations)
   -- of what its kind keeps, that which no later operation covers
   pub log : map id_of (kept_log store_keeps store_covers 2 0 own_operations) ≡ id 0 4 ∷ id 0 7 ∷ id 0 9 ∷ id 0 11 ∷ id 0 15 ∷ id 0 16 ∷ []
 
@@ -328,21 +381,33 @@ abbrev pub noops : ℕ → List Message
 noops zero = []
 noops (suc s) = noops s ++ noop 0 (suc s ∷ 0 ∷ 0 ∷ []) ∷ []
 
+-- what member 1 sends with a timestamp
+abbrev pub at_1 : List ℕ → Message
+at_1 tag = does_to 1 tag counter_c (Inc 5) yes
+
+abbrev pub seen_three : List Message
+seen_three = seen_both ++ at_1 (1 ∷ 1 ∷ 1 ∷ []) ∷ []
+
 -- an operation of member 0 that nobody has acknowledged
 abbrev pub one_unstable : State
 one_unstable = record { history = does_to 0 (1 ∷ 0 ∷ 0 ∷ []) counter_c (Inc 1) yes ∷ []; early = [] }
 
 pub record Crooks : Type 0 where
+  pub histories : All (λ h. IsTrue (is_history 3 4 2 h)) (seen_three ∷ noops 5 ∷ [])
+  -- each message that is told here can be delivered
+  pub unclosed_comes : All (λ m. IsTrue (is_deliverable 3 seen_both m)) (at_1 (1 ∷ 1 ∷ 0 ∷ []) ∷ at_1 (1 ∷ 1 ∷ 1 ∷ []) ∷ [])
+  pub regress_comes : All (λ m. IsTrue (is_deliverable 3 seen_three m)) (at_1 (0 ∷ 2 ∷ 1 ∷ []) ∷ at_1 (1 ∷ 2 ∷ 0 ∷ []) ∷ [])
+  pub noop_comes : IsTrue (is_deliverable 3 (noops 5) (noop 0 (6 ∷ 0 ∷ 0 ∷ [])))
   -- it has seen 0:1 and not 2:1, which 0:1 had seen
-  pub unclosed : crook_of 3 4 2 seen_both (does_to 1 (1 ∷ 1 ∷ 0 ∷ []) counter_c (Inc 5) yes) ≡ Some (crook.Unclosed 0 2 1 0)
+  pub unclosed : crook_of 3 4 2 seen_both (at_1 (1 ∷ 1 ∷ 0 ∷ [])) ≡ Some (crook.Unclosed 0 2 1 0)
+  pub unclosed_dropped : receiving 3 4 2 (record { history = seen_both; early = [] }) (at_1 (1 ∷ 1 ∷ 0 ∷ []))
+      ≡ accepts (step.Crook (id 1 1) (crook.Unclosed 0 2 1 0) ∷ []) (record { history = seen_both; early = [] })
   -- it has seen both
-  pub none : crook_of 3 4 2 seen_both (does_to 1 (1 ∷ 1 ∷ 1 ∷ []) counter_c (Inc 5) yes) ≡ None
+  pub none : crook_of 3 4 2 seen_both (at_1 (1 ∷ 1 ∷ 1 ∷ [])) ≡ None
   -- it had seen 0:1 before, and now hasn't
-  pub regress : crook_of 3 4 2 (seen_both ++ does_to 1 (1 ∷ 1 ∷ 1 ∷ []) counter_c (Inc 5) yes ∷ []) (does_to 1 (0 ∷ 2 ∷ 1 ∷ []) counter_c (Inc 5) yes)
-      ≡ Some (crook.Regress 0 1 0)
+  pub regress : crook_of 3 4 2 seen_three (at_1 (0 ∷ 2 ∷ 1 ∷ [])) ≡ Some (crook.Regress 0 1 0)
   -- it is both, and over a window of one too: the first cause is told
-  pub first_cause : crook_of 3 1 2 (seen_both ++ does_to 1 (1 ∷ 1 ∷ 1 ∷ []) counter_c (Inc 5) yes ∷ []) (does_to 1 (1 ∷ 2 ∷ 0 ∷ []) counter_c (Inc 5) yes)
-      ≡ Some (crook.Regress 2 1 0)
+  pub first_cause : crook_of 3 1 2 seen_three (at_1 (1 ∷ 2 ∷ 0 ∷ [])) ≡ Some (crook.Regress 2 1 0)
   -- a second operation while the first is unstable, with a window of one: it is dropped
   pub overrun : receiving 3 1 2 one_unstable (does_to 0 (2 ∷ 0 ∷ 0 ∷ []) counter_c (Inc 1) yes)
       ≡ accepts (step.Crook (id 0 2) (crook.Overrun 2) ∷ []) one_unstable
@@ -366,6 +431,8 @@ pub record BusyUntilStable : Type 0 where
   pub second : sending 2 1 10000 0 (numbered 1 ∷ noop 1 (1 ∷ 1 ∷ []) ∷ []) inc_1 ≡ sends (does_to 0 (2 ∷ 1 ∷ []) counter_c (Inc 1) yes)
   -- a member alone that may send one message has sent it
   pub at_limit : sending 1 1 1 0 (does_to 0 (1 ∷ []) counter_c (Inc 1) yes ∷ []) inc_1 ≡ ended
+  -- at the limit with no room it is busy
+  pub busy_at_limit : sending 2 1 1 0 (numbered 1 ∷ []) inc_1 ≡ busy
 
 -- Member 0 enables a flag, and member 1 acknowledges that.
 pub record NoOpsDue : Type 0 where
@@ -381,6 +448,8 @@ pub record NoOpsDue : Type 0 where
   pub still_due : is_noop_due 2 (write_a ∷ noop 1 (1 ∷ 1 ∷ 0 ∷ []) ∷ []) ≡ true
   -- a member that may send one message has sent it
   pub at_limit : beating 2 1 1 1 (down ∷ up ∷ []) ≡ beat_ended
+  -- at the limit with none due it is quiet
+  pub quiet_at_limit : beating 2 1 1 1 (enable_e ∷ noop 1 (1 ∷ 1 ∷ []) ∷ []) ≡ quiet
 
 -- Two members with a window of one. Member 0 never acknowledges; after three no-ops member 1 sends no more.
 abbrev pub answered : ℕ → List Message
@@ -390,10 +459,28 @@ answered (suc s) = answered s ++ (numbered (suc s) ∷ noop 1 (suc s ∷ suc s �
 abbrev pub unacknowledged : List Message
 unacknowledged = answered 3 ++ numbered 4 ∷ []
 
+-- member 1 sends an operation before its three no-ops, and so four messages
+abbrev pub four_sent : List Message
+four_sent =
+    down ∷ numbered 1 ∷ noop 1 (1 ∷ 2 ∷ []) ∷ numbered 2 ∷ noop 1 (2 ∷ 3 ∷ []) ∷ numbered 3 ∷ noop 1 (3 ∷ 4 ∷ []) ∷ numbered 4 ∷ []
+
 pub record HeldAfterThree : Type 0 where
   pub history : IsTrue (is_history 2 1 1 unacknowledged)
   pub is_held : beating 2 1 10000 1 unacknowledged ≡ held
+  -- at the limit with no room it is held
+  pub history_at_limit : IsTrue (is_history 2 1 1 four_sent)
+  pub held_at_limit : beating 2 1 4 1 four_sent ≡ held
   -- no-ops take no room from operations
   pub operation : sending 2 1 10000 1 unacknowledged inc_1 ≡ sends (does_to 1 (4 ∷ 4 ∷ []) counter_c (Inc 1) yes)
   -- no-ops are sent again too, until they are stable
   pub outbox : map id_of (outbox_of 2 1 unacknowledged) ≡ id 1 1 ∷ id 1 2 ∷ id 1 3 ∷ []
+
+-- ---- journals
+
+-- Member 0 sends an operation, and member 1's no-op answers it.
+pub record LegalJournals : Type 0 where
+  -- the note of the send and then those of the receive are legal
+  pub legal : IsLegal 2 1 10000 0 (note.Sent (numbered 1) ∷ note.Kept (noop 1 (1 ∷ 1 ∷ [])) ∷ note.Took (id 1 1) ∷ [])
+  -- no legal journal begins with a message that is taken or dropped, since none was accepted
+  pub untaken : (n w limit me : ℕ) (first : MessageId) (later : List Note) → IsLegal n w limit me (note.Took first ∷ later) → ⊥
+  pub undropped : (n w limit me : ℕ) (first : MessageId) (later : List Note) → IsLegal n w limit me (note.Crook first ∷ later) → ⊥

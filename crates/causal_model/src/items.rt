@@ -1,10 +1,10 @@
 //! Settled items as their readers see them.
 
-ghost use Rattle.std.specs.Prelude.{◌≡◌, ◌<◌, ℕ, List, Option, length, slice_get, Some, option_copied};
+ghost use Rattle.std.specs.Prelude.{◌≡◌, ◌<◌, ℕ, List, All, IsTrue, Option, length, slice_get, Some, option_copied};
 ghost use Rattle.op_base.specs.declared.name.ObjectId.{ObjectId};
 ghost use Rattle.op_base.specs.declared.outcome.Cell.{Cell};
 ghost use Rattle.op_base.specs.declared.outcome.Item.{Item};
-ghost use Rattle.causal_model.specs.Items.{cell_in, AreApart, IsItem};
+ghost use Rattle.causal_model.specs.Items.{cell_in, is_filled, AreApart, IsItem};
 
 use op_base::{Cell, ObjectId, Value};
 
@@ -28,4 +28,7 @@ pub trait ItemView {
 
     /// No two items are of one object and value.
     ghost apart: { (v : Self) → AreApart (items v) };
+
+    /// Each item's cell has a mark or a sum.
+    ghost filled: { (v : Self) → All (λ item. IsTrue (is_filled item.cell)) (items v) };
 }

@@ -1,6 +1,7 @@
-//! Laws of histories, each the contract of a function that does nothing.
+//! Laws of histories, of receiving, of the table of rules and of settled items, each the contract of a function that does nothing.
 
-ghost use Rattle.causal_model.specs.Laws.{HistoryGrows, OwnMessageIsNext, NumbersAreCounted, CountsAreWithin, OwnMessageIsWithin, CountsAlone, NoneUnstableAlone, NeverBeforeItself, OrderIsTransitive, OrderGoesForward, StableStays, NextIsAfterStable, FewAreUnstable, LogIsBounded, CountsOfOneMore, LastOfOneMore, KnownOfOneMore, UncoveredOfOneMore, LogOfOneMore, SettledOfOneMore, OutboxOfOneMore, DueOfOneMore};
+ghost use Rattle.causal_model.specs.Laws.{HistoryGrows, OwnMessageIsNext, NumbersAreCounted, CountsAreWithin, OwnMessageIsWithin, CountsAlone, NoneUnstableAlone, NeverBeforeItself, OrderIsTransitive, OrderIsAsymmetric, OrderGoesForward, StableStays, NextIsAfterStable, FewAreUnstable, LogIsBounded, CountsOfOneMore, LastOfOneMore, KnownOfOneMore, StableOfOneMore, UncoveredOfOneMore, LogOfOneMore, SettledOfOneMore, PendingOfOneMore, CounterOfOneMore, RCounterOfOneMore, OutboxOfOneMore, DueOfOneMore};
+ghost use Rattle.causal_model.specs.Laws.{NoneIsNextAfterSteps, StepsTakeMessagesOut, CoversOneObject, CoversKeptAlone, CoversTransitively, SettledItemsAreApart, SettledItemsAreCells};
 
 /// A history grows by its next message.
 pub fn history_grows()
@@ -37,6 +38,7 @@ pub fn one_member_alone()
 pub fn messages_are_ordered()
     ensures irreflexive { NeverBeforeItself }
     ensures transitive { OrderIsTransitive }
+    ensures asymmetric { OrderIsAsymmetric }
     ensures forward { OrderGoesForward }
 {}
 
@@ -57,9 +59,32 @@ pub fn one_message_more()
     ensures counts { CountsOfOneMore }
     ensures last { LastOfOneMore }
     ensures known { KnownOfOneMore }
+    ensures stable { StableOfOneMore }
     ensures uncovered { UncoveredOfOneMore }
     ensures log { LogOfOneMore }
     ensures settled { SettledOfOneMore }
+    ensures pending { PendingOfOneMore }
+    ensures counter { CounterOfOneMore }
+    ensures rcounter { RCounterOfOneMore }
     ensures outbox { OutboxOfOneMore }
     ensures due { DueOfOneMore }
+{}
+
+/// The steps of receiving go on until no early message can be delivered, and each takes one out.
+pub fn steps_end()
+    ensures none { NoneIsNextAfterSteps }
+    ensures fewer { StepsTakeMessagesOut }
+{}
+
+/// The table of what is logged and covered meets the laws of a rule.
+pub fn the_table_meets_the_laws_of_rules()
+    ensures one_object { CoversOneObject }
+    ensures kept_alone { CoversKeptAlone }
+    ensures transitive { CoversTransitively }
+{}
+
+/// The settled items are a map: no two are of one object and value, and each has the cell of its own.
+pub fn settled_items_are_the_cells()
+    ensures apart { SettledItemsAreApart }
+    ensures cells { SettledItemsAreCells }
 {}

@@ -1,6 +1,7 @@
 //! Worked histories: that the definitions mean what was meant. Each is the contract of a function that does nothing.
 
-ghost use Rattle.causal_model.specs.Worked.{BeforeAndConcurrent, AddWins, StableAndLog, RemoveWins, AddAfterBothRemoves, StableRemoveIsVoided, ConcurrentFlags, ConcurrentWrites, ConcurrentClear, SettledCounters, LoggedByKind, TakenWithItsCause, JournalReplays, KeptUpToTheWindows, LowestMemberFirst, Crooks, BusyUntilStable, NoOpsDue, HeldAfterThree};
+ghost use Rattle.causal_model.specs.Table.{CoveringTable};
+ghost use Rattle.causal_model.specs.Worked.{BeforeAndConcurrent, AddWins, StableAndLog, RemoveWins, AddAfterBothRemoves, StableRemoveIsVoided, BothMarks, ConcurrentFlags, ConcurrentWrites, ConcurrentClear, SettledCounters, LoggedByKind, TakenWithItsCause, JournalReplays, KeptUpToTheWindows, LowestMemberFirst, Crooks, BusyUntilStable, NoOpsDue, HeldAfterThree, LegalJournals};
 
 /// A message happened before those whose senders had it, and not before itself.
 pub fn messages_are_seen_or_concurrent()
@@ -32,6 +33,11 @@ pub fn a_clear_voids_a_stable_remove()
     ensures { StableRemoveIsVoided }
 {}
 
+/// An item can have both marks, of an add and a remove that are settled while an add is pending.
+pub fn an_item_can_have_both_marks()
+    ensures { BothMarks }
+{}
+
 /// Of a concurrent enable and disable the enable wins in one kind of flag, the disable in the other.
 pub fn a_kind_of_flag_says_what_wins()
     ensures { ConcurrentFlags }
@@ -55,6 +61,11 @@ pub fn a_sum_of_nothing_is_no_item()
 /// A log has what its kind keeps, until a later operation covers it.
 pub fn a_log_has_what_its_kind_keeps()
     ensures { LoggedByKind }
+{}
+
+/// The table of which act covers which, for all acts of each kind.
+pub fn an_act_covers_what_its_kind_says()
+    ensures { CoveringTable }
 {}
 
 /// A message that comes before its cause is early, and is taken with it.
@@ -95,4 +106,9 @@ pub fn a_no_op_is_due_after_an_operation()
 /// A member whose no-ops are never acknowledged sends no more than their window has.
 pub fn no_ops_are_held_at_their_window()
     ensures { HeldAfterThree }
+{}
+
+/// A journal is legal where it is made of whole groups of notes, and so begins with a send or an accepted message.
+pub fn a_journal_is_made_of_whole_groups()
+    ensures { LegalJournals }
 {}

@@ -1,7 +1,9 @@
 use Rattle.causal_model.proofs.Counts.{counts-push}
-use Rattle.causal_model.proofs.Logs.{is_uncovered-push, last_is_uncovered, outbox_of-push, kept_log-push, has_settled-push}
+use Rattle.causal_model.proofs.Logs.{is_uncovered-push, last_is_uncovered, outbox_of-push, kept_log-push, has_settled-push, has_pending-push}
+use Rattle.causal_model.proofs.Queries.{counter_sum-push}
+use Rattle.causal_model.proofs.RCounters.{rcounter_sum-push}
 use Rattle.causal_model.proofs.Sends.{is_noop_due-push}
-use Rattle.causal_model.proofs.Stability.{last_tag-push, known_vector-push}
+use Rattle.causal_model.proofs.Stability.{last_tag-push, known_vector-push, stable_count-push}
 use Rattle.causal_model.proofs.laws.one_message_more.Goals as goal
 
 pub returns-clause-counts : goal.returns-clause-counts
@@ -27,3 +29,15 @@ returns-clause-outbox c = outbox_of-push
 
 pub returns-clause-due : goal.returns-clause-due
 returns-clause-due c = is_noop_due-push
+
+pub returns-clause-stable : goal.returns-clause-stable
+returns-clause-stable c = stable_count-push
+
+pub returns-clause-pending : goal.returns-clause-pending
+returns-clause-pending c = has_pending-push
+
+pub returns-clause-counter : goal.returns-clause-counter
+returns-clause-counter c = counter_sum-push
+
+pub returns-clause-rcounter : goal.returns-clause-rcounter
+returns-clause-rcounter c = rcounter_sum-push
