@@ -5,6 +5,8 @@
 
 mod answers;
 mod replica;
+#[cfg(test)]
+mod tests;
 
 pub use answers::{CreateFault, Local};
 pub use replica::Replica;
