@@ -3,16 +3,16 @@ use Rattle.std.proofs.Common.{◌≡◌, ◌⊎◌, ℕ, ◌<◌, ◌≤◌, Boo
 use Rattle.std.specs.Option.{option_map}
 use Rattle.std.proofs.lemmas.Bool.{false≢true}
 use Rattle.std.proofs.lemmas.Bool.Decides.{nat_tests}
-use Rattle.std.proofs.lemmas.List.{append-nil, append_cancel_right}
-use Rattle.store_io.specs.Bytes.{Gave, Ended, Took}
+use Rattle.std.proofs.lemmas.List.{append-nil}
+use Rattle.store_io.specs.Bytes.{Ended, Took}
 use Rattle.store_program.specs.declared.read.Ending.{Ending}
 use Rattle.store_program.specs.declared.read.Ending.TheVariants.{End, TooLong, Failed}
 use Rattle.store_program.specs.declared.run.Status.{Status}
 use Rattle.store_program.specs.declared.run.Status.TheVariants as status
 use Rattle.store_program.specs.Lines.{lines_of, from_command}
 use Rattle.store_program.specs.Transcript.{transcript}
-use Rattle.store_program.specs.Run.{Verdict, headless, too_long, broken, runs, verdict, most_input, lacks_header, begins_badly, has_ended, Answers, WritesScript, Gives, ReadsAll}
-use Rattle.store_program.specs.Reading.{EndsAs}
+use Rattle.store_program.specs.Run.{Verdict, headless, too_long, broken, runs, verdict, most_input, lacks_header, begins_badly, has_ended, Answers, AnswersInput, WritesScript, ReadsAll}
+use Rattle.store_program.specs.Reading.{EndsAs, GaveSome}
 use Rattle.store_program.specs.Judging.{is_unbroken, RunsInput}
 
 abbrev some_list : List ℕ → Option (List ℕ)
@@ -23,12 +23,6 @@ some_same xs ys e = cc
 
 abbrev by_tests : Bool → Bool → Bool → Verdict
 by_tests bad long unbroken = cond bad headless (cond long too_long (cond unbroken runs broken))
-
--- the bytes that were given are the ones that the source had more before
-given_is : (before after : Option (List ℕ)) (given rest found : List ℕ) → Gave before after found → Gives before after given rest → found ≡ given
-given_is before after given rest found gave gives =
-    let e : some_list (found ++ rest) ≡ some_list (given ++ rest) = ap (option_map (λ r. found ++ r)) (sym gives.after) ∙ sym gave ∙ gives.before in
-    append_cancel_right found given rest (some_same (found ++ rest) (given ++ rest) e)
 
 -- no call failed exactly where the count of faults is as before
 unbroken_is : (ending : Ending) (count : ℕ) (left : Option (List ℕ)) (before after : ℕ) → EndsAs ending count left before after → (before == after) ≡ is_unbroken ending
@@ -57,13 +51,13 @@ breaks_by false false true e = absurd cc
 breaks_by false false false e = refl
 
 -- where reading ended so, enough was read
-reads_where : (ending : Ending) (given rest : List ℕ) (left : Option (List ℕ)) (before after : ℕ) → left ≡ Some rest
-    → EndsAs ending (length given) left before after → ReadsAll (is_unbroken ending) given rest
-reads_where End given rest left before after told ends =
-    record { enough = omega (arith, ends.0); whole = λ t. subst (λ (l : Option (List ℕ)). Ended l) told ends.1 }
-reads_where TooLong given rest left before after told ends =
+reads_where : (ending : Ending) (given : List ℕ) (left : Option (List ℕ)) (before after : ℕ)
+    → EndsAs ending (length given) left before after → ReadsAll (is_unbroken ending) given left
+reads_where End given left before after ends =
+    record { enough = omega (arith, ends.0); whole = λ t. ends.1 }
+reads_where TooLong given left before after ends =
     record { enough = omega (arith, ends.0); whole = λ t. absurd (grind (arith, nat_tests, ends.0)) }
-reads_where Failed given rest left before after told ends =
+reads_where Failed given left before after ends =
     record { enough = omega (arith, ends.0); whole = λ t. absurd (false≢true t) }
 
 failed_where : (ending : Ending) (count : ℕ) (left : Option (List ℕ)) (before after : ℕ) → EndsAs ending count left before after
@@ -105,27 +99,36 @@ good_runs input short good =
     λ i. by_tests (bad i) (long i) true
 
 -- where memory ran out and nothing was written, that answers each verdict
-pub no_memory_answers : (v : Verdict) (given : List ℕ) (old new : Option (List ℕ)) → new ≡ old → Answers v given status.NoMemory old new
+no_memory_answers : (v : Verdict) (given : List ℕ) (old new : Option (List ℕ)) → new ≡ old → Answers v given status.NoMemory old new
 no_memory_answers headless given old new same = (inr refl, same)
 no_memory_answers too_long given old new same = (inr refl, same)
 no_memory_answers broken given old new same = (inr refl, same)
 no_memory_answers runs given old new same = same
+
+-- a call that had no memory answers what the source gave
+pub no_memory_input : (left_old left_new : Option (List ℕ)) (before after : ℕ) (old new : Option (List ℕ)) → GaveSome left_old left_new → new ≡ old
+    → AnswersInput left_old left_new before after old new status.NoMemory
+no_memory_input left_old left_new before after old new gave same = record {
+  given = gave.given;
+  gave = gave.gave;
+  reads = inl refl;
+  answers = no_memory_answers _ gave.given old new same;
+}
 
 module _ (left_before left_after : Option (List ℕ)) (before after : ℕ) (old new : Option (List ℕ)) (r : Status)
     (ran : RunsInput left_before left_after before after old new r) where
   pub words_were_good : r ≡ status.BadWords → ⊥
   words_were_good e = no_bad_words _ ran.given old new (subst (λ (s : Status). Answers (verdict (is_unbroken ran.ending) ran.given) ran.given s old new) e ran.answers)
 
-  pub answers_given : (given rest : List ℕ) → Gives left_before left_after given rest → Answers (verdict (before == after) given) given r old new
-  answers_given given rest gives =
-      subst (λ (unbroken : Bool). Answers (verdict unbroken given) given r old new) (sym (unbroken_is ran.ending _ left_after before after ran.ends))
-      (subst (λ (bytes : List ℕ). Answers (verdict (is_unbroken ran.ending) bytes) bytes r old new) (given_is left_before left_after given rest ran.given ran.gave gives) ran.answers)
-
-  pub reads_all : (given rest : List ℕ) → Gives left_before left_after given rest → ReadsAll (before == after) given rest
-  reads_all given rest gives =
-      let found = given_is left_before left_after given rest ran.given ran.gave gives in
-      rw (unbroken_is ran.ending (length ran.given) left_after before after ran.ends)
-      (reads_where ran.ending given rest left_after before after gives.after (subst (λ (bytes : List ℕ). EndsAs ran.ending (length bytes) left_after before after) found ran.ends))
+  pub answers_input : AnswersInput left_before left_after before after old new r
+  answers_input =
+      let unbroken = unbroken_is ran.ending (length ran.given) left_after before after ran.ends in
+      record {
+        given = ran.given;
+        gave = ran.gave;
+        reads = inr (subst (λ (u : Bool). ReadsAll u ran.given left_after) (sym unbroken) (reads_where ran.ending ran.given left_after before after ran.ends));
+        answers = subst (λ (u : Bool). Answers (verdict u ran.given) ran.given r old new) (sym unbroken) ran.answers;
+      }
 
   pub read_failed : r ≡ status.ReadFault → before < after
   read_failed e =
@@ -139,11 +142,14 @@ module _ (left_before left_after : Option (List ℕ)) (before after : ℕ) (old 
 
   pub completes : (input : List ℕ) → left_before ≡ Some input → length input ≤ most_input → lacks_header true (from_command (lines_of input)) ≡ false
       → after ≡ before → (r ≡ status.WriteFault → ⊥) → (r ≡ status.NoMemory) ⊎ ((r ≡ status.Fine) × Took old new (transcript input))
+  unfolding answers_input
   completes input tells short good steady unfailed =
       let left = left_is input tells in
       let few : length ran.given ≤ most_input = omega (arith, ap length left.2, length-append ran.given left.0) in
       let over : left.0 ≡ [] = subst (λ (l : Option (List ℕ)). Ended l) left.1 (ends_all ran.ending (length ran.given) left_after before after ran.ends steady few) in
-      let gives : Gives left_before left_after input [] = record { before = tells ∙ ap some_list (sym (append-nil input)); after = left.1 ∙ ap some_list over } in
+      let all : ran.given ≡ input = sym (left.2 ∙ (ap (λ (rest : List ℕ). ran.given ++ rest) over ∙ append-nil ran.given)) in
       let same : (before == after) ≡ true = grind (arith, nat_tests, steady) in
       let runs_it : verdict (before == after) input ≡ runs = ap (λ (unbroken : Bool). verdict unbroken input) same ∙ good_runs input short good in
-      script_written input r old new (subst (λ (v : Verdict). Answers v input r old new) runs_it (answers_given input [] gives)) unfailed
+      script_written input r old new
+      (subst (λ (v : Verdict). Answers v input r old new) runs_it
+      (subst (λ (bytes : List ℕ). Answers (verdict (before == after) bytes) bytes r old new) all answers_input.answers)) unfailed

@@ -5,5 +5,6 @@ pub mod Commands
 pub mod Running
 pub mod Progress
 pub mod Beginning
+mod Giving
 pub mod Judgement
 pub mod Answering

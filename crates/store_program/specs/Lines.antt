@@ -11,7 +11,7 @@ is_newline b = b == 10
 abbrev pub is_blank : ℕ → Bool
 is_blank b = b == 32 || b == 9
 
--- The lines of a text, each without its newline and a carriage return before that. What stands behind the last
+-- The lines of a text, each without its newline and one carriage return at its end. What stands behind the last
 -- newline is a line too.
 abbrev pub lines_of : List ℕ → List (List ℕ)
 lines_of bytes = map strip_carriage_return (slice_split is_newline bytes)

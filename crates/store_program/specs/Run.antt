@@ -1,7 +1,7 @@
 -- What a run of the program answers and writes.
-use Rattle.std.specs.Prelude.{◌≡◌, ◌⊎◌, ℕ, ◌+◌, ◌≤◌, IsTrue, Bool, true, false, ◌&&◌, nat_lt, nat_le, List, [], ◌∷◌, ◌++◌, length, take, Option, Some, is_none, codes, if◌then◌else◌}
+use Rattle.std.specs.Prelude.{◌≡◌, ◌⊎◌, ℕ, ◌+◌, ◌≤◌, ◌==◌, IsTrue, Bool, true, false, ◌&&◌, nat_lt, nat_le, List, [], ◌∷◌, length, take, Option, is_none, codes, if◌then◌else◌}
 use Rattle.op_base.specs.Name.{same_text}
-use Rattle.store_io.specs.Bytes.{Took, TookPrefix}
+use Rattle.store_io.specs.Bytes.{Gave, Ended, Took, TookPrefix}
 use Rattle.store_program.specs.declared.run.Status.{Status}
 use Rattle.store_program.specs.declared.run.Status.TheVariants.{Fine, BadHeader, TooLong, ReadFault, WriteFault, NoMemory}
 use Rattle.store_program.specs.Lines.{lines_of, whole_lines_of, from_command}
@@ -17,18 +17,14 @@ abbrev pub ask_for_script : List (List ℕ) → Bool
 ask_for_script (name ∷ mode ∷ []) = same_text mode (codes "script")
 ask_for_script words = false
 
--- In a call the source gave these bytes, and the rest is left.
-pub record Gives (old new : Option (List ℕ)) (given rest : List ℕ) : Type 0 where
-  pub before : old ≡ Some (given ++ rest)
-  pub after : new ≡ Some rest
-
 -- whether lines have no header where a header must be: their first command line is none, or all lines have come and
 -- there is no command line
 abbrev pub lacks_header : Bool → List (List ℕ) → Bool
 lacks_header all [] = all
 lacks_header all (first ∷ lines) = is_none (header_of first)
 
--- whether the bytes that a source gave begin without a header, as far as their whole lines tell
+-- whether the bytes that a source gave begin without a header, as far as the whole lines tell of the first that an
+-- input may have
 abbrev pub begins_badly : Bool → List ℕ → Bool
 begins_badly ended given =
     lacks_header ended (from_command (whole_lines_of ended (take most_input given)))
@@ -39,9 +35,9 @@ has_ended unbroken given = unbroken && nat_le (length given) most_input
 
 -- Of a source that gave these bytes, no more was read than shows that the input is too long, and where it gave its end
 -- nothing is left.
-pub record ReadsAll (unbroken : Bool) (given rest : List ℕ) : Type 0 where
+pub record ReadsAll (unbroken : Bool) (given : List ℕ) (left : Option (List ℕ)) : Type 0 where
   pub enough : length given ≤ most_input + 1
-  pub whole : IsTrue (has_ended unbroken given) → rest ≡ []
+  pub whole : IsTrue (has_ended unbroken given) → Ended left
 
 -- what becomes of an input
 pub data Verdict : Type 0 where
@@ -80,6 +76,14 @@ Answers headless given result old new = IsOrNoMemory BadHeader result × (new �
 Answers too_long given result old new = IsOrNoMemory TooLong result × (new ≡ old)
 Answers broken given result old new = IsOrNoMemory ReadFault result × (new ≡ old)
 Answers runs given result old new = WritesScript given result old new
+
+-- What a call read, answered and wrote: the source gave these bytes, as many as had to be read unless memory ran out,
+-- and they are answered. No call of the source failed exactly where its count of faults is as before.
+pub record AnswersInput (left_old left_new : Option (List ℕ)) (faults_old faults_new : ℕ) (held_old held_new : Option (List ℕ)) (result : Status) : Type 0 where
+  pub given : List ℕ
+  pub gave : Gave left_old left_new given
+  pub reads : (result ≡ NoMemory) ⊎ ReadsAll (faults_old == faults_new) given left_new
+  pub answers : Answers (verdict (faults_old == faults_new) given) given result held_old held_new
 
 -- words and an input that ask for a run: a header, and no byte too many
 pub record IsGoodScript (words : List (List ℕ)) (input : List ℕ) : Type 0 where

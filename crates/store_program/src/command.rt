@@ -20,7 +20,7 @@ pub const MOST_LINE_BYTES: usize = 512;
 /// How many messages a member may send where the header doesn't say.
 pub const USUAL_LIMIT: u32 = 10000;
 
-/// What a script begins with.
+/// What a script begins with. So far it has one form.
 #[derive(Clone, Copy, Debug, PartialEq, Eq)]
 pub enum Header {
     /// A store of `n` members (for now 1) with a window of `w`, 1 to 64, and a limit of 1 to 65535 messages a member.
@@ -30,9 +30,9 @@ pub enum Header {
 /// What a command line asks for.
 #[derive(Debug, PartialEq, Eq, Drop)]
 pub enum Command {
-    /// Member `r` sends an update.
+    /// Member `r` sends an update. `r` is 0 for now, the one member.
     Do { r: u8, update: Update },
-    /// Member `r` answers what an object is.
+    /// Member `r` answers what an object is. `r` is 0 for now.
     Ask { r: u8, object: ObjectId },
 }
 
@@ -41,10 +41,11 @@ pub enum Command {
 pub enum Line {
     /// It has no word, or its first begins with `#`.
     Skip,
+    /// It is a command.
     Run(Command),
     /// It is no command, with the number of its fault.
     Bad(u8),
-    /// There is no memory to read it.
+    /// There is no memory to read it. The read functions give it, and it ends the run.
     NoMemory,
 }
 
@@ -60,6 +61,7 @@ pub fn read_header(alloc: Global, line: &[u8]) -> Result<Option<Header>, NoMemor
     Ok(header_words(words.as_slice()))
 }
 
+/// The header that words are, where they are one.
 fn header_words(words: &[&[u8]]) -> Option<Header>
     ensures header { result ≡ header_words (map (λ word. word.now) words.now) }
     ensures in_range { IfSome result (λ h. IsTrue (is_in_range h)) }
@@ -215,6 +217,7 @@ fn read_act(operation: &[u8], amount: &[u8]) -> Option<Act>
     }
 }
 
+/// Whether a word is a text.
 fn is_text(word: &[u8], text: &[u8]) -> bool
     ensures { result ≡ same_text word.now text.now }
 {

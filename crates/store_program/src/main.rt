@@ -19,8 +19,9 @@ use std::{env, io};
 use store_io::{OpenGate, StdinSource, StdoutSink};
 
 fn main(rt: HostRuntime) -> ExitCode {
-    let Ok(words) = words(&rt) else {
-        return ExitCode::from(Status::NoMemory as u8);
+    let words = match words(&rt) {
+        Ok(words) => words,
+        Err(status) => return ExitCode::from(status as u8),
     };
     let mut source = StdinSource::new(&rt);
     let mut sink = StdoutSink::new(&rt);
@@ -35,7 +36,12 @@ fn main(rt: HostRuntime) -> ExitCode {
     ExitCode::from(status as u8)
 }
 
-/// The program's words, its own name first.
-fn words(rt: &(impl Env + AllocGlobal)) -> io::Result<Vec<String>> {
-    Ok(env::args(rt)?.collect(rt.alloc())?)
+/// The program's words, its own name first. Words that aren't UTF-8 are none of a run's.
+fn words(rt: &(impl Env + AllocGlobal)) -> Result<Vec<String>, Status> {
+    let words = match env::args(rt) {
+        Ok(words) => words.collect(rt.alloc()),
+        Err(error) if error.kind() == io::ErrorKind::InvalidData => return Err(Status::BadWords),
+        Err(_) => return Err(Status::NoMemory),
+    };
+    words.map_err(|_| Status::NoMemory)
 }

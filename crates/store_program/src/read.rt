@@ -1,8 +1,8 @@
 //! Reading: all that a source has, up to one byte more than an input may have.
 
-ghost use Rattle.std.specs.Prelude.{◌≡◌, ◌<◌, ◌≤◌, length, IfOk};
+ghost use Rattle.std.specs.Prelude.{◌≡◌, ◌<◌, ◌≤◌, length, IfOk, OnErr};
 ghost use Rattle.store_io.specs.Bytes.{Gave};
-ghost use Rattle.store_program.specs.Reading.{EndsAs};
+ghost use Rattle.store_program.specs.Reading.{EndsAs, GaveSome};
 
 use op_base::NoMemory;
 use std::alloc::Global;
@@ -27,6 +27,7 @@ pub enum Ending {
 
 /// Puts what a source gives at the end of the bytes, up to one byte more than an input may have.
 pub fn read_all<S: Source>(alloc: Global, source: &mut S) -> Result<(Vec<u8>, Ending), NoMemory>
+    ensures given { OnErr result (GaveSome (S.left source.old) (S.left source.new)) }
     ensures gave { IfOk result (λ input. Gave (S.left source.old) (S.left source.new) input.0.items) }
     ensures ending { IfOk result (λ input. EndsAs input.1 (length input.0.items) (S.left source.new) (S.faults source.old) (S.faults source.new)) }
 {

@@ -1,11 +1,12 @@
 //! The top call: a run of the program over words, a source and a sink.
 
-ghost use Rattle.std.specs.Prelude.{◌≡◌, ◌⊎◌, ◌↔◌, ◌<◌, ◌==◌, false, List, ℕ, Some, map, length, take, IfOk, OnErr, Ok, IsTrue};
+ghost use Rattle.std.specs.Prelude.{◌≡◌, ◌⊎◌, ◌↔◌, ◌<◌, false, List, ℕ, Some, map, length, take, IfOk, OnErr, Ok, IsTrue};
 ghost use Rattle.std.specs.String.{string_bytes};
 ghost use Rattle.store_io.specs.Bytes.{Took};
+ghost use Rattle.store_program.specs.Reading.{GaveSome};
 ghost use Rattle.store_program.specs.Transcript.{transcript};
 ghost use Rattle.store_program.specs.Judging.{IsReadAs, JudgedAs, HasRange, ConcludesAs, RunsInput, is_end, is_unbroken};
-ghost use Rattle.store_program.specs.Run.{ask_for_script, Gives, ReadsAll, Answers, verdict, IsGoodScript};
+ghost use Rattle.store_program.specs.Run.{ask_for_script, AnswersInput, verdict, IsGoodScript};
 
 use crate::read::{Ending, MOST_INPUT, read_all};
 use crate::script::{Start, find_header, run_script};
@@ -63,7 +64,7 @@ fn head(bytes: &[u8]) -> &[u8]
 }
 
 /// Whether the source gave its end.
-fn has_ended(ending: Ending) -> bool
+fn is_end(ending: Ending) -> bool
     ensures { result ≡ is_end ending }
 {
     matches!(ending, Ending::End)
@@ -74,7 +75,7 @@ fn judge(alloc: Global, bytes: &[u8], ending: Ending) -> Result<Judged, NoMemory
     requires { IsReadAs ending (length bytes.now) }
     ensures { IfOk result (JudgedAs (verdict (is_unbroken ending) bytes.now) bytes.now) }
 {
-    let start = find_header(alloc, head(bytes), has_ended(ending))?;
+    let start = find_header(alloc, head(bytes), is_end(ending))?;
     conclude(alloc, start, ending)
 }
 
@@ -102,6 +103,7 @@ fn run_input<S: Source, K: Sink>(
 ) -> Result<Status, NoMemory>
     ensures ran { IfOk result (RunsInput (S.left source.old) (S.left source.new) (S.faults source.old) (S.faults source.new) (K.held sink.old) (K.held sink.new)) }
     ensures write_fault { result ≡ Ok Status.WriteFault → K.faults sink.old < K.faults sink.new }
+    ensures given { OnErr result (GaveSome (S.left source.old) (S.left source.new)) }
     ensures unwritten { OnErr result (K.held sink.new ≡ K.held sink.old) }
 {
     let (bytes, ending) = read_all(alloc, source)?;
@@ -133,13 +135,9 @@ pub fn run<R, S: Source, K: Sink, G: Gate + Sync>(
     ensures unread { result ≡ Status.BadWords → source.new ≡ source.old }
     ensures unwritten { result ≡ Status.BadWords → sink.new ≡ sink.old }
 
-    // What is read, answered and written, for all bytes that the source gave in the call.
-    ensures reads { (given rest : List ℕ) → Gives (S.left source.old) (S.left source.new) given rest
-        → IsTrue (ask_for_script (map string_bytes words.now))
-        → (result ≡ Status.NoMemory) ⊎ ReadsAll (S.faults source.old == S.faults source.new) given rest }
-    ensures answers { (given rest : List ℕ) → Gives (S.left source.old) (S.left source.new) given rest
-        → IsTrue (ask_for_script (map string_bytes words.now))
-        → Answers (verdict (S.faults source.old == S.faults source.new) given) given result (K.held sink.old) (K.held sink.new) }
+    // What is read, answered and written, of the bytes that the source gave in the call.
+    ensures answers { IsTrue (ask_for_script (map string_bytes words.now))
+        → AnswersInput (S.left source.old) (S.left source.new) (S.faults source.old) (S.faults source.new) (K.held sink.old) (K.held sink.new) result }
 
     // A fault is told only where one happened in the call.
     ensures read_fault { result ≡ Status.ReadFault → S.faults source.old < S.faults source.new }

@@ -1,6 +1,6 @@
 //! A script: its header, and the run of its lines on one replica.
 
-ghost use Rattle.std.specs.Prelude.{◌≡◌, ◌++◌, List, [], OnOk, OnErr, IfOk, IsTrue, ◌≢◌};
+ghost use Rattle.std.specs.Prelude.{◌≡◌, ◌++◌, List, [], OnOk, OnErr, IfOk, IsTrue, ◌≢◌, option_copied};
 ghost use Rattle.op_base.specs.declared.message.Message.{Message};
 ghost use Rattle.store_program.specs.Lines.{lines_of, whole_lines_of, from_command};
 ghost use Rattle.store_program.specs.Commands.{line_of};
@@ -9,7 +9,6 @@ ghost use Rattle.store_program.specs.Ranges.{is_in_range, AsksCounter, LineAsksC
 ghost use Rattle.store_program.specs.declared.command.Line.TheVariants as lines;
 ghost use Rattle.store_program.specs.Running.{StandsIn};
 ghost use Rattle.store_program.specs.Beginning.{BeginsAs, StartsWith};
-ghost use Rattle.std.specs.Prelude.{option_copied};
 
 use crate::command::{Command, Header, Line, read_header, read_line};
 use crate::line::split_line;

@@ -224,24 +224,37 @@ fn padded(alloc: Global, head: &[u8], len: usize, tail: &[u8]) -> Result<Vec<u8>
 
 #[test]
 fn an_input_has_at_most_4194304_bytes(rt: HostRuntime) -> Result<(), Fail> {
-    let cases: [(&[u8], &[u8], Status, &[u8]); 5] = [
-        (b"store 1 1\n", b"", Status::Fine, b""),
-        (b"store 1 1\n", b"\n", Status::TooLong, b""),
-        (
-            b"store 1 1\nask 0 counter:a\n",
-            b"\n\n\n",
-            Status::TooLong,
-            b"",
-        ),
-        (b"store 9 1\n", b"\n", Status::BadHeader, b""),
-        // The first command line ends only behind the last byte that may come.
-        (b"", b"store 9 1\n", Status::TooLong, b""),
+    // What stands first, the length to fill up with newlines, what stands behind them.
+    let cases: [(&[u8], usize, &[u8], Status); 5] = [
+        (b"store 1 1\n", MOST_INPUT, b"", Status::Fine),
+        (b"store 1 1\n", MOST_INPUT, b"\n", Status::TooLong),
+        (b"store 9 1\n", MOST_INPUT, b"\n", Status::BadHeader),
+        // The newline of the first command line is the first byte that may not come, and the last one that may.
+        (b"", MOST_INPUT - 9, b"store 9 1\n", Status::TooLong),
+        (b"", MOST_INPUT - 10, b"store 9 1\n\n", Status::BadHeader),
     ];
-    for (head, tail, status, text) in cases {
-        let input = padded(rt.alloc(), head, MOST_INPUT, tail)?;
+    for (head, len, tail, status) in cases {
+        let input = padded(rt.alloc(), head, len, tail)?;
         let (found, written) = script(&rt, input.as_slice())?;
         assert_eq!(rt; found, status);
-        assert_eq!(rt; written.as_slice(), text);
+        assert!(rt; written.is_empty());
+    }
+    Ok(())
+}
+
+#[test]
+fn statuses_are_0_to_6(rt: HostRuntime) -> Result<(), Fail> {
+    let statuses = [
+        Status::Fine,
+        Status::BadWords,
+        Status::BadHeader,
+        Status::TooLong,
+        Status::ReadFault,
+        Status::WriteFault,
+        Status::NoMemory,
+    ];
+    for (number, status) in (0u8..).zip(statuses) {
+        assert_eq!(rt; status as u8, number);
     }
     Ok(())
 }

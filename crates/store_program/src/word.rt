@@ -7,6 +7,7 @@ ghost use Rattle.store_program.specs.Lines.{is_blank, words_of, is_passed_over, 
 use op_base::NoMemory;
 use std::alloc::Global;
 
+/// Whether a byte parts words: a space or a tab.
 fn is_blank(b: u8) -> bool
     ensures { result ≡ is_blank b }
 {

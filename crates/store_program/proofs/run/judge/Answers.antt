@@ -13,7 +13,7 @@ returns c =
     let bytes = c.args.bytes.now in
     let s = c.in_ok-start.start in
     let begins : BeginsAs (is_end ending) (from_command (whole_lines_of (is_end ending) (take most_input bytes))) s
-    = subst (λ (e : Bool). BeginsAs e (from_command (whole_lines_of e (take most_input bytes))) s) c.has_ended.ensures
-    (subst (λ (head : List ℕ). BeginsAs c.has_ended.result (from_command (whole_lines_of c.has_ended.result head)) s) c.head.ensures c.in_ok-start.ensures) in
+    = subst (λ (e : Bool). BeginsAs e (from_command (whole_lines_of e (take most_input bytes))) s) c.is_end.ensures
+    (subst (λ (head : List ℕ). BeginsAs c.is_end.result (from_command (whole_lines_of c.is_end.result head)) s) c.head.ensures c.in_ok-start.ensures) in
     IfOk-weaker c.conclude.result (ConcludesAs ending s) (JudgedAs (verdict (is_unbroken ending) bytes) bytes)
     (λ j h. judged ending bytes s j c.requires begins h) c.conclude.ensures

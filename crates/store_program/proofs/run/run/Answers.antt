@@ -1,6 +1,6 @@
-use Rattle.std.proofs.Common.{Ok, inr, ◌∙◌, sym, arith}
+use Rattle.std.proofs.Common.{Ok, ◌∙◌, sym, arith}
 use Rattle.std.proofs.lemmas.Bool.{false≢true}
-use Rattle.store_program.proofs.Answering.{words_were_good, answers_given, reads_all, read_failed, completes, no_memory_answers}
+use Rattle.store_program.proofs.Answering.{words_were_good, answers_input, read_failed, completes, no_memory_input}
 use Rattle.store_program.proofs.run.run.Goals as goal
 
 pub returns-in-Ok-clause-bad_words : goal.returns-in-Ok-clause-bad_words
@@ -16,10 +16,7 @@ pub returns-in-Ok-clause-unwritten : goal.returns-in-Ok-clause-unwritten
 returns-in-Ok-clause-unwritten g c = λ bad. absurd (words_were_good _ _ _ _ _ _ _ c.in-Ok.ensures.ran bad)
 
 pub returns-in-Ok-clause-answers : goal.returns-in-Ok-clause-answers
-returns-in-Ok-clause-answers g c = λ given rest gives asked. answers_given _ _ _ _ _ _ _ c.in-Ok.ensures.ran given rest gives
-
-pub returns-in-Ok-clause-reads : goal.returns-in-Ok-clause-reads
-returns-in-Ok-clause-reads g c = λ given rest gives asked. inr (reads_all _ _ _ _ _ _ _ c.in-Ok.ensures.ran given rest gives)
+returns-in-Ok-clause-answers g c = λ asked. answers_input _ _ _ _ _ _ _ c.in-Ok.ensures.ran
 
 pub returns-in-Ok-clause-read_fault : goal.returns-in-Ok-clause-read_fault
 returns-in-Ok-clause-read_fault g c = read_failed _ _ _ _ _ _ _ c.in-Ok.ensures.ran
@@ -30,4 +27,4 @@ returns-in-Ok-clause-complete g c = λ input tells good steady unfailed.
     (λ failed. let rose = c.in-Ok.ensures.write_fault (λ i. Ok (failed i)) in absurd (omega (arith, rose, unfailed)))
 
 pub returns-in-Err-clause-answers : goal.returns-in-Err-clause-answers
-returns-in-Err-clause-answers g c = λ given rest gives asked. no_memory_answers _ given _ _ c.in-Err.ensures.unwritten
+returns-in-Err-clause-answers g c = λ asked. no_memory_input _ _ _ _ _ _ c.in-Err.ensures.given c.in-Err.ensures.unwritten
