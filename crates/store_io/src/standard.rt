@@ -1,36 +1,39 @@
-//! Standard input and output, as a source and a sink that tell no bytes. What passes between them
-//! and the system is trusted: no clause says which bytes those are.
+//! Standard input and output, as a source and a sink that tell no bytes.
+//!
+//! They tell exactly what their reader gave and their writer took, as their clauses say wherever those tell their
+//! bytes. The system's own tell none: which bytes pass between them and the system is trusted.
 
-ghost use Rattle.std.specs.Prelude.{◌≡◌, None};
+ghost use Rattle.std.specs.Prelude.{◌≡◌, ◌+◌, ◌<◌, ◌≤◌, None, length, IfOk, OnOk, OnErr};
+ghost use Rattle.std.specs.Io.KnownBytes.{ReadConsumes, WriteAppends};
+ghost use Rattle.store_io.specs.Standard.{InputState, OutputState};
 
+use crate::counts::FaultCount;
 use crate::traits::{Failed, Sink, Source};
-use std::io::{Input, Print, Read};
+use std::io;
+use std::io::{Input, Print, Printer, Read, Write};
 use std::marker::Model;
 
-/// Standard input, which contracts see as the number of its faults. Each read is one read of the
-/// system's, of as many bytes as the buffer takes.
+/// Standard input. Each read is one read of its reader's, of as many bytes as the buffer takes.
 #[derive(Drop)]
 pub struct StdinSource<R: Input> {
     reader: R::Reader,
-    faults: u64,
+    faults: FaultCount,
 }
 
 impl<R: Input> Model for StdinSource<R> {
-    ghost use Rattle.std.specs.Prelude.{ℕ};
+    ghost Value = { InputState };
 
-    ghost Value = { ℕ };
-
-    ghost view = { λ s. s.faults };
+    ghost view = { λ s. record { left = R.Reader.remaining s.reader; faults = s.faults.faults } };
 }
 
 impl<R: Input> StdinSource<R> {
     /// The standard input of a runtime.
     pub fn new(rt: &R) -> StdinSource<R>
-        ensures { result ≡ 0 }
+        ensures { result.faults ≡ 0 }
     {
         StdinSource {
             reader: rt.reader(),
-            faults: 0,
+            faults: FaultCount::none(),
         }
     }
 }
@@ -38,59 +41,69 @@ impl<R: Input> StdinSource<R> {
 impl<R: Input> Source for StdinSource<R> {
     ghost left = { λ _. None };
 
-    ghost faults = { λ s. s };
+    ghost faults = { λ s. s.faults };
 
-    /// After 2^64 - 1 faults, which no run reaches, a fault is told as the end of the input.
-    fn read(&mut self, buf: &mut [u8]) -> Result<usize, Failed> {
+    fn read(&mut self, buf: &mut [u8]) -> Result<usize, Failed>
+        requires { 0 < length buf.old }
+        ensures within { IfOk result (λ count. count ≤ length buf.old) }
+        // What was read is what the reader gave.
+        ensures given { ReadConsumes self.old.left self.new.left result buf.new }
+        ensures steady { OnOk result (self.new.faults ≡ self.old.faults) }
+        ensures fault { OnErr result (self.new.faults ≡ self.old.faults + 1) }
+    {
         match self.reader.read(buf) {
             Ok(count) => Ok(count),
-            Err(_) if self.faults == u64::MAX => Ok(0),
             Err(_) => {
-                self.faults += 1;
+                self.faults = self.faults.one_more();
                 Err(Failed)
             }
         }
     }
 }
 
-/// Standard output, which contracts see as the number of its faults. Each write is one write of the
-/// system's, and no byte is kept back.
+/// Standard output. Each write is one write of its writer's, and no byte is kept back.
 #[derive(Drop)]
-pub struct StdoutSink<R: Print> {
-    rt: R,
-    faults: u64,
+pub struct StdoutSink<W: Write + Drop> {
+    writer: W,
+    faults: FaultCount,
 }
 
-impl<R: Print> Model for StdoutSink<R> {
-    ghost use Rattle.std.specs.Prelude.{ℕ};
+impl<W: Write + Drop> Model for StdoutSink<W> {
+    ghost Value = { OutputState };
 
-    ghost Value = { ℕ };
-
-    ghost view = { λ s. s.faults };
+    ghost view = { λ s. record { held = W.contents s.writer; faults = s.faults.faults } };
 }
 
-impl<R: Print> StdoutSink<R> {
-    /// The standard output of a runtime, which may be lent.
-    pub fn new(rt: R) -> StdoutSink<R>
-        ensures { result ≡ 0 }
+impl<'a, R: Print> StdoutSink<Printer<'a, R>> {
+    /// The standard output of a runtime.
+    pub fn new(rt: &'a R) -> StdoutSink<Printer<'a, R>>
+        ensures { result.faults ≡ 0 }
     {
-        StdoutSink { rt, faults: 0 }
+        StdoutSink {
+            writer: io::writer(rt),
+            faults: FaultCount::none(),
+        }
     }
 }
 
-impl<R: Print> Sink for StdoutSink<R> {
+impl<W: Write + Drop> Sink for StdoutSink<W> {
     ghost held = { λ _. None };
 
-    ghost faults = { λ s. s };
+    ghost faults = { λ s. s.faults };
 
-    /// A write that took nothing is a fault. After 2^64 - 1 faults, which no run reaches, a fault
-    /// is told as a write that took all.
-    fn write(&mut self, piece: &[u8]) -> Result<usize, Failed> {
-        match self.rt.write_some(piece) {
+    /// A write that took nothing is a fault.
+    fn write(&mut self, piece: &[u8]) -> Result<usize, Failed>
+        requires { 0 < length piece.now }
+        ensures within { IfOk result (λ count. (1 ≤ count) × (count ≤ length piece.now)) }
+        // What is told as written is what the writer took.
+        ensures taken { WriteAppends self.old.held self.new.held result piece.now }
+        ensures steady { OnOk result (self.new.faults ≡ self.old.faults) }
+        ensures fault { OnErr result (self.new.faults ≡ self.old.faults + 1) }
+    {
+        match self.writer.write(piece) {
             Ok(count) if count > 0 => Ok(count),
-            _ if self.faults == u64::MAX => Ok(piece.len()),
             _ => {
-                self.faults += 1;
+                self.faults = self.faults.one_more();
                 Err(Failed)
             }
         }

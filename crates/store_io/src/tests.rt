@@ -117,8 +117,8 @@ fn a_steady_source_gives_what_fits(rt: HostRuntime) -> Result<(), Fail> {
     Ok(())
 }
 
-/// A runtime whose input has `a`, then a fault and then the end. Its output refuses three bytes,
-/// takes nothing of two, and takes one.
+/// A runtime whose input has `a`, then two faults and then the end. Its output takes one byte of
+/// four, refuses three, takes nothing of two, and takes one.
 struct Edge;
 
 #[derive(Drop)]
@@ -134,7 +134,7 @@ impl Read for EdgeReader {
                 *first = b'a';
                 Ok(1)
             }
-            (2, _) => Err(io::Error::from(ErrorKind::Other)),
+            (2 | 3, _) => Err(io::Error::from(ErrorKind::Other)),
             _ => Ok(0),
         }
     }
@@ -179,7 +179,7 @@ impl Print for Edge {
 
     fn write_some(&self, bytes: &[u8]) -> io::Result<usize> {
         match bytes.len() {
-            1 => Ok(1),
+            1 | 4 => Ok(1),
             2 => Ok(0),
             _ => Err(io::Error::from(ErrorKind::BrokenPipe)),
         }
@@ -193,9 +193,11 @@ fn the_standard_streams_pass_on_counts_and_faults(rt: HostRuntime) {
     assert_eq!(rt; source.read(&mut buf), Ok(1));
     assert_eq!(rt; buf, *b"a\0");
     assert_eq!(rt; source.read(&mut buf), FAILED);
+    assert_eq!(rt; source.read(&mut buf), FAILED);
     assert_eq!(rt; source.read(&mut buf), Ok(0));
 
     let mut sink = StdoutSink::new(&Edge);
+    assert_eq!(rt; sink.write(b"abcd"), Ok(1));
     assert_eq!(rt; sink.write(b"abc"), FAILED);
     assert_eq!(rt; sink.write(b"ab"), FAILED);
     assert_eq!(rt; sink.write(b"a"), Ok(1));
