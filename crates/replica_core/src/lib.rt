@@ -4,9 +4,11 @@
 #![tactic(auto)]
 
 mod answers;
+mod numbers;
 mod replica;
 #[cfg(test)]
 mod tests;
 
 pub use answers::{CreateFault, Local};
+pub use numbers::are_numbers;
 pub use replica::Replica;

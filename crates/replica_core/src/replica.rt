@@ -15,6 +15,7 @@ ghost use Rattle.causal_model.specs.Query.{amount_of, share_of, counter_sum};
 ghost use Rattle.replica_core.specs.Numbers.{are_numbers};
 
 use crate::answers::{CreateFault, Local};
+use crate::numbers::are_numbers;
 use op_base::{Act, Message, MessageList, NoMemory, ObjectId, Op, Tag, Update};
 use std::alloc::Global;
 
@@ -48,7 +49,7 @@ impl Replica {
         ensures limit { IfOk result (λ r. r.limit ≡ limit) }
         ensures empty { IfOk result (λ r. StandsFor r []) }
     {
-        if n != 1 || w < 1 || w > 64 || limit < 1 || limit > 65535 || me >= n {
+        if !are_numbers(me.into(), n.into(), w.into(), limit) {
             return Err(CreateFault::BadNumbers);
         }
         Ok(Replica {

@@ -12,6 +12,7 @@ ghost use Rattle.store_program.specs.Commands.{header_of, header_words, store_of
 use crate::number::read_number;
 use crate::word::{is_passed_over, words};
 use op_base::{Act, Kind, NameFault, NoMemory, ObjectId, Update};
+use replica_core::are_numbers;
 use std::alloc::Global;
 
 /// A command line, and a header, has at most so many bytes.
@@ -82,7 +83,7 @@ fn store_of(n: u32, w: u32, limit: u32) -> Option<Header>
     ensures header { result ≡ store_of n w limit }
     ensures in_range { IfSome result (λ h. IsTrue (is_in_range h)) }
 {
-    if n != 1 || w < 1 || w > 64 || limit < 1 || limit > 65535 {
+    if !are_numbers(0, n, w, limit) {
         return None;
     }
     Some(Header::Store {
