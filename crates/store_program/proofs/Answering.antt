@@ -1,5 +1,5 @@
 -- What a call of the program answers, from what it read and made of that.
-use Rattle.std.proofs.Common.{◌≡◌, ◌⊎◌, ℕ, ◌<◌, ◌≤◌, Bool, true, false, cond, ◌==◌, nat_lt, List, [], ◌++◌, length, take_all, Option, Some, None, inl, inr, sym, ap, subst, refl, ◌∙◌, arith, length-append}
+use Rattle.std.proofs.Common.{◌≡◌, ◌⊎◌, ℕ, ◌<◌, ◌≤◌, Bool, true, false, ◌==◌, nat_lt, List, [], ◌++◌, length, take_all, Option, Some, None, inl, inr, sym, ap, subst, refl, ◌∙◌, arith, length-append}
 use Rattle.std.specs.Option.{option_map}
 use Rattle.std.proofs.lemmas.Bool.{false≢true}
 use Rattle.std.proofs.lemmas.Bool.Decides.{nat_tests}
@@ -14,15 +14,13 @@ use Rattle.store_program.specs.Transcript.{transcript}
 use Rattle.store_program.specs.Run.{Verdict, headless, too_long, broken, runs, verdict, most_input, lacks_header, begins_badly, has_ended, Answers, AnswersInput, WritesScript, ReadsAll}
 use Rattle.store_program.specs.Reading.{EndsAs, GaveSome}
 use Rattle.store_program.specs.Judging.{is_unbroken, RunsInput}
+use Rattle.store_program.proofs.Judgement.{by_tests}
 
 abbrev some_list : List ℕ → Option (List ℕ)
 some_list xs = Some xs
 
 some_same : (xs ys : List ℕ) → some_list xs ≡ some_list ys → xs ≡ ys
 some_same xs ys e = cc
-
-abbrev by_tests : Bool → Bool → Bool → Verdict
-by_tests bad long unbroken = cond bad headless (cond long too_long (cond unbroken runs broken))
 
 -- no call failed exactly where the count of faults is as before
 unbroken_is : (ending : Ending) (count : ℕ) (left : Option (List ℕ)) (before after : ℕ) → EndsAs ending count left before after → (before == after) ≡ is_unbroken ending

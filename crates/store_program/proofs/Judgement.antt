@@ -65,7 +65,7 @@ too_long-passes_most TooLong bytes h = grind (arith, nat_tests)
 too_long-passes_most Failed bytes h = grind (arith, nat_tests)
 
 -- the verdict by its three tests
-abbrev by_tests : Bool → Bool → Bool → Verdict
+abbrev pub by_tests : Bool → Bool → Bool → Verdict
 by_tests bad long unbroken = cond bad headless (cond long too_long (cond unbroken runs broken))
 
 verdict_on-tests : (ending : Ending) (s : Start) → by_tests (start_lacks (is_end ending) s) (passes_most ending) (is_unbroken ending) ≡ verdict_on ending s
