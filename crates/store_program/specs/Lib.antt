@@ -9,3 +9,4 @@ pub mod Beginning
 pub mod Reading
 pub mod Run
 pub mod Judging
+pub mod Statuses

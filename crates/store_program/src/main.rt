@@ -21,19 +21,19 @@ use store_io::{OpenGate, StdinSource, StdoutSink};
 fn main(rt: HostRuntime) -> ExitCode {
     let words = match words(&rt) {
         Ok(words) => words,
-        Err(status) => return ExitCode::from(status as u8),
+        Err(status) => return status.exit_code(),
     };
     let mut source = StdinSource::new(&rt);
     let mut sink = StdoutSink::new(&rt);
-    let status = run(
+    run(
         &rt,
         rt.alloc(),
         words.as_slice(),
         &mut source,
         &mut sink,
         &OpenGate,
-    );
-    ExitCode::from(status as u8)
+    )
+    .exit_code()
 }
 
 /// The program's words, its own name first. Words that aren't UTF-8 are none of a run's.

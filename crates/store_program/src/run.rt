@@ -1,17 +1,20 @@
 //! The top call: a run of the program over words, a source and a sink.
 
 ghost use Rattle.std.specs.Prelude.{◌≡◌, ◌⊎◌, ◌↔◌, ◌<◌, false, List, ℕ, Some, map, length, take, IfOk, OnErr, Ok, IsTrue};
+ghost use Rattle.std.specs.Process.{exit_status};
 ghost use Rattle.std.specs.String.{string_bytes};
 ghost use Rattle.store_io.specs.Bytes.{Took};
 ghost use Rattle.store_program.specs.Reading.{GaveSome};
 ghost use Rattle.store_program.specs.Transcript.{transcript};
 ghost use Rattle.store_program.specs.Judging.{IsReadAs, JudgedAs, HasRange, ConcludesAs, RunsInput, is_end, is_unbroken};
 ghost use Rattle.store_program.specs.Run.{ask_for_script, AnswersInput, verdict, IsGoodScript};
+ghost use Rattle.store_program.specs.Statuses.{number_of_status};
 
 use crate::read::{Ending, MOST_INPUT, read_all};
 use crate::script::{Start, find_header, run_script};
 use op_base::{NoMemory, Text};
 use std::alloc::Global;
+use std::process::ExitCode;
 use store_io::{Gate, Sink, Source, write_whole};
 
 /// How a run ended. The numbers are the program's exit statuses.
@@ -31,6 +34,15 @@ pub enum Status {
     WriteFault = 5,
     /// There was no memory.
     NoMemory = 6,
+}
+
+impl Status {
+    /// What the program ends with.
+    pub fn exit_code(self) -> ExitCode
+        ensures { exit_status result ≡ number_of_status self }
+    {
+        ExitCode::from(self as u8)
+    }
 }
 
 /// What becomes of an input.

@@ -5,6 +5,7 @@ ghost use Rattle.std.specs.Prelude.{◌≤◌};
 use crate::read::MOST_INPUT;
 use crate::run::{Status, run};
 use std::alloc::{AllocError, Global};
+use std::process::ExitCode;
 use std::test::Fail;
 use store_io::{MemorySink, MemorySource, OpenGate};
 
@@ -243,7 +244,7 @@ fn an_input_has_at_most_4194304_bytes(rt: HostRuntime) -> Result<(), Fail> {
 }
 
 #[test]
-fn statuses_are_0_to_6(rt: HostRuntime) -> Result<(), Fail> {
+fn the_program_ends_with_0_to_6(rt: HostRuntime) -> Result<(), Fail> {
     let statuses = [
         Status::Fine,
         Status::BadWords,
@@ -254,7 +255,7 @@ fn statuses_are_0_to_6(rt: HostRuntime) -> Result<(), Fail> {
         Status::NoMemory,
     ];
     for (number, status) in (0u8..).zip(statuses) {
-        assert_eq!(rt; status as u8, number);
+        assert_eq!(rt; status.exit_code(), ExitCode::from(number));
     }
     Ok(())
 }
