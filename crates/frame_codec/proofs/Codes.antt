@@ -3,7 +3,6 @@ use Rattle.std.proofs.Common.{◌≡◌, ℕ, zero, suc, ◌+◌, ◌<◌, ◌�
 use Rattle.std.specs.Prelude.{Some, IsTrue, nat_lt, nat_le, unwrap_or, if◌then◌else◌}
 use Rattle.std.proofs.lemmas.Bool.{cases_lt, false≢true}
 use Rattle.std.proofs.lemmas.Bool.Decides.{nat_tests}
-use Rattle.op_base.specs.Name.{is_value}
 use Rattle.op_base.specs.Operation.{act_code, has_act}
 use Rattle.op_base.specs.declared.name.Kind.{Kind}
 use Rattle.op_base.specs.declared.name.Kind.TheVariants.{AwSet, RwSet, EwFlag, DwFlag, MvReg, Counter, RCounter}
@@ -11,6 +10,8 @@ use Rattle.op_base.specs.declared.operation.Act.{Act}
 use Rattle.op_base.specs.declared.operation.Act.TheVariants as acts
 use Rattle.frame_codec.specs.declared.fields.Verb.{Verb}
 use Rattle.frame_codec.specs.declared.fields.Verb.TheVariants.{Add, Rmv, Clear, Enable, Disable, Write, Inc, Dec}
+use Rattle.frame_codec.specs.declared.version.Version.{Version}
+use Rattle.frame_codec.specs.Grammar.{is_sent}
 use Rattle.frame_codec.specs.Fault.{takes_value, takes_amount, behind_text, is_text_field}
 use Rattle.frame_codec.specs.Reading.{row_of, act_at, is_argument, behind_act}
 
@@ -32,8 +33,8 @@ each_code : (P : ℕ → Type 0) → Each P 1 19 → (code : ℕ) → 1 ≤ code
 each_code P each code low high = each_at P 1 19 code low (omega arith) each
 
 -- the act that is read for a code has that code
-pub row_code : (code : ℕ) → 1 ≤ code → code ≤ 19 → (bytes : List ℕ) → act_code (row_of code).0 (act_at (row_of code).1 bytes) ≡ Some code
-row_code = each_code (λ code. (bytes : List ℕ) → act_code (row_of code).0 (act_at (row_of code).1 bytes) ≡ Some code)
+pub row_code : (version : Version) (code : ℕ) → 1 ≤ code → code ≤ 19 → (bytes : List ℕ) → act_code (row_of code).0 (act_at version (row_of code).1 bytes) ≡ Some code
+row_code version = each_code (λ code. (bytes : List ℕ) → act_code (row_of code).0 (act_at version (row_of code).1 bytes) ≡ Some code)
     (λ bs. refl, (λ bs. refl, (λ bs. refl, (λ bs. refl, (λ bs. refl, (λ bs. refl, (λ bs. refl, (λ bs. refl, (λ bs. refl, (λ bs. refl, (λ bs. refl, (λ bs. refl, (λ bs. refl, (λ bs. refl, (λ bs. refl, (λ bs. refl, (λ bs. refl, (λ bs. refl, (λ bs. refl, tt)))))))))))))))))))
 
 -- an act without its argument
@@ -86,15 +87,15 @@ passes Write value amount = value
 passes Inc value amount = amount
 passes Dec value amount = amount
 
-argument_passes : (verb : Verb) (bytes : List ℕ) → is_argument verb bytes ≡ passes verb (is_text_field is_value bytes) (nat_le 4 (length bytes))
-argument_passes Add bytes = refl
-argument_passes Rmv bytes = refl
-argument_passes Clear bytes = refl
-argument_passes Enable bytes = refl
-argument_passes Disable bytes = refl
-argument_passes Write bytes = refl
-argument_passes Inc bytes = refl
-argument_passes Dec bytes = refl
+argument_passes : (version : Version) (verb : Verb) (bytes : List ℕ) → is_argument version verb bytes ≡ passes verb (is_text_field version (is_sent version) bytes) (nat_le 4 (length bytes))
+argument_passes version Add bytes = refl
+argument_passes version Rmv bytes = refl
+argument_passes version Clear bytes = refl
+argument_passes version Enable bytes = refl
+argument_passes version Disable bytes = refl
+argument_passes version Write bytes = refl
+argument_passes version Inc bytes = refl
+argument_passes version Dec bytes = refl
 
 or_false : (b : Bool) → not b ≡ (not b || false)
 or_false true = refl
@@ -111,19 +112,19 @@ fails_alike = each_code FailsAlike
 short_tests : (len : ℕ) → not (nat_le 4 len) ≡ nat_lt len 4
 short_tests len = grind (arith, nat_tests)
 
-pub argument_fails : (code : ℕ) → 1 ≤ code → code ≤ 19 → (bytes : List ℕ)
-    → not (is_argument (row_of code).1 bytes) ≡ ((takes_value code && not (is_text_field is_value bytes)) || (takes_amount code && nat_lt (length bytes) 4))
-argument_fails code low high bytes =
-    ap not (argument_passes (row_of code).1 bytes)
-    ∙ fails_alike code low high (is_text_field is_value bytes) (nat_le 4 (length bytes))
-    ∙ ap (λ short. (takes_value code && not (is_text_field is_value bytes)) || (takes_amount code && short)) (short_tests (length bytes))
+pub argument_fails : (version : Version) (code : ℕ) → 1 ≤ code → code ≤ 19 → (bytes : List ℕ)
+    → not (is_argument version (row_of code).1 bytes) ≡ ((takes_value code && not (is_text_field version (is_sent version) bytes)) || (takes_amount code && nat_lt (length bytes) 4))
+argument_fails version code low high bytes =
+    ap not (argument_passes version (row_of code).1 bytes)
+    ∙ fails_alike code low high (is_text_field version (is_sent version) bytes) (nat_le 4 (length bytes))
+    ∙ ap (λ short. (takes_value code && not (is_text_field version (is_sent version) bytes)) || (takes_amount code && short)) (short_tests (length bytes))
 
 -- what stands behind a code's argument is what stands behind its verb's
-pub behind_alike : (code : ℕ) → 1 ≤ code → code ≤ 19 → (bytes : List ℕ)
-    → behind_act (row_of code).1 bytes ≡ (if takes_value code then behind_text bytes else if takes_amount code then drop 4 bytes else bytes)
-behind_alike = each_code (λ code. (bytes : List ℕ) → behind_act (row_of code).1 bytes ≡ (if takes_value code then behind_text bytes else if takes_amount code then drop 4 bytes else bytes))
+pub behind_alike : (version : Version) (code : ℕ) → 1 ≤ code → code ≤ 19 → (bytes : List ℕ)
+    → behind_act version (row_of code).1 bytes ≡ (if takes_value code then behind_text version bytes else if takes_amount code then drop 4 bytes else bytes)
+behind_alike version = each_code (λ code. (bytes : List ℕ) → behind_act version (row_of code).1 bytes ≡ (if takes_value code then behind_text version bytes else if takes_amount code then drop 4 bytes else bytes))
     (λ bs. refl, (λ bs. refl, (λ bs. refl, (λ bs. refl, (λ bs. refl, (λ bs. refl, (λ bs. refl, (λ bs. refl, (λ bs. refl, (λ bs. refl, (λ bs. refl, (λ bs. refl, (λ bs. refl, (λ bs. refl, (λ bs. refl, (λ bs. refl, (λ bs. refl, (λ bs. refl, (λ bs. refl, tt)))))))))))))))))))
 
 -- the kind of a row has the act that is read for it
-pub row_has : (code : ℕ) (row : Kind × Verb) (bytes : List ℕ) (act : Act) → row ≡ row_of code → 1 ≤ code → code ≤ 19 → act ≡ act_at row.1 bytes → IsTrue (has_act row.0 act)
-row_has code row bytes act same low high is = rw (is, same, row_code code low high bytes) refl
+pub row_has : (version : Version) (code : ℕ) (row : Kind × Verb) (bytes : List ℕ) (act : Act) → row ≡ row_of code → 1 ≤ code → code ≤ 19 → act ≡ act_at version row.1 bytes → IsTrue (has_act row.0 act)
+row_has version code row bytes act same low high is = rw (is, same, row_code version code low high bytes) refl

@@ -1,5 +1,5 @@
 -- A text field is read exactly where its text is a name.
-use Rattle.std.proofs.Common.{◌≡◌, ℕ, Bool, true, false, List, [], ◌∷◌, length, refl, sym, ap, ◌∙◌}
+use Rattle.std.proofs.Common.{◌≡◌, ℕ, ◌+◌, Bool, true, false, List, length, refl, sym, ap, ◌∙◌}
 use Rattle.std.specs.Prelude.{Option, Some, None, Result, Ok, Err, IsTrue, ◌↔◌, OnOk, nat_le, ◌&&◌, if◌then◌else◌, nat_lt, ◌==◌}
 use Rattle.std.specs.Option.{option_map}
 use Rattle.std.specs.Str.{is_utf8}
@@ -8,13 +8,14 @@ use Rattle.op_base.specs.Name.{Refuses, key_fault, value_fault, byte_fault, or_e
 use Rattle.op_base.specs.declared.name.NameFault.{NameFault}
 use Rattle.op_base.specs.declared.name.NameFault.TheVariants.{Empty, TooLong, BadByte, NoType, NotUtf8, NoMemory}
 use Rattle.op_base.proofs.Names.{key_exactly, value_exactly}
-use Rattle.frame_codec.specs.Fault.{text_of, is_text_field}
+use Rattle.frame_codec.specs.declared.version.Version.{Version}
+use Rattle.frame_codec.specs.Grammar.{is_carried, is_sent}
+use Rattle.frame_codec.specs.Fault.{length_len, length_at, text_of, is_text_field}
 use Rattle.frame_codec.specs.Reading.{is_name}
 
 -- a whole text field passes where its text does
-pub field_passes : (p : List ℕ → Bool) (bytes : List ℕ) → is_text_field (λ _. true) bytes ≡ true → is_text_field p bytes ≡ p (text_of bytes)
-field_passes p [] h = absurd cc
-field_passes p (len ∷ bytes) h = elim (nat_le len (length bytes)) as (λ b. (b && true) ≡ true → (b && p (text_of (len ∷ bytes))) ≡ p (text_of (len ∷ bytes))) [ true ↦ λ _. refl | false ↦ λ e. absurd cc ] h
+pub field_passes : (version : Version) (p : List ℕ → Bool) (bytes : List ℕ) → is_text_field version (λ _. true) bytes ≡ true → is_text_field version p bytes ≡ p (text_of version bytes)
+field_passes version p bytes h = elim (nat_le (length_len version + length_at version bytes) (length bytes)) as (λ b. (b && true) ≡ true → (b && p (text_of version bytes)) ≡ p (text_of version bytes)) [ true ↦ λ _. refl | false ↦ λ e. absurd cc ] h
 
 -- a fault of the text, and not want of memory
 abbrev IsOfText : Option NameFault → Type 0
@@ -57,14 +58,21 @@ or_of_text None false text = tt
 or_of_text (Some f) utf8 text = text
 
 value_of_text : (bytes : List ℕ) → IsOfText (value_fault bytes)
-value_of_text bytes = or_of_text (byte_fault 64 is_value_byte bytes) (is_utf8 bytes) (bytes_of_text 64 _ (length bytes == 0) (nat_lt 64 (length bytes)) _)
+value_of_text bytes = or_of_text (byte_fault 4096 is_value_byte bytes) (is_utf8 bytes) (bytes_of_text 4096 _ (length bytes == 0) (nat_lt 4096 (length bytes)) _)
 
 pub value_named : {T : Type 0} (bytes : List ℕ) (r : Result T NameFault) → OnOk r (IsTrue (is_value bytes)) → Refuses (value_fault bytes) r → is_name r ≡ is_value bytes
 value_named bytes r valid refused = of_text (value_fault bytes) r (is_value bytes) (value_of_text bytes) (value_exactly bytes) valid refused
 
 -- a whole text field is one of a key where its text was read as one
-pub key_field_named : {T : Type 0} (text bytes : List ℕ) (r : Result T NameFault) → true ≡ is_text_field (λ _. true) bytes → text ≡ text_of bytes → OnOk r (IsTrue (is_key text)) → Refuses (key_fault text) r → is_name r ≡ is_text_field is_key bytes
-key_field_named text bytes r whole is valid refused = key_named text r valid refused ∙ ap is_key is ∙ sym (field_passes is_key bytes (sym whole))
+pub key_field_named : {T : Type 0} (version : Version) (text bytes : List ℕ) (r : Result T NameFault) → true ≡ is_text_field version (λ _. true) bytes → text ≡ text_of version bytes → OnOk r (IsTrue (is_key text)) → Refuses (key_fault text) r → is_name r ≡ is_text_field version is_key bytes
+key_field_named version text bytes r whole is valid refused = key_named text r valid refused ∙ ap is_key is ∙ sym (field_passes version is_key bytes (sym whole))
 
-pub value_field_named : {T : Type 0} (text bytes : List ℕ) (r : Result T NameFault) → true ≡ is_text_field (λ _. true) bytes → text ≡ text_of bytes → OnOk r (IsTrue (is_value text)) → Refuses (value_fault text) r → is_name r ≡ is_text_field is_value bytes
-value_field_named text bytes r whole is valid refused = value_named text r valid refused ∙ ap is_value is ∙ sym (field_passes is_value bytes (sym whole))
+-- one of a value, where the version has values of this length
+pub value_field_named : {T : Type 0} (version : Version) (text bytes : List ℕ) (r : Result T NameFault) → true ≡ is_text_field version (λ _. true) bytes → text ≡ text_of version bytes → is_carried version (length text) ≡ true → OnOk r (IsTrue (is_value text)) → Refuses (value_fault text) r → is_name r ≡ is_text_field version (is_sent version) bytes
+value_field_named version text bytes r whole is carried valid refused =
+    value_named text r valid refused ∙ sym (ap (λ c. c && is_value text) carried) ∙ ap (is_sent version) is ∙ sym (field_passes version (is_sent version) bytes (sym whole))
+
+-- and none where it has not
+pub value_field_none : (version : Version) (text bytes : List ℕ) → true ≡ is_text_field version (λ _. true) bytes → text ≡ text_of version bytes → is_carried version (length text) ≡ false → false ≡ is_text_field version (is_sent version) bytes
+value_field_none version text bytes whole is carried =
+    sym (ap (λ c. c && is_value text) carried) ∙ ap (is_sent version) is ∙ sym (field_passes version (is_sent version) bytes (sym whole))

@@ -1,18 +1,21 @@
 -- A field that is read is the field that was written, and what was written is read again.
-use Rattle.std.proofs.Common.{◌≡◌, ℕ, zero, suc, ◌+◌, ◌*◌, ◌^◌, ◌<◌, ◌≤◌, Bool, true, List, [], ◌∷◌, ◌++◌, length, get_or, take, drop, refl, sym, ap, ◌∙◌, arith, inl, inr}
-use Rattle.std.specs.Prelude.{nat_le}
+use Rattle.std.proofs.Common.{◌≡◌, ℕ, zero, suc, ◌+◌, ◌*◌, ◌^◌, ◌<◌, ◌≤◌, Bool, true, false, List, [], ◌∷◌, ◌++◌, length, get_or, take, drop, refl, sym, ap, ◌∙◌, append_assoc, arith, inl, inr}
+use Rattle.std.specs.Prelude.{IsTrue, nat_le, nat_lt, ◌&&◌, not}
 use Rattle.std.specs.Int.{w32, from_be_bytes}
-use Rattle.std.specs.List.{flat_map, AllByRecursion}
-use Rattle.std.proofs.lemmas.Bool.{cases_lt, leb-true, le-leb, and_parts}
+use Rattle.std.specs.List.{list_all, flat_map, AllByRecursion}
+use Rattle.std.specs.Str.{is_utf8}
+use Rattle.std.proofs.lemmas.Bool.{cases_lt, leb-true, le-leb, and_parts, and_from, eqb-true, eq-eqb, not-false}
 use Rattle.std.proofs.lemmas.List.{take_at, drop_at, drop-drop, take-append-drop, length-append, length-take, length-drop, get_or-drop, get_or-take, get_or_past}
-use Rattle.std.proofs.lemmas.Nat.{be_bytes_4, from_be_bytes-to_be_bytes_4}
-use Rattle.op_base.specs.Name.{is_value}
+use Rattle.std.proofs.lemmas.Nat.{be_bytes_2, be_bytes_4, from_be_bytes-to_be_bytes_2, from_be_bytes-to_be_bytes_4}
+use Rattle.op_base.specs.Name.{is_short, is_key, is_value, is_value_byte}
 use Rattle.op_base.specs.declared.operation.Act.{Act}
 use Rattle.op_base.specs.declared.operation.Act.TheVariants as acts
 use Rattle.frame_codec.specs.declared.fields.Verb.{Verb}
 use Rattle.frame_codec.specs.declared.fields.Verb.TheVariants.{Add, Rmv, Clear, Enable, Disable, Write, Inc, Dec}
-use Rattle.frame_codec.specs.Grammar.{number_field, text_field, argument_field, IsArgument}
-use Rattle.frame_codec.specs.Fault.{numbers, text_of, behind_text, is_text_field}
+use Rattle.frame_codec.specs.declared.version.Version.{Version}
+use Rattle.frame_codec.specs.declared.version.Version.TheVariants.{One, Two}
+use Rattle.frame_codec.specs.Grammar.{epoch_field, length_field, number_field, text_field, argument_field, is_carried, is_sent, IsArgument}
+use Rattle.frame_codec.specs.Fault.{head_len, is_bad_epoch, length_len, length_at, numbers, text_of, behind_text, is_text_field}
 use Rattle.frame_codec.specs.Reading.{act_at, is_argument, behind_act}
 use Rattle.frame_codec.proofs.Codes.{verb_of}
 
@@ -29,9 +32,8 @@ IsBytes-take n bytes h i =
       | inr le ↦ rw (get_or_past (take n bytes) i 0 (omega (arith, length-take n bytes))) (omega arith)
     ]
 
-pub IsBytes-behind : (bytes : List ℕ) → IsBytes bytes → IsBytes (behind_text bytes)
-IsBytes-behind [] h = h
-IsBytes-behind (len ∷ bytes) h = IsBytes-drop len bytes (λ i. h (suc i))
+pub IsBytes-behind : (version : Version) (bytes : List ℕ) → IsBytes bytes → IsBytes (behind_text version bytes)
+IsBytes-behind version bytes h = IsBytes-drop (length_at version bytes) (drop (length_len version) bytes) (IsBytes-drop (length_len version) bytes h)
 
 -- ---- numbers
 
@@ -68,67 +70,157 @@ pub length-number_fields : (tag : List ℕ) → length (flat_map number_field ta
 length-number_fields [] = refl
 length-number_fields (e ∷ tag) = let others = length-number_fields tag in omega (arith, others)
 
+-- ---- the epoch
+
+-- what stands behind the four first bytes is the epoch of the version and what stands behind the head
+pub epoch_spelled : (version : Version) (epoch : ℕ) (bytes : List ℕ) → IsBytes bytes → head_len version ≤ length bytes → is_bad_epoch version epoch bytes ≡ false → drop 4 bytes ≡ epoch_field version epoch ++ drop (head_len version) bytes
+epoch_spelled One epoch bytes fits long good = refl
+epoch_spelled Two epoch bytes fits long good =
+    let number = number_spelled (drop 4 bytes) (IsBytes-drop 4 bytes fits) (omega (arith, long, length-drop 4 bytes)) in
+    let same : from_be_bytes w32 (take 4 (drop 4 bytes)) ≡ epoch = eqb-true _ _ (not-false _ good) in
+    number ∙ (λ i. number_field (same i) ++ drop-drop 4 4 bytes i)
+
+-- an epoch that was written is the epoch that is read
+pub epoch_again : (version : Version) (epoch a b c d : ℕ) (rest : List ℕ) → epoch < 2 ^ 32 → is_bad_epoch version epoch (a ∷ b ∷ c ∷ d ∷ (epoch_field version epoch ++ rest)) ≡ false
+epoch_again One epoch a b c d rest small = refl
+epoch_again Two epoch a b c d rest small = ap not (eq-eqb _ _ (from_be_bytes-to_be_bytes_4 epoch small))
+
+-- behind a head stands what was written behind it
+pub behind_head : (version : Version) (epoch a b c d : ℕ) (rest : List ℕ) → drop (head_len version) (a ∷ b ∷ c ∷ d ∷ (epoch_field version epoch ++ rest)) ≡ rest
+behind_head One epoch a b c d rest = refl
+behind_head Two epoch a b c d rest = refl
+
+pub length-head : (version : Version) (epoch : ℕ) → 4 + length (epoch_field version epoch) ≡ head_len version
+length-head One epoch = refl
+length-head Two epoch = refl
+
 -- ---- texts
 
+length_spelled : (version : Version) (bytes : List ℕ) → IsBytes bytes → length_len version ≤ length bytes → take (length_len version) bytes ≡ length_field version (length_at version bytes)
+length_spelled One [] fits long = absurd (omega (arith, long))
+length_spelled One (len ∷ bytes) fits long = refl
+length_spelled Two bytes fits long = sym (be_bytes_2 (take 2 bytes) _ (omega (arith, long, length-take 2 bytes)) (IsBytes-take 2 bytes fits) refl)
+
+length_again : (version : Version) (len : ℕ) (rest : List ℕ) → len < 2 ^ 16 → length_at version (length_field version len ++ rest) ≡ len
+length_again One len rest small = refl
+length_again Two len rest small = from_be_bytes-to_be_bytes_2 len small
+
+behind_length : (version : Version) (len : ℕ) (rest : List ℕ) → drop (length_len version) (length_field version len ++ rest) ≡ rest
+behind_length One len rest = refl
+behind_length Two len rest = refl
+
+length-length_field : (version : Version) (len : ℕ) → length (length_field version len) ≡ length_len version
+length-length_field One len = refl
+length-length_field Two len = refl
+
 -- a whole text field is the length and the text, and then what stands behind
-pub text_spelled : (p : List ℕ → Bool) (bytes : List ℕ) → is_text_field p bytes ≡ true → (bytes ≡ text_field (text_of bytes) ++ behind_text bytes) × (p (text_of bytes) ≡ true)
-text_spelled p [] h = absurd cc
-text_spelled p (len ∷ bytes) h =
-    let parts = and_parts (nat_le len (length bytes)) (p (take len bytes)) h in
-    let whole : len ≤ length bytes = leb-true _ _ parts.0 in
-    let long : len ≡ length (take len bytes) = omega (arith, length-take len bytes) in
-    let both = sym (take-append-drop len bytes) in
-    (λ i. long i ∷ both i, parts.1)
+pub text_spelled : (version : Version) (p : List ℕ → Bool) (bytes : List ℕ) → IsBytes bytes → is_text_field version p bytes ≡ true → (bytes ≡ text_field version (text_of version bytes) ++ behind_text version bytes) × (p (text_of version bytes) ≡ true)
+text_spelled version p bytes fits h =
+    let len = length_at version bytes in
+    let rest = drop (length_len version) bytes in
+    let parts = and_parts (nat_le (length_len version + len) (length bytes)) (p (text_of version bytes)) h in
+    let whole : length_len version + len ≤ length bytes = leb-true _ _ parts.0 in
+    let front = length_spelled version bytes fits (omega (arith, whole)) in
+    let long : len ≡ length (take len rest) = omega (arith, whole, length-take len rest, length-drop (length_len version) bytes) in
+    let field : take (length_len version) bytes ≡ length_field version (length (take len rest)) = front ∙ ap (length_field version) long in (
+      sym (take-append-drop (length_len version) bytes) ∙ (λ i. field i ++ sym (take-append-drop len rest) i)
+          ∙ sym (append_assoc (length_field version (length (take len rest))) (take len rest) (drop len rest)),
+      parts.1,
+    )
 
-pub text_whole : (p : List ℕ → Bool) (text rest : List ℕ) → is_text_field p (text_field text ++ rest) ≡ p text
-text_whole p text rest =
-    let long : nat_le (length text) (length (text ++ rest)) ≡ true = le-leb _ _ (omega (arith, length-append text rest)) in
-    rw (long, take_at text rest (length text) refl) refl
+-- the parts of what begins with a text field
+record HasText (version : Version) (text rest : List ℕ) : Type 0 where
+  len : length_at version (text_field version text ++ rest) ≡ length text
+  behind : drop (length_len version) (text_field version text ++ rest) ≡ text ++ rest
 
-pub text_again : (text rest : List ℕ) → text_of (text_field text ++ rest) ≡ text
-text_again text rest = take_at text rest (length text) refl
+has_text : (version : Version) (text rest : List ℕ) → length text < 2 ^ 16 → HasText version text rest
+has_text version text rest small =
+    let regrouped : text_field version text ++ rest ≡ length_field version (length text) ++ (text ++ rest) = append_assoc (length_field version (length text)) text rest in
+    record {
+      len = ap (length_at version) regrouped ∙ length_again version (length text) (text ++ rest) small;
+      behind = ap (drop (length_len version)) regrouped ∙ behind_length version (length text) (text ++ rest);
+    }
 
-pub behind_again : (text rest : List ℕ) → behind_text (text_field text ++ rest) ≡ rest
-behind_again text rest = drop_at text rest (length text) refl
+pub text_again : (version : Version) (text rest : List ℕ) → length text < 2 ^ 16 → text_of version (text_field version text ++ rest) ≡ text
+text_again version text rest small =
+    let parts = has_text version text rest small in
+    (λ i. take (parts.len i) (parts.behind i)) ∙ take_at text rest (length text) refl
+
+pub behind_again : (version : Version) (text rest : List ℕ) → length text < 2 ^ 16 → behind_text version (text_field version text ++ rest) ≡ rest
+behind_again version text rest small =
+    let parts = has_text version text rest small in
+    (λ i. drop (parts.len i) (parts.behind i)) ∙ drop_at text rest (length text) refl
+
+pub text_whole : (version : Version) (p : List ℕ → Bool) (text rest : List ℕ) → length text < 2 ^ 16 → p text ≡ true → is_text_field version p (text_field version text ++ rest) ≡ true
+text_whole version p text rest small passes =
+    let bytes = text_field version text ++ rest in
+    let parts = has_text version text rest small in
+    let front = length-length_field version (length text) in
+    let len : length bytes ≡ length_len version + length text + length rest =
+    omega (arith, front, length-append (text_field version text) rest, length-append (length_field version (length text)) text) in
+    and_from _ _ (le-leb (length_len version + length_at version bytes) (length bytes) (omega (arith, len, parts.len))) (ap p (text_again version text rest small) ∙ passes)
 
 -- ---- arguments
 
 -- an argument that is there is spelled so, and is one of its act
-pub record IsSpelled (verb : Verb) (bytes : List ℕ) : Type 0 where
-  pub parts : bytes ≡ argument_field (act_at verb bytes) ++ behind_act verb bytes
-  pub valid : IsArgument (act_at verb bytes)
+pub record IsSpelled (version : Version) (verb : Verb) (bytes : List ℕ) : Type 0 where
+  pub parts : bytes ≡ argument_field version (act_at version verb bytes) ++ behind_act version verb bytes
+  pub valid : IsArgument version (act_at version verb bytes)
 
 amount_spelled : (bytes : List ℕ) → IsBytes bytes → nat_le 4 (length bytes) ≡ true → (bytes ≡ number_field (from_be_bytes w32 (take 4 bytes)) ++ drop 4 bytes) × (from_be_bytes w32 (take 4 bytes) < 2 ^ 32)
 amount_spelled bytes fits h = (number_spelled bytes fits (leb-true 4 _ h), number_below (take 4 bytes) (IsBytes-take 4 bytes fits))
 
-pub argument_spelled : (verb : Verb) (bytes : List ℕ) → IsBytes bytes → is_argument verb bytes ≡ true → IsSpelled verb bytes
-argument_spelled Add bytes fits h = let t = text_spelled is_value bytes h in record { parts = t.0; valid = t.1 }
-argument_spelled Rmv bytes fits h = let t = text_spelled is_value bytes h in record { parts = t.0; valid = t.1 }
-argument_spelled Clear bytes fits h = record { parts = refl; valid = tt }
-argument_spelled Enable bytes fits h = record { parts = refl; valid = tt }
-argument_spelled Disable bytes fits h = record { parts = refl; valid = tt }
-argument_spelled Write bytes fits h = let t = text_spelled is_value bytes h in record { parts = t.0; valid = t.1 }
-argument_spelled Inc bytes fits h = let t = amount_spelled bytes fits h in record { parts = t.0; valid = t.1 }
-argument_spelled Dec bytes fits h = let t = amount_spelled bytes fits h in record { parts = t.0; valid = t.1 }
+pub argument_spelled : (version : Version) (verb : Verb) (bytes : List ℕ) → IsBytes bytes → is_argument version verb bytes ≡ true → IsSpelled version verb bytes
+argument_spelled version Add bytes fits h = let t = text_spelled version (is_sent version) bytes fits h in record { parts = t.0; valid = t.1 }
+argument_spelled version Rmv bytes fits h = let t = text_spelled version (is_sent version) bytes fits h in record { parts = t.0; valid = t.1 }
+argument_spelled version Clear bytes fits h = record { parts = refl; valid = tt }
+argument_spelled version Enable bytes fits h = record { parts = refl; valid = tt }
+argument_spelled version Disable bytes fits h = record { parts = refl; valid = tt }
+argument_spelled version Write bytes fits h = let t = text_spelled version (is_sent version) bytes fits h in record { parts = t.0; valid = t.1 }
+argument_spelled version Inc bytes fits h = let t = amount_spelled bytes fits h in record { parts = t.0; valid = t.1 }
+argument_spelled version Dec bytes fits h = let t = amount_spelled bytes fits h in record { parts = t.0; valid = t.1 }
 
 -- an argument that was written is read again
-pub record IsAgain (act : Act) (verb : Verb) (bytes rest : List ℕ) : Type 0 where
-  pub whole : is_argument verb bytes ≡ true
-  pub act_is : act_at verb bytes ≡ act
-  pub behind : behind_act verb bytes ≡ rest
+pub record IsAgain (version : Version) (act : Act) (verb : Verb) (bytes rest : List ℕ) : Type 0 where
+  pub whole : is_argument version verb bytes ≡ true
+  pub act_is : act_at version verb bytes ≡ act
+  pub behind : behind_act version verb bytes ≡ rest
 
-value_again : (v rest : List ℕ) → is_value v ≡ true → is_text_field is_value (text_field v ++ rest) ≡ true
-value_again v rest valid = text_whole is_value v rest ∙ valid
+short : (most : ℕ) (text : List ℕ) (passes : Bool) → (is_short most text && passes) ≡ true → length text ≤ most
+short most text passes h =
+    let both = and_parts (is_short most text) passes h in
+    leb-true _ _ (and_parts (nat_lt 0 (length text)) (nat_le (length text) most) both.0).1
+
+pub short_key : (key : List ℕ) → IsTrue (is_key key) → length key < 2 ^ 16
+short_key key valid = let most = short 32 key _ valid in omega (arith, most)
+
+short_value : (version : Version) (value : List ℕ) → is_sent version value ≡ true → length value < 2 ^ 16
+short_value version value valid =
+    let tests = and_parts (is_carried version (length value)) (is_value value) valid in
+    let bytes = and_parts (is_short 4096 value && list_all is_value_byte value) (is_utf8 value) tests.1 in
+    let most = short 4096 value _ bytes.0 in
+    omega (arith, most)
 
 amount_again : (a : ℕ) (rest : List ℕ) → nat_le 4 (length (number_field a ++ rest)) ≡ true
 amount_again a rest = le-leb 4 _ (omega arith)
 
-pub argument_again : (act : Act) (rest : List ℕ) → IsArgument act → IsAgain act (verb_of act) (argument_field act ++ rest) rest
-argument_again (acts.Add v) rest valid = record { whole = value_again v rest valid; act_is = ap acts.Add (text_again v rest); behind = behind_again v rest }
-argument_again (acts.Rmv v) rest valid = record { whole = value_again v rest valid; act_is = ap acts.Rmv (text_again v rest); behind = behind_again v rest }
-argument_again acts.Clear rest valid = record { whole = refl; act_is = refl; behind = refl }
-argument_again acts.Enable rest valid = record { whole = refl; act_is = refl; behind = refl }
-argument_again acts.Disable rest valid = record { whole = refl; act_is = refl; behind = refl }
-argument_again (acts.Write v) rest valid = record { whole = value_again v rest valid; act_is = ap acts.Write (text_again v rest); behind = behind_again v rest }
-argument_again (acts.Inc a) rest valid = record { whole = amount_again a rest; act_is = ap acts.Inc (from_be_bytes-to_be_bytes_4 a valid); behind = refl }
-argument_again (acts.Dec a) rest valid = record { whole = amount_again a rest; act_is = ap acts.Dec (from_be_bytes-to_be_bytes_4 a valid); behind = refl }
+-- a value that was written is read again
+record IsValueAgain (version : Version) (value bytes rest : List ℕ) : Type 0 where
+  whole : is_text_field version (is_sent version) bytes ≡ true
+  value_is : text_of version bytes ≡ value
+  behind : behind_text version bytes ≡ rest
+
+value_again : (version : Version) (value rest : List ℕ) → is_sent version value ≡ true → IsValueAgain version value (text_field version value ++ rest) rest
+value_again version value rest valid =
+    let small = short_value version value valid in
+    record { whole = text_whole version (is_sent version) value rest small valid; value_is = text_again version value rest small; behind = behind_again version value rest small }
+
+pub argument_again : (version : Version) (act : Act) (rest : List ℕ) → IsArgument version act → IsAgain version act (verb_of act) (argument_field version act ++ rest) rest
+argument_again version (acts.Add v) rest valid = let t = value_again version v rest valid in record { whole = t.whole; act_is = ap acts.Add t.value_is; behind = t.behind }
+argument_again version (acts.Rmv v) rest valid = let t = value_again version v rest valid in record { whole = t.whole; act_is = ap acts.Rmv t.value_is; behind = t.behind }
+argument_again version acts.Clear rest valid = record { whole = refl; act_is = refl; behind = refl }
+argument_again version acts.Enable rest valid = record { whole = refl; act_is = refl; behind = refl }
+argument_again version acts.Disable rest valid = record { whole = refl; act_is = refl; behind = refl }
+argument_again version (acts.Write v) rest valid = let t = value_again version v rest valid in record { whole = t.whole; act_is = ap acts.Write t.value_is; behind = t.behind }
+argument_again version (acts.Inc a) rest valid = record { whole = amount_again a rest; act_is = ap acts.Inc (from_be_bytes-to_be_bytes_4 a valid); behind = refl }
+argument_again version (acts.Dec a) rest valid = record { whole = amount_again a rest; act_is = ap acts.Dec (from_be_bytes-to_be_bytes_4 a valid); behind = refl }

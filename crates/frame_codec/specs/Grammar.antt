@@ -1,7 +1,8 @@
--- The grammar of frames of version 1: which bytes spell which message, in a store of n members and a limit.
-use Rattle.std.specs.Prelude.{◌≡◌, ℕ, ◌<◌, ◌≤◌, ◌^◌, List, [], ◌∷◌, ◌++◌, length, IsTrue, All}
+-- The grammar of frames, in two versions: which bytes spell which message, in a store of n members, in an epoch, with a
+-- limit that no entry of a timestamp is above.
+use Rattle.std.specs.Prelude.{◌≡◌, ℕ, ◌<◌, ◌≤◌, ◌^◌, Bool, true, ◌&&◌, nat_le, List, [], ◌∷◌, ◌++◌, length, IsTrue, All}
 use Rattle.std.specs.List.{flat_map}
-use Rattle.std.specs.Int.{w32, to_be_bytes}
+use Rattle.std.specs.Int.{w16, w32, to_be_bytes}
 use Rattle.op_base.specs.Name.{is_key, is_value}
 use Rattle.op_base.specs.Code.{op_code}
 use Rattle.op_base.specs.Message.{fits}
@@ -10,59 +11,96 @@ use Rattle.op_base.specs.declared.operation.Act.{Act}
 use Rattle.op_base.specs.declared.operation.Act.TheVariants.{Add, Rmv, Clear, Enable, Disable, Write, Inc, Dec}
 use Rattle.op_base.specs.declared.operation.Op.{Op}
 use Rattle.op_base.specs.declared.operation.Op.TheVariants as op
+use Rattle.frame_codec.specs.declared.version.Version.{Version}
+use Rattle.frame_codec.specs.declared.version.Version.TheVariants.{One, Two}
 
--- the version of these frames
-abbrev pub version : ℕ
-version = 1
+-- ---- what the versions differ in
 
--- four bytes, the greatest part first
+-- the byte that begins a frame
+abbrev pub version_byte : Version → ℕ
+version_byte One = 1
+version_byte Two = 2
+
+-- the epochs in which a version is read: the first in epoch 0 alone
+abbrev pub IsReadIn : Version → ℕ → Type 0
+IsReadIn One epoch = epoch ≡ 0
+IsReadIn Two epoch = Unit {0}
+
+-- the epoch: nothing in the first version, a number in the second
+abbrev pub epoch_field : Version → ℕ → List ℕ
+epoch_field One epoch = []
+epoch_field Two epoch = to_be_bytes w32 epoch
+
+-- a length: one byte in the first version, two in the second, the greater part first
+abbrev pub length_field : Version → ℕ → List ℕ
+length_field One len = len ∷ []
+length_field Two len = to_be_bytes w16 len
+
+-- whether a version has values of so many bytes: the first has them up to 64
+abbrev pub is_carried : Version → ℕ → Bool
+is_carried One len = nat_le len 64
+is_carried Two len = true
+
+-- ---- what they share
+
+-- a number of four bytes, the greatest part first
 abbrev pub number_field : ℕ → List ℕ
 number_field n = to_be_bytes w32 n
 
--- the length as one byte, and the bytes
-abbrev pub text_field : List ℕ → List ℕ
-text_field bytes = length bytes ∷ bytes
+-- a text is its length and its bytes
+abbrev pub text_field : Version → List ℕ → List ℕ
+text_field version bytes = length_field version (length bytes) ++ bytes
 
 -- the argument of an act: a value as a text, an amount as a number, or nothing
-abbrev pub argument_field : Act → List ℕ
-argument_field (Add v) = text_field v
-argument_field (Rmv v) = text_field v
-argument_field Clear = []
-argument_field Enable = []
-argument_field Disable = []
-argument_field (Write v) = text_field v
-argument_field (Inc a) = number_field a
-argument_field (Dec a) = number_field a
+abbrev pub argument_field : Version → Act → List ℕ
+argument_field version (Add v) = text_field version v
+argument_field version (Rmv v) = text_field version v
+argument_field version Clear = []
+argument_field version Enable = []
+argument_field version Disable = []
+argument_field version (Write v) = text_field version v
+argument_field version (Inc a) = number_field a
+argument_field version (Dec a) = number_field a
 
 -- the key and the argument; the no-op has neither
-abbrev pub operation_fields : Op → List ℕ
-operation_fields op.NoOp = []
-operation_fields (op.Update u) = text_field u.object.key ++ argument_field u.act
+abbrev pub operation_fields : Version → Op → List ℕ
+operation_fields version op.NoOp = []
+operation_fields version (op.Update u) = text_field version u.object.key ++ argument_field version u.act
 
--- The one spelling of a message in a store of n members: version, origin, members, code, a number for each member's
--- entry upwards, and the operation's fields.
-abbrev pub frame_of : ℕ → Message → List ℕ
-frame_of n m = version ∷ m.origin ∷ n ∷ op_code m.op ∷ (flat_map number_field m.tag ++ operation_fields m.op)
+-- The one spelling of a message in a version: version, origin, members, code, epoch, a number for each member's entry
+-- upwards, and the operation's fields.
+abbrev pub frame_of : Version → ℕ → ℕ → Message → List ℕ
+frame_of version n epoch m =
+    version_byte version ∷ m.origin ∷ n ∷ op_code m.op ∷ (epoch_field version epoch ++ (flat_map number_field m.tag ++ operation_fields version m.op))
+
+-- a value that the version has
+abbrev pub is_sent : Version → List ℕ → Bool
+is_sent version value = is_carried version (length value) && is_value value
 
 -- the argument is one that its act can have: a value, or a number of 32 bits
-abbrev pub IsArgument : Act → Type 0
-IsArgument (Add v) = IsTrue (is_value v)
-IsArgument (Rmv v) = IsTrue (is_value v)
-IsArgument Clear = Unit {0}
-IsArgument Enable = Unit {0}
-IsArgument Disable = Unit {0}
-IsArgument (Write v) = IsTrue (is_value v)
-IsArgument (Inc a) = a < 2 ^ 32
-IsArgument (Dec a) = a < 2 ^ 32
+abbrev pub IsArgument : Version → Act → Type 0
+IsArgument version (Add v) = IsTrue (is_sent version v)
+IsArgument version (Rmv v) = IsTrue (is_sent version v)
+IsArgument version Clear = Unit {0}
+IsArgument version Enable = Unit {0}
+IsArgument version Disable = Unit {0}
+IsArgument version (Write v) = IsTrue (is_sent version v)
+IsArgument version (Inc a) = a < 2 ^ 32
+IsArgument version (Dec a) = a < 2 ^ 32
 
 -- the key is a key, and the argument one of its act
-abbrev pub IsOperation : Op → Type 0
-IsOperation op.NoOp = Unit {0}
-IsOperation (op.Update u) = IsTrue (is_key u.object.key) × IsArgument u.act
+abbrev pub IsOperation : Version → Op → Type 0
+IsOperation version op.NoOp = Unit {0}
+IsOperation version (op.Update u) = IsTrue (is_key u.object.key) × IsArgument version u.act
 
--- The bytes are a frame of the message, for n members and a limit that no entry of a timestamp is above.
-pub record IsFrame (n limit : ℕ) (bytes : List ℕ) (m : Message) : Type 0 where
+-- The bytes are the message's spelling in a version, for n members, an epoch and a limit.
+pub record IsSpelling (version : Version) (n epoch limit : ℕ) (bytes : List ℕ) (m : Message) : Type 0 where
+  pub in_epoch : IsReadIn version epoch
   pub fits : IsTrue (fits n m)
   pub within : All (λ e. e ≤ limit) m.tag
-  pub operation : IsOperation m.op
-  pub spelled : bytes ≡ frame_of n m
+  pub operation : IsOperation version m.op
+  pub spelled : bytes ≡ frame_of version n epoch m
+
+-- The bytes are a frame of the message: its spelling in one of the versions.
+abbrev pub IsFrame : ℕ → ℕ → ℕ → List ℕ → Message → Type 0
+IsFrame n epoch limit bytes m = (version : Version) × IsSpelling version n epoch limit bytes m

@@ -1,7 +1,7 @@
 -- What the bytes of a frame say where they have no fault, for the contracts of the readers of its fields.
-use Rattle.std.specs.Prelude.{◌≡◌, ℕ, ◌+◌, ◌*◌, ◌≤◌, Bool, true, false, not, ◌==◌, Result, Ok, Err, Option, Some, None, nat_lt, nat_le, List, [], ◌∷◌, length, take, drop, get_or, if◌then◌else◌}
+use Rattle.std.specs.Prelude.{◌≡◌, ℕ, ◌+◌, ◌*◌, ◌≤◌, Bool, true, false, not, ◌&&◌, ◌==◌, Result, Ok, Err, Option, Some, None, nat_lt, nat_le, List, [], ◌∷◌, length, take, drop, get_or, if◌then◌else◌}
 use Rattle.std.specs.Int.{w32, from_be_bytes}
-use Rattle.op_base.specs.Name.{is_key, is_value}
+use Rattle.op_base.specs.Name.{is_key}
 use Rattle.op_base.specs.declared.message.Message.{Message}
 use Rattle.op_base.specs.declared.name.Kind.{Kind}
 use Rattle.op_base.specs.declared.name.Kind.TheVariants.{AwSet, RwSet, EwFlag, DwFlag, MvReg, Counter, RCounter}
@@ -12,10 +12,12 @@ use Rattle.op_base.specs.declared.operation.Act.TheVariants as acts
 use Rattle.op_base.specs.declared.operation.Op.{Op}
 use Rattle.op_base.specs.declared.operation.Op.TheVariants as op
 use Rattle.frame_codec.specs.declared.fault.FrameFault.{FrameFault}
-use Rattle.frame_codec.specs.declared.fault.FrameFault.TheVariants.{Short, Version, Members, Origin, Code, BadKey, Argument}
+use Rattle.frame_codec.specs.declared.fault.FrameFault.TheVariants.{Short, Version as OfVersion, Epoch, Members, Origin, Code, BadKey, Argument}
 use Rattle.frame_codec.specs.declared.fields.Verb.{Verb}
 use Rattle.frame_codec.specs.declared.fields.Verb.TheVariants.{Add, Rmv, Clear, Enable, Disable, Write, Inc, Dec}
-use Rattle.frame_codec.specs.Fault.{byte_at, code_byte, timestamp_of, behind_timestamp, text_of, behind_text, is_text_field}
+use Rattle.frame_codec.specs.declared.version.Version.{Version}
+use Rattle.frame_codec.specs.Grammar.{version_byte, is_sent}
+use Rattle.frame_codec.specs.Fault.{byte_at, code_byte, head_len, is_read_in, is_bad_epoch, timestamp_of, behind_timestamp, text_of, behind_text, is_text_field}
 
 -- whether the text that a reader of names was given was a name
 abbrev pub is_name : {T : Type 0} → Result T NameFault → Bool
@@ -34,68 +36,69 @@ abbrev pub row_of : ℕ → Kind × Verb
 row_of code = get_or ((RCounter, Clear) ∷ rows) code (RCounter, Clear)
 
 -- whether a verb's argument stands at the front
-abbrev pub is_argument : Verb → List ℕ → Bool
-is_argument Add bytes = is_text_field is_value bytes
-is_argument Rmv bytes = is_text_field is_value bytes
-is_argument Clear bytes = true
-is_argument Enable bytes = true
-is_argument Disable bytes = true
-is_argument Write bytes = is_text_field is_value bytes
-is_argument Inc bytes = nat_le 4 (length bytes)
-is_argument Dec bytes = nat_le 4 (length bytes)
+abbrev pub is_argument : Version → Verb → List ℕ → Bool
+is_argument version Add bytes = is_text_field version (is_sent version) bytes
+is_argument version Rmv bytes = is_text_field version (is_sent version) bytes
+is_argument version Clear bytes = true
+is_argument version Enable bytes = true
+is_argument version Disable bytes = true
+is_argument version Write bytes = is_text_field version (is_sent version) bytes
+is_argument version Inc bytes = nat_le 4 (length bytes)
+is_argument version Dec bytes = nat_le 4 (length bytes)
 
 -- the act of a verb with the argument at the front
-abbrev pub act_at : Verb → List ℕ → Act
-act_at Add bytes = acts.Add (text_of bytes)
-act_at Rmv bytes = acts.Rmv (text_of bytes)
-act_at Clear bytes = acts.Clear
-act_at Enable bytes = acts.Enable
-act_at Disable bytes = acts.Disable
-act_at Write bytes = acts.Write (text_of bytes)
-act_at Inc bytes = acts.Inc (from_be_bytes w32 (take 4 bytes))
-act_at Dec bytes = acts.Dec (from_be_bytes w32 (take 4 bytes))
+abbrev pub act_at : Version → Verb → List ℕ → Act
+act_at version Add bytes = acts.Add (text_of version bytes)
+act_at version Rmv bytes = acts.Rmv (text_of version bytes)
+act_at version Clear bytes = acts.Clear
+act_at version Enable bytes = acts.Enable
+act_at version Disable bytes = acts.Disable
+act_at version Write bytes = acts.Write (text_of version bytes)
+act_at version Inc bytes = acts.Inc (from_be_bytes w32 (take 4 bytes))
+act_at version Dec bytes = acts.Dec (from_be_bytes w32 (take 4 bytes))
 
 -- what stands behind a verb's argument
-abbrev pub behind_act : Verb → List ℕ → List ℕ
-behind_act Add bytes = behind_text bytes
-behind_act Rmv bytes = behind_text bytes
-behind_act Clear bytes = bytes
-behind_act Enable bytes = bytes
-behind_act Disable bytes = bytes
-behind_act Write bytes = behind_text bytes
-behind_act Inc bytes = drop 4 bytes
-behind_act Dec bytes = drop 4 bytes
+abbrev pub behind_act : Version → Verb → List ℕ → List ℕ
+behind_act version Add bytes = behind_text version bytes
+behind_act version Rmv bytes = behind_text version bytes
+behind_act version Clear bytes = bytes
+behind_act version Enable bytes = bytes
+behind_act version Disable bytes = bytes
+behind_act version Write bytes = behind_text version bytes
+behind_act version Inc bytes = drop 4 bytes
+behind_act version Dec bytes = drop 4 bytes
 
 -- the first fault of a key and an argument of this code at the front
-abbrev pub operation_fault : ℕ → List ℕ → Option FrameFault
-operation_fault code bytes =
+abbrev pub operation_fault : Version → ℕ → List ℕ → Option FrameFault
+operation_fault version code bytes =
     if code == 0 then None
-    else if not (is_text_field is_key bytes) then Some BadKey
-    else if not (is_argument (row_of code).1 (behind_text bytes)) then Some Argument
+    else if not (is_text_field version is_key bytes) then Some BadKey
+    else if not (is_argument version (row_of code).1 (behind_text version bytes)) then Some Argument
     else None
 
 -- what stands behind them
-abbrev pub behind_operation : ℕ → List ℕ → List ℕ
-behind_operation code bytes = if code == 0 then bytes else behind_act (row_of code).1 (behind_text bytes)
+abbrev pub behind_operation : Version → ℕ → List ℕ → List ℕ
+behind_operation version code bytes = if code == 0 then bytes else behind_act version (row_of code).1 (behind_text version bytes)
 
 -- the operation is the one of this code with the key and the argument at the front
-abbrev pub SaysOperation : ℕ → List ℕ → Op → Type 0
-SaysOperation code bytes op.NoOp = code ≡ 0
-SaysOperation code bytes (op.Update u) =
-    (1 ≤ code) × (u.object ≡ record { kind = (row_of code).0; key = text_of bytes }) × (u.act ≡ act_at (row_of code).1 (behind_text bytes))
+abbrev pub SaysOperation : Version → ℕ → List ℕ → Op → Type 0
+SaysOperation version code bytes op.NoOp = code ≡ 0
+SaysOperation version code bytes (op.Update u) =
+    (1 ≤ code) × (u.object ≡ record { kind = (row_of code).0; key = text_of version bytes }) × (u.act ≡ act_at version (row_of code).1 (behind_text version bytes))
 
--- the first fault of the four first bytes, and of bytes too short for a timestamp
-abbrev pub head_fault : ℕ → List ℕ → Option FrameFault
-head_fault n bytes =
-    if nat_lt (length bytes) (4 + 4 * n) then Some Short
-    else if not (byte_at bytes 0 == 1) then Some Version
+-- the first fault of what stands in front of the timestamp, and of bytes too short for it and a timestamp
+abbrev pub head_fault : Version → ℕ → ℕ → List ℕ → Option FrameFault
+head_fault version n epoch bytes =
+    if nat_lt (length bytes) (head_len version + 4 * n) then Some Short
+    else if not (byte_at bytes 0 == version_byte version && is_read_in version epoch) then Some OfVersion
+    else if is_bad_epoch version epoch bytes then Some Epoch
     else if not (byte_at bytes 2 == n) then Some Members
     else if nat_le n (byte_at bytes 1) then Some Origin
     else if nat_lt 19 (byte_at bytes 3) then Some Code
     else None
 
 -- the message is what the bytes say
-pub record Says (n : ℕ) (bytes : List ℕ) (m : Message) : Type 0 where
+pub record Says (version : Version) (n : ℕ) (bytes : List ℕ) (m : Message) : Type 0 where
   pub origin : m.origin ≡ byte_at bytes 1
-  pub tag : m.tag ≡ timestamp_of n bytes
-  pub operation : SaysOperation (code_byte bytes) (behind_timestamp n bytes) m.op
+  pub tag : m.tag ≡ timestamp_of version n bytes
+  pub operation : SaysOperation version (code_byte bytes) (behind_timestamp version n bytes) m.op

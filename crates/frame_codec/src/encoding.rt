@@ -1,45 +1,43 @@
-//! The one spelling of a message.
+//! The spelling of a message in version 2, the one that is written.
 
-ghost use Rattle.std.specs.Prelude.{◌≡◌, ◌+◌, ◌≤◌, ◌++◌, ℕ, length, IsTrue, IfOk, OnOk, All};
+ghost use Rattle.std.specs.Prelude.{◌≡◌, ◌+◌, ◌≤◌, ◌<◌, ◌++◌, ℕ, length, IsTrue, IfOk, OnOk, All};
 ghost use Rattle.std.specs.List.{flat_map};
 ghost use Rattle.op_base.specs.Message.{fits};
-ghost use Rattle.frame_codec.specs.Grammar.{number_field, text_field, argument_field, operation_fields, frame_of, IsArgument, IsOperation, IsFrame};
+ghost use Rattle.frame_codec.specs.Grammar.{number_field, length_field, text_field, argument_field, operation_fields, frame_of, IsArgument, IsOperation, IsSpelling};
 
+use crate::version::Version;
 use byteorder::{BigEndian, ByteOrder};
 use op_base::{Act, Message, NoMemory, Op, Tag};
 use std::alloc::Global;
 
-/// The version of these frames.
-pub const VERSION: u8 = 1;
-
-/// How many bytes an act's argument has, 0 to 65.
+/// How many bytes an act's argument has, 0 to 4098.
 fn argument_len(act: &Act) -> usize
-    ensures exact { result ≡ length (argument_field act.now) }
-    ensures few { result ≤ 65 }
+    ensures exact { result ≡ length (argument_field Version.Two act.now) }
+    ensures few { result ≤ 4098 }
 {
     match act {
-        Act::Add(value) | Act::Rmv(value) | Act::Write(value) => 1 + value.as_slice().len(),
+        Act::Add(value) | Act::Rmv(value) | Act::Write(value) => 2 + value.as_slice().len(),
         Act::Clear | Act::Enable | Act::Disable => 0,
         Act::Inc(_) | Act::Dec(_) => 4,
     }
 }
 
-/// How many bytes the key and the argument have, 0 to 98.
+/// How many bytes the key and the argument have, 0 to 4132.
 fn operation_len(op: &Op) -> usize
-    ensures exact { result ≡ length (operation_fields op.now) }
-    ensures few { result ≤ 98 }
+    ensures exact { result ≡ length (operation_fields Version.Two op.now) }
+    ensures few { result ≤ 4132 }
 {
     match op {
         Op::NoOp => 0,
-        Op::Update(update) => 1 + update.object().key.as_slice().len() + argument_len(update.act()),
+        Op::Update(update) => 2 + update.object().key.as_slice().len() + argument_len(update.act()),
     }
 }
 
 /// How many bytes a message's frame has.
 fn frame_len(message: &Message) -> usize
-    ensures { (n : ℕ) → result ≡ length (frame_of n message.now) }
+    ensures { (n epoch : ℕ) → result ≡ length (frame_of Version.Two n epoch message.now) }
 {
-    4 + 4 * message.tag.members() as usize + operation_len(&message.op)
+    8 + 4 * message.tag.members() as usize + operation_len(&message.op)
 }
 
 /// Puts a number of 32 bits at the end, its greatest byte first.
@@ -61,19 +59,28 @@ fn put_timestamp(out: &mut Vec<u8>, tag: &Tag) -> Result<(), NoMemory>
     Ok(())
 }
 
-/// Puts a text's length, as one byte, and the text at the end.
-fn put_text(out: &mut Vec<u8>, text: &[u8]) -> Result<(), NoMemory>
-    requires { length text.now ≤ 255 }
-    ensures { OnOk result (out.new.items ≡ out.old.items ++ text_field text.now) }
+/// Puts a length of 16 bits at the end, its greater byte first.
+fn put_length(out: &mut Vec<u8>, len: u16) -> Result<(), NoMemory>
+    ensures { OnOk result (out.new.items ≡ out.old.items ++ length_field Version.Two len) }
 {
-    out.push(text.len() as u8)?;
+    let mut field = [0; 2];
+    BigEndian::write_u16(&mut field, len);
+    Ok(out.extend_from_slice(&field)?)
+}
+
+/// Puts a text's length and the text at the end.
+fn put_text(out: &mut Vec<u8>, text: &[u8]) -> Result<(), NoMemory>
+    requires { length text.now < 65536 }
+    ensures { OnOk result (out.new.items ≡ out.old.items ++ text_field Version.Two text.now) }
+{
+    put_length(out, text.len() as u16)?;
     Ok(out.extend_from_slice(text)?)
 }
 
 /// Puts an act's argument at the end.
 fn put_argument(out: &mut Vec<u8>, act: &Act) -> Result<(), NoMemory>
-    ensures written { OnOk result (out.new.items ≡ out.old.items ++ argument_field act.now) }
-    ensures valid { IsArgument act.now }
+    ensures written { OnOk result (out.new.items ≡ out.old.items ++ argument_field Version.Two act.now) }
+    ensures valid { IsArgument Version.Two act.now }
 {
     match act {
         Act::Add(value) | Act::Rmv(value) | Act::Write(value) => put_text(out, value.as_slice()),
@@ -84,8 +91,8 @@ fn put_argument(out: &mut Vec<u8>, act: &Act) -> Result<(), NoMemory>
 
 /// Puts the key and the argument at the end.
 fn put_operation(out: &mut Vec<u8>, op: &Op) -> Result<(), NoMemory>
-    ensures written { OnOk result (out.new.items ≡ out.old.items ++ operation_fields op.now) }
-    ensures valid { OnOk result (IsOperation op.now) }
+    ensures written { OnOk result (out.new.items ≡ out.old.items ++ operation_fields Version.Two op.now) }
+    ensures valid { OnOk result (IsOperation Version.Two op.now) }
 {
     match op {
         Op::NoOp => Ok(()),
@@ -96,14 +103,17 @@ fn put_operation(out: &mut Vec<u8>, op: &Op) -> Result<(), NoMemory>
     }
 }
 
-/// The one spelling of a message in a store of n members. Its length is known first, and it is allocated at once.
-pub fn encode(alloc: Global, message: &Message, n: u8) -> Result<Vec<u8>, NoMemory>
-    requires { IsTrue (fits n message.now) }
-    ensures spelled { IfOk result (λ bytes. bytes.items ≡ frame_of n message.now) }
-    ensures frame { (limit : ℕ) → All (λ e. e ≤ limit) message.now.tag → IfOk result (λ bytes. IsFrame n limit bytes.items message.now) }
+/// The spelling of a message in version 2, in a store of n members and an epoch of at most 65535. Its length is known
+/// first, and it is allocated at once.
+pub fn encode(alloc: Global, message: &Message, n: u8, epoch: u32) -> Result<Vec<u8>, NoMemory>
+    requires message { IsTrue (fits n message.now) }
+    requires epoch { epoch ≤ 65535 }
+    ensures spelled { IfOk result (λ bytes. bytes.items ≡ frame_of Version.Two n epoch message.now) }
+    ensures frame { (limit : ℕ) → All (λ e. e ≤ limit) message.now.tag → IfOk result (λ bytes. IsSpelling Version.Two n epoch limit bytes.items message.now) }
 {
     let mut out = Vec::with_capacity(alloc, frame_len(message))?;
-    out.extend_from_slice(&[VERSION, message.origin, n, message.op.code()])?;
+    out.extend_from_slice(&[Version::Two.byte(), message.origin, n, message.op.code()])?;
+    put_number(&mut out, epoch)?;
     put_timestamp(&mut out, &message.tag)?;
     put_operation(&mut out, &message.op)?;
     Ok(out)

@@ -10,10 +10,12 @@ use std::fmt;
 /// Why bytes are no frame. Where several apply, the fault is the first of them in this order.
 #[derive(Clone, Copy, Debug, PartialEq, Eq)]
 pub enum FrameFault {
-    /// The four first bytes and the timestamp aren't all there.
+    /// What stands in front of the key isn't all there.
     Short,
-    /// The version isn't 1.
+    /// The version is none that is read: neither 2 nor, in epoch 0, 1.
     Version,
+    /// The epoch of a frame of version 2 isn't the store's.
+    Epoch,
     /// The number of members isn't the store's.
     Members,
     /// The origin is no member.
@@ -24,7 +26,7 @@ pub enum FrameFault {
     Number,
     /// The key of an update is missing, cut or no key.
     BadKey,
-    /// The value is missing, cut or no value, or the amount is missing or cut.
+    /// The value is missing, cut or none that the version has, or the amount is missing or cut.
     Argument,
     /// Bytes follow the last field.
     Rest,
@@ -40,7 +42,7 @@ pub enum DecodeFault {
 }
 
 impl FrameFault {
-    /// The fault's number, 1 to 9 in their order.
+    /// The fault's number, 1 to 10. `Epoch` has 10 and comes behind 2; the others come in the order of their numbers.
     pub fn number(self) -> u8
         ensures { result ≡ fault_number self }
     {
@@ -54,6 +56,7 @@ impl FrameFault {
             FrameFault::BadKey => 7,
             FrameFault::Argument => 8,
             FrameFault::Rest => 9,
+            FrameFault::Epoch => 10,
         }
     }
 }
@@ -63,6 +66,7 @@ impl fmt::Display for FrameFault {
         f.write_str(match self {
             FrameFault::Short => "too few bytes",
             FrameFault::Version => "another version",
+            FrameFault::Epoch => "another epoch",
             FrameFault::Members => "another number of members",
             FrameFault::Origin => "no such origin",
             FrameFault::Code => "no such operation",

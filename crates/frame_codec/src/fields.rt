@@ -7,11 +7,13 @@ ghost use Rattle.std.specs.Prelude.{◌≡◌, ◌+◌, ◌*◌, ◌≤◌, ◌<
 ghost use Rattle.op_base.specs.Operation.{has_act};
 ghost use Rattle.std.specs.List.{list_any};
 ghost use Rattle.std.specs.Int.{w32, from_be_bytes};
-ghost use Rattle.op_base.specs.Name.{is_key, is_value};
-ghost use Rattle.frame_codec.specs.Fault.{numbers, text_of, behind_text, is_text_field};
+ghost use Rattle.op_base.specs.Name.{is_key};
+ghost use Rattle.frame_codec.specs.Grammar.{is_sent};
+ghost use Rattle.frame_codec.specs.Fault.{numbers, length_len, length_at, text_of, behind_text, is_text_field};
 ghost use Rattle.frame_codec.specs.Reading.{is_name, is_argument, act_at, behind_act, row_of, operation_fault, SaysOperation, behind_operation};
 
 use crate::fault::FrameFault;
+use crate::version::Version;
 use byteorder::{BigEndian, ByteOrder};
 use op_base::{Act, Key, Kind, NameFault, NoMemory, ObjectId, Op, Tag, Update, Value};
 use std::alloc::Global;
@@ -66,14 +68,28 @@ fn is_above(tag: &Tag, limit: u32) -> bool
     false
 }
 
-/// A text behind its length byte, and what stands behind it. `None` where it is cut.
-fn text_field(bytes: &[u8]) -> Option<(&[u8], &[u8])>
-    ensures whole { is_some result ≡ is_text_field (λ _. true) bytes.now }
-    ensures text { IfSome result (λ x. x.0.now ≡ text_of bytes.now) }
-    ensures rest { IfSome result (λ x. x.1.now ≡ behind_text bytes.now) }
+/// A length, and what stands behind it. `None` where it is cut.
+fn length_field(version: Version, bytes: &[u8]) -> Option<(usize, &[u8])>
+    ensures whole { is_some result ≡ nat_le (length_len version) (length bytes.now) }
+    ensures length { IfSome result (λ x. x.0 ≡ length_at version bytes.now) }
+    ensures rest { IfSome result (λ x. x.1.now ≡ drop (length_len version) bytes.now) }
 {
-    let (len, rest) = bytes.split_first()?;
-    rest.split_at_checked(*len as usize)
+    let (field, rest) = bytes.split_at_checked(version.length_len())?;
+    let len = match version {
+        Version::One => field[0] as usize,
+        Version::Two => BigEndian::read_u16(field) as usize,
+    };
+    Some((len, rest))
+}
+
+/// A text behind its length, and what stands behind it. `None` where it is cut.
+fn text_field(version: Version, bytes: &[u8]) -> Option<(&[u8], &[u8])>
+    ensures whole { is_some result ≡ is_text_field version (λ _. true) bytes.now }
+    ensures text { IfSome result (λ x. x.0.now ≡ text_of version bytes.now) }
+    ensures rest { IfSome result (λ x. x.1.now ≡ behind_text version bytes.now) }
+{
+    let (len, rest) = length_field(version, bytes)?;
+    rest.split_at_checked(len)
 }
 
 /// A name that was read, or want of memory for it. Where the text was none, this fault.
@@ -94,29 +110,32 @@ fn name_or<T>(
     }
 }
 
-/// A key behind its length byte.
-fn key_field<'a>(alloc: Global, bytes: &'a [u8]) -> Field<'a, Key>
-    ensures tested { is_ok result ≡ is_text_field is_key bytes.now }
+/// A key behind its length.
+fn key_field<'a>(alloc: Global, version: Version, bytes: &'a [u8]) -> Field<'a, Key>
+    ensures tested { is_ok result ≡ is_text_field version is_key bytes.now }
     ensures fault { IfErr result (λ fault. fault ≡ FrameFault.BadKey) }
-    ensures key { IfOk result (λ x. IfOk x.0 (λ key. key ≡ text_of bytes.now)) }
-    ensures rest { IfOk result (λ x. x.1.now ≡ behind_text bytes.now) }
+    ensures key { IfOk result (λ x. IfOk x.0 (λ key. key ≡ text_of version bytes.now)) }
+    ensures rest { IfOk result (λ x. x.1.now ≡ behind_text version bytes.now) }
 {
-    let Some((text, rest)) = text_field(bytes) else {
+    let Some((text, rest)) = text_field(version, bytes) else {
         return Err(FrameFault::BadKey);
     };
     name_or(Key::read(alloc, text), FrameFault::BadKey).map(|key| (key, rest))
 }
 
-/// A value behind its length byte.
-fn value_field<'a>(alloc: Global, bytes: &'a [u8]) -> Field<'a, Value>
-    ensures tested { is_ok result ≡ is_text_field is_value bytes.now }
+/// A value behind its length.
+fn value_field<'a>(alloc: Global, version: Version, bytes: &'a [u8]) -> Field<'a, Value>
+    ensures tested { is_ok result ≡ is_text_field version (is_sent version) bytes.now }
     ensures fault { IfErr result (λ fault. fault ≡ FrameFault.Argument) }
-    ensures value { IfOk result (λ x. IfOk x.0 (λ value. value ≡ text_of bytes.now)) }
-    ensures rest { IfOk result (λ x. x.1.now ≡ behind_text bytes.now) }
+    ensures value { IfOk result (λ x. IfOk x.0 (λ value. value ≡ text_of version bytes.now)) }
+    ensures rest { IfOk result (λ x. x.1.now ≡ behind_text version bytes.now) }
 {
-    let Some((text, rest)) = text_field(bytes) else {
+    let Some((text, rest)) = text_field(version, bytes) else {
         return Err(FrameFault::Argument);
     };
+    if !version.carries(text.len()) {
+        return Err(FrameFault::Argument);
+    }
     name_or(Value::read(alloc, text), FrameFault::Argument).map(|value| (value, rest))
 }
 
@@ -159,26 +178,26 @@ fn kind_and_verb(code: u8) -> (Kind, Verb)
 }
 
 /// The act of a verb, with its argument.
-fn act_field<'a>(alloc: Global, verb: Verb, bytes: &'a [u8]) -> Field<'a, Act>
-    ensures tested { is_ok result ≡ is_argument verb bytes.now }
+fn act_field<'a>(alloc: Global, version: Version, verb: Verb, bytes: &'a [u8]) -> Field<'a, Act>
+    ensures tested { is_ok result ≡ is_argument version verb bytes.now }
     ensures fault { IfErr result (λ fault. fault ≡ FrameFault.Argument) }
-    ensures act { IfOk result (λ x. IfOk x.0 (λ act. act ≡ act_at verb bytes.now)) }
-    ensures rest { IfOk result (λ x. x.1.now ≡ behind_act verb bytes.now) }
+    ensures act { IfOk result (λ x. IfOk x.0 (λ act. act ≡ act_at version verb bytes.now)) }
+    ensures rest { IfOk result (λ x. x.1.now ≡ behind_act version verb bytes.now) }
 {
     match verb {
         Verb::Add => {
-            let (value, rest) = value_field(alloc, bytes)?;
+            let (value, rest) = value_field(alloc, version, bytes)?;
             Ok((value.map(Act::Add), rest))
         }
         Verb::Rmv => {
-            let (value, rest) = value_field(alloc, bytes)?;
+            let (value, rest) = value_field(alloc, version, bytes)?;
             Ok((value.map(Act::Rmv), rest))
         }
         Verb::Clear => Ok((Ok(Act::Clear), bytes)),
         Verb::Enable => Ok((Ok(Act::Enable), bytes)),
         Verb::Disable => Ok((Ok(Act::Disable), bytes)),
         Verb::Write => {
-            let (value, rest) = value_field(alloc, bytes)?;
+            let (value, rest) = value_field(alloc, version, bytes)?;
             Ok((value.map(Act::Write), rest))
         }
         Verb::Inc => {
@@ -208,17 +227,17 @@ fn update(
 }
 
 /// The operation of a code, with its key and its argument.
-pub fn operation<'a>(alloc: Global, code: u8, bytes: &'a [u8]) -> Field<'a, Op>
+pub fn operation<'a>(alloc: Global, version: Version, code: u8, bytes: &'a [u8]) -> Field<'a, Op>
     requires { code ≤ 19 }
-    ensures fault { MatchResult result (λ _. operation_fault code bytes.now ≡ None) (λ fault. operation_fault code bytes.now ≡ Some fault) }
-    ensures operation { IfOk result (λ x. IfOk x.0 (λ op. SaysOperation code bytes.now op)) }
-    ensures rest { IfOk result (λ x. x.1.now ≡ behind_operation code bytes.now) }
+    ensures fault { MatchResult result (λ _. operation_fault version code bytes.now ≡ None) (λ fault. operation_fault version code bytes.now ≡ Some fault) }
+    ensures operation { IfOk result (λ x. IfOk x.0 (λ op. SaysOperation version code bytes.now op)) }
+    ensures rest { IfOk result (λ x. x.1.now ≡ behind_operation version code bytes.now) }
 {
     if code == 0 {
         return Ok((Ok(Op::NoOp), bytes));
     }
     let (kind, verb) = kind_and_verb(code);
-    let (key, rest) = key_field(alloc, bytes)?;
-    let (act, rest) = act_field(alloc, verb, rest)?;
+    let (key, rest) = key_field(alloc, version, bytes)?;
+    let (act, rest) = act_field(alloc, version, verb, rest)?;
     Ok((update(kind, key, act).map(Op::Update), rest))
 }

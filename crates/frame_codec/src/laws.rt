@@ -1,10 +1,11 @@
 //! Laws of frames. Each is the contract of a function that does nothing.
 
-ghost use Rattle.frame_codec.specs.Laws.{OneFrame, OneMessage, NoFrameBegins, FramesHaveNoFault, WithoutFaultIsAFrame};
+ghost use Rattle.frame_codec.specs.Laws.{SomeSpelling, OneSpelling, OneMessage, NoFrameBegins, FramesHaveNoFault, WithoutFaultIsAFrame};
 
-/// A message has one frame in a store.
-pub fn one_frame_a_message()
-    ensures { OneFrame }
+/// A message has one spelling in version 2 and at most one in version 1.
+pub fn one_spelling_a_message()
+    ensures some { SomeSpelling }
+    ensures one { OneSpelling }
 {}
 
 /// A frame is the frame of one message.
@@ -12,7 +13,7 @@ pub fn one_message_a_frame()
     ensures { OneMessage }
 {}
 
-/// No frame is the beginning of another, so frames can be read one after the other.
+/// No frame, of either version, is the beginning of another, so frames can be read one after the other.
 pub fn no_frame_begins_another()
     ensures { NoFrameBegins }
 {}

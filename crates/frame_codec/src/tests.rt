@@ -7,8 +7,11 @@ use op_base::{Act, Key, Kind, Message, ObjectId, Op, Tag, Update, Value};
 use std::alloc::Global;
 use std::test::Fail;
 
-/// `add x` to `awset:s`, the message `0:1` of a store of two members.
-const FIRST: [u8; 16] = *b"\x01\0\x02\x01\0\0\0\x01\0\0\0\0\x01s\x01x";
+/// `add x` to `awset:s`, the message `0:1` of a store of two members, in version 1.
+const OLD: [u8; 16] = *b"\x01\0\x02\x01\0\0\0\x01\0\0\0\0\x01s\x01x";
+
+/// The same in version 2, in epoch 0.
+const FIRST: [u8; 22] = *b"\x02\0\x02\x01\0\0\0\0\0\0\0\x01\0\0\0\0\0\x01s\0\x01x";
 
 const LIMIT: u32 = 10000;
 
@@ -36,16 +39,17 @@ fn number(answer: &Result<Message, DecodeFault>) -> u8 {
     match answer {
         Ok(_) => 0,
         Err(DecodeFault::Frame(fault)) => fault.number(),
-        Err(DecodeFault::NoMemory) => 10,
+        Err(DecodeFault::NoMemory) => 11,
     }
 }
 
 #[test]
 fn vectors(rt: HostRuntime) -> Result<(), Fail> {
-    let table: [(&[u8], u8); 13] = [
+    let old: [(&[u8], u8); 14] = [
         (b"\x01\0\x02\x01\0\0\0\x01\0\0\0\0\x01s\x01x", 0),
         (b"\x01", 1),
-        (b"\x02\0\x02\x01\0\0\0\x01\0\0\0\0\x01s\x01x", 2),
+        (b"\x02\0\x02\x01\0\0\0\x01\0\0\0\0\x01s\x01x", 10),
+        (b"\0\0\x02\x01\0\0\0\x01\0\0\0\0\x01s\x01x", 2),
         (b"\x01\0\x03\x01\0\0\0\x01\0\0\0\0\x01s\x01x", 3),
         (b"\x01\x02\x02\x01\0\0\0\x01\0\0\0\0\x01s\x01x", 4),
         (b"\x01\0\x02\x14\0\0\0\x01\0\0\0\0\x01s\x01x", 5),
@@ -57,25 +61,71 @@ fn vectors(rt: HostRuntime) -> Result<(), Fail> {
         (b"\x01\0\x02\x01\0\0\0\x01\0\0\0\0\x01s\x01x\0", 9),
         (b"\x01\0\x02\0\0\0\0\x01\0\0\0\0", 0),
     ];
-    for (bytes, wanted) in table {
+    let new: [(&[u8], u8); 12] = [
+        (
+            b"\x02\0\x02\x01\0\0\0\x01\0\0\0\x01\0\0\0\0\0\x01s\0\x01x",
+            10,
+        ),
+        (b"\x02\0\x02\x01\0\0\0\0\0\0\0\x01\0\0\0\0\0\x01s\0\x01", 8),
+        (
+            b"\x02\0\x02\x01\0\0\0\0\0\0\0\x01\0\0\0\0\0\x01s\0\x01x\0",
+            9,
+        ),
+        (b"\x03\0\x02\x01\0\0\0\0\0\0\0\x01\0\0\0\0\0\x01s\0\x01x", 2),
+        (b"\x02\0\x02\x01\0\0\0\0\0\0\0\x01\0\0\0\0\0\x01s\0\x01x", 0),
+        (b"\x02\0\x02\0\0\0\0\0\0\0\0\x01\0\0\0\0", 0),
+        (b"\x02\0\x02\0\0\0\0\0\0\0\0\x01\0\0\0", 1),
+        (
+            b"\x02\0\x03\x01\0\0\0\x01\0\0\0\x01\0\0\0\0\0\x01s\0\x01x",
+            10,
+        ),
+        (b"\x02\0\x03\x01\0\0\0\0\0\0\0\x01\0\0\0\0\0\x01s\0\x01x", 3),
+        (b"\x02\0\x02\x01\0\0\0\0\0\0\0\x01\0\0\0\0\x01", 7),
+        (b"\x02\0\x02\x01\0\0\0\0\0\0\0\x01\0\0\0\0\x01s\x01x", 7),
+        (b"\x02\0\x02\x01\0\0\0\0\0\0\0\x01\0\0\0\0\0\x01s\0\0", 8),
+    ];
+    for (bytes, wanted) in old.into_iter().chain(new) {
         assert_eq!(rt;
-            number(&decode(rt.alloc(), bytes, 2, LIMIT)),
+            number(&decode(rt.alloc(), bytes, 2, 0, LIMIT)),
             wanted,
             "{bytes:?}"
         );
     }
-    assert_eq!(rt;
-        decode(rt.alloc(), &FIRST, 2, LIMIT),
-        Ok(added(rt.alloc(), 1, 0)?)
-    );
+    for bytes in [OLD.as_slice(), FIRST.as_slice()] {
+        assert_eq!(rt;
+            decode(rt.alloc(), bytes, 2, 0, LIMIT),
+            Ok(added(rt.alloc(), 1, 0)?)
+        );
+    }
     let no_op = Message {
         origin: 0,
         tag: tag_of(1, 0),
         op: Op::NoOp,
     };
     assert_eq!(rt;
-        decode(rt.alloc(), &[1, 0, 2, 0, 0, 0, 0, 1, 0, 0, 0, 0], 2, LIMIT),
+        decode(
+            rt.alloc(),
+            &[2, 0, 2, 0, 0, 0, 0, 0, 0, 0, 0, 1, 0, 0, 0, 0],
+            2,
+            0,
+            LIMIT
+        ),
         Ok(no_op)
+    );
+    Ok(())
+}
+
+#[test]
+fn an_epoch_reads_its_own_frames(rt: HostRuntime) -> Result<(), Fail> {
+    let alloc = rt.alloc();
+    assert_eq!(rt; number(&decode(alloc, &OLD, 2, 1, LIMIT)), 2);
+    assert_eq!(rt; number(&decode(alloc, &FIRST, 2, 1, LIMIT)), 10);
+    let frame = encode(alloc, &added(alloc, 1, 0)?, 2, 65535)?;
+    assert_eq!(rt; &frame[4..8], b"\0\0\xFF\xFF".as_slice());
+    assert_eq!(rt; number(&decode(alloc, &frame, 2, 0, LIMIT)), 10);
+    assert_eq!(rt;
+        decode(alloc, &frame, 2, 65535, LIMIT),
+        Ok(added(alloc, 1, 0)?)
     );
     Ok(())
 }
@@ -117,46 +167,116 @@ const VALUES: [u8; 5] = [1, 2, 4, 5, 13];
 
 const AMOUNTS: [u8; 4] = [15, 16, 17, 18];
 
+/// How long the keys and values are that a code is tried with, and its amount.
+struct Extreme {
+    key: &'static [u8],
+    value_len: usize,
+    amount: [u8; 4],
+}
+
+const LEAST: Extreme = Extreme {
+    key: b"k",
+    value_len: 1,
+    amount: [0; 4],
+};
+
+const MOST_OLD: Extreme = Extreme {
+    key: b"abcdefghijklmnopqrstuvwxyz01._-9",
+    value_len: 64,
+    amount: [255; 4],
+};
+
+const MOST: Extreme = Extreme {
+    key: b"abcdefghijklmnopqrstuvwxyz01._-9",
+    value_len: 4096,
+    amount: [255; 4],
+};
+
+/// A length as a version writes it.
+fn length(alloc: Global, version: u8, len: usize) -> Result<Vec<u8>, Fail> {
+    let mut bytes = Vec::new(alloc);
+    if version == 2 {
+        bytes.push((len / 256) as u8)?;
+    }
+    bytes.push((len % 256) as u8)?;
+    Ok(bytes)
+}
+
+/// The frame of a code at an extreme, from the table of fields.
+fn frame(
+    alloc: Global,
+    version: u8,
+    code: u8,
+    extreme: &Extreme,
+    value: &[u8],
+) -> Result<Vec<u8>, Fail> {
+    let mut bytes = Vec::from_slice(alloc, &[version, 1, 2, code])?;
+    if version == 2 {
+        bytes.extend_from_slice(&[0; 4])?;
+    }
+    bytes.extend_from_slice(&[255, 255, 255, 255, 0, 1, 2, 3])?;
+    if code > 0 {
+        bytes.extend_from_slice(&length(alloc, version, extreme.key.len())?)?;
+        bytes.extend_from_slice(extreme.key)?;
+    }
+    if VALUES.contains(&code) {
+        bytes.extend_from_slice(&length(alloc, version, value.len())?)?;
+        bytes.extend_from_slice(value)?;
+    }
+    if AMOUNTS.contains(&code) {
+        bytes.extend_from_slice(&extreme.amount)?;
+    }
+    Ok(bytes)
+}
+
 #[test]
 fn every_code_is_written_and_read(rt: HostRuntime) -> Result<(), Fail> {
-    let longest: (&[u8], &[u8]) = (
-        b"abcdefghijklmnopqrstuvwxyz01._-9",
-        b"1234567890abcdefghijklmnopqrstuvwxyzABCDEFGHIJKLMNOPQRSTUVWXYZ\xC3\xA9",
-    );
-    let cases: [(&[u8], &[u8], u32, &[u8]); 2] = [
-        (b"k", b"v", 0, &[0, 0, 0, 0]),
-        (longest.0, longest.1, 4294967295, &[255, 255, 255, 255]),
-    ];
-    for code in 0..20 {
-        for (key, value, amount, amount_bytes) in cases {
-            let mut bytes = Vec::from_slice(
-                rt.alloc(),
-                &[1, 1, 2, code, 255, 255, 255, 255, 0, 1, 2, 3],
-            )?;
-            if code > 0 {
-                bytes.push(if amount == 0 { 1 } else { 32 })?;
-                bytes.extend_from_slice(key)?;
-            }
-            if VALUES.contains(&code) {
-                bytes.push(if amount == 0 { 1 } else { 64 })?;
-                bytes.extend_from_slice(value)?;
-            }
-            if AMOUNTS.contains(&code) {
-                bytes.extend_from_slice(amount_bytes)?;
-            }
+    let alloc = rt.alloc();
+    for (version, extreme) in [(1, &LEAST), (1, &MOST_OLD), (2, &LEAST), (2, &MOST)] {
+        let value = Vec::from_elem(alloc, b'v', extreme.value_len)?;
+        for code in 0..20 {
+            let bytes = frame(alloc, version, code, extreme, &value)?;
             let wanted = Message {
                 origin: 1,
                 tag: tag_of(4294967295, 66051),
-                op: operation(rt.alloc(), code, key, value, amount)?,
+                op: operation(
+                    alloc,
+                    code,
+                    extreme.key,
+                    &value,
+                    u32::from_be_bytes(extreme.amount),
+                )?,
             };
-            let message = decode(rt.alloc(), &bytes, 2, 4294967295)?;
-            assert_eq!(rt; message, wanted, "code {code}");
+            let message = decode(alloc, &bytes, 2, 0, 4294967295)?;
+            assert_eq!(rt; message, wanted, "code {code} of version {version}");
+            let written = frame(alloc, 2, code, extreme, &value)?;
             assert_eq!(rt;
-                encode(rt.alloc(), &message, 2)?.as_slice(),
-                bytes.as_slice(),
+                encode(alloc, &message, 2, 0)?.as_slice(),
+                written.as_slice(),
                 "code {code}"
             );
         }
+    }
+    Ok(())
+}
+
+#[test]
+fn values_end_at_the_versions_bounds(rt: HostRuntime) -> Result<(), Fail> {
+    let alloc = rt.alloc();
+    for (version, len, wanted) in [
+        (1, 64, 0),
+        (1, 65, 8),
+        (2, 65, 0),
+        (2, 4096, 0),
+        (2, 4097, 8),
+    ] {
+        let value = Vec::from_elem(alloc, b'v', len)?;
+        let bytes = frame(alloc, version, 1, &LEAST, &value)?;
+        assert_eq!(rt;
+            number(&decode(alloc, &bytes, 2, 0, 4294967295)),
+            wanted,
+            "{len} bytes in version {version}"
+        );
     }
     Ok(())
 }
@@ -170,9 +290,21 @@ fn no_proper_prefix_is_a_frame(rt: HostRuntime) {
             _ => 8,
         };
         assert_eq!(rt;
-            number(&decode(rt.alloc(), &FIRST[..len], 2, LIMIT)),
+            number(&decode(rt.alloc(), &OLD[..len], 2, 0, LIMIT)),
             wanted,
-            "{len} bytes"
+            "{len} bytes of version 1"
+        );
+    }
+    for len in 0..22 {
+        let wanted = match len {
+            0..=15 => 1,
+            16..=18 => 7,
+            _ => 8,
+        };
+        assert_eq!(rt;
+            number(&decode(rt.alloc(), &FIRST[..len], 2, 0, LIMIT)),
+            wanted,
+            "{len} bytes of version 2"
         );
     }
 }
@@ -186,14 +318,24 @@ const ORIGIN: Outcome = Err(FrameFault::Origin);
 
 const CODE: Outcome = Err(FrameFault::Code);
 
+const BAD_KEY: Outcome = Err(FrameFault::BadKey);
+
+const ARGUMENT: Outcome = Err(FrameFault::Argument);
+
 const NUMBER: Outcome = Err(FrameFault::Number);
 
+const EPOCH: Outcome = Err(FrameFault::Epoch);
+
 /// What becomes of the first vector where one of its bytes, place by place, is 0, 0x7F, 0x80 or 0xFF.
-const REPLACED: [[Outcome; 4]; 16] = [
+const REPLACED: [[Outcome; 4]; 22] = [
     [Err(FrameFault::Version); 4],
     [SAME, ORIGIN, ORIGIN, ORIGIN],
     [Err(FrameFault::Members); 4],
     [Err(FrameFault::Rest), CODE, CODE, CODE],
+    [SAME, EPOCH, EPOCH, EPOCH],
+    [SAME, EPOCH, EPOCH, EPOCH],
+    [SAME, EPOCH, EPOCH, EPOCH],
+    [SAME, EPOCH, EPOCH, EPOCH],
     [SAME, NUMBER, NUMBER, NUMBER],
     [SAME, NUMBER, NUMBER, NUMBER],
     [SAME, NUMBER, NUMBER, NUMBER],
@@ -202,10 +344,12 @@ const REPLACED: [[Outcome; 4]; 16] = [
     [SAME, NUMBER, NUMBER, NUMBER],
     [SAME, NUMBER, NUMBER, NUMBER],
     [SAME, Ok((1, 127)), Ok((1, 128)), Ok((1, 255))],
-    [Err(FrameFault::BadKey); 4],
-    [Err(FrameFault::BadKey); 4],
-    [Err(FrameFault::Argument); 4],
-    [Err(FrameFault::Argument); 4],
+    [SAME, BAD_KEY, BAD_KEY, BAD_KEY],
+    [BAD_KEY; 4],
+    [BAD_KEY; 4],
+    [SAME, ARGUMENT, ARGUMENT, ARGUMENT],
+    [ARGUMENT; 4],
+    [ARGUMENT; 4],
 ];
 
 #[test]
@@ -219,7 +363,7 @@ fn each_byte_replaced(rt: HostRuntime) -> Result<(), Fail> {
                 Err(fault) => Err(DecodeFault::Frame(*fault)),
             };
             assert_eq!(rt;
-                decode(rt.alloc(), &bytes, 2, LIMIT),
+                decode(rt.alloc(), &bytes, 2, 0, LIMIT),
                 wanted,
                 "{byte} at {place}"
             );
@@ -238,6 +382,10 @@ fn faults_are_told(rt: HostRuntime) -> Result<(), Fail> {
         (
             DecodeFault::Frame(FrameFault::Version),
             "no frame: another version",
+        ),
+        (
+            DecodeFault::Frame(FrameFault::Epoch),
+            "no frame: another epoch",
         ),
         (
             DecodeFault::Frame(FrameFault::Members),

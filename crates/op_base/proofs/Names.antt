@@ -1,6 +1,6 @@
 -- A text has no fault exactly where it is a name.
-use Rattle.std.proofs.Common.{◌≡◌, ◌≢◌, ℕ, ◌+◌, Bool, true, false, not, ◌&&◌, cond, List, [], ◌∷◌, length, suc, refl, sym, ◌∙◌, arith}
-use Rattle.std.specs.Prelude.{Option, Some, None, is_none, is_some, ◌↔◌, nat_lt, nat_le, ◌==◌, if◌then◌else◌, Result, Ok, Err, MatchResult, is_ok, IsTrue}
+use Rattle.std.proofs.Common.{◌≡◌, ◌≢◌, ap, ℕ, ◌+◌, Bool, true, false, not, ◌&&◌, cond, List, [], ◌∷◌, length, suc, refl, sym, ◌∙◌, arith}
+use Rattle.std.specs.Prelude.{position, Option, Some, None, is_none, is_some, ◌↔◌, nat_lt, nat_le, ◌==◌, if◌then◌else◌, Result, Ok, Err, MatchResult, is_ok, IsTrue}
 use Rattle.std.specs.List.{list_all, position_or_len}
 use Rattle.std.specs.Option.{option_map}
 use Rattle.std.specs.Str.{IsUtf8, is_utf8}
@@ -26,6 +26,10 @@ some_fails p (x ∷ xs) =
     let ih = some_fails p xs in
     elim (p x) as (λ v. nat_lt (cond (not (not v)) (1 + position_or_len (λ b. not (p b)) xs) 0) (suc (length xs)) ≡ not (v && list_all p xs)) [ true ↦ grind (arith, nat_tests, ih) | false ↦ grind (arith, nat_tests) ]
 
+-- where all pass, none that fails has a place
+pub no_place : (p : ℕ → Bool) (xs : List ℕ) → list_all p xs ≡ true → position (λ b. not (p b)) xs ≡ None
+no_place p xs all = cond-false _ _ _ (some_fails p xs ∙ ap not all)
+
 no_fault : (n most place : ℕ) (fails all : Bool) → fails ≡ not all → is_none (if n == 0 then Some Empty else if nat_lt most n then Some TooLong else option_map BadByte (cond fails (Some place) None)) ≡ (nat_lt 0 n && nat_le n most && all)
 no_fault n most place fails true h = grind (arith, nat_tests)
 no_fault n most place fails false h = grind (arith, nat_tests)
@@ -48,9 +52,9 @@ key_exactly bs = none_exactly (key_fault bs) (is_key bs) (byte_fault-none 32 is_
 
 pub value_exactly : ValuesAreExact
 value_exactly bs =
-    let bytes = byte_fault-none 64 is_value_byte bs in
+    let bytes = byte_fault-none 4096 is_value_byte bs in
     let text : is_none (if is_utf8 bs then None else Some NotUtf8) ≡ is_utf8 bs = elim (is_utf8 bs) as (λ u. is_none (if u then None else Some NotUtf8) ≡ u) [ true ↦ refl | false ↦ refl ] in
-    none_exactly (value_fault bs) (is_value bs) (or_else-none (byte_fault 64 is_value_byte bs) (if is_utf8 bs then None else Some NotUtf8) ∙ (λ i. bytes i && text i))
+    none_exactly (value_fault bs) (is_value bs) (or_else-none (byte_fault 4096 is_value_byte bs) (if is_utf8 bs then None else Some NotUtf8) ∙ (λ i. bytes i && text i))
 
 pub object_exactly : ObjectsAreExact
 object_exactly bs =

@@ -3,6 +3,7 @@ pub mod Object
 pub mod Operation
 pub mod Code
 pub mod TagFields
+pub mod KeyFields
 pub mod Timestamp
 pub mod Message
 pub mod Order

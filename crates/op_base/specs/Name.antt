@@ -29,9 +29,9 @@ is_short most bytes = nat_lt 0 (length bytes) && nat_le (length bytes) most
 abbrev pub is_key : List ℕ → Bool
 is_key bytes = is_short 32 bytes && list_all is_key_byte bytes
 
--- a value is 1 to 64 bytes of UTF-8, each of which a value may have
+-- a value is 1 to 4096 bytes of UTF-8, each of which a value may have
 abbrev pub is_value : List ℕ → Bool
-is_value bytes = is_short 64 bytes && list_all is_value_byte bytes && is_utf8 bytes
+is_value bytes = is_short 4096 bytes && list_all is_value_byte bytes && is_utf8 bytes
 
 -- of two faults the first
 abbrev pub or_else : Option NameFault → Option NameFault → Option NameFault
@@ -51,7 +51,7 @@ key_fault bytes = byte_fault 32 is_key_byte bytes
 
 -- the first fault of a text that is to be a value
 abbrev pub value_fault : List ℕ → Option NameFault
-value_fault bytes = or_else (byte_fault 64 is_value_byte bytes) (if is_utf8 bytes then None else Some NotUtf8)
+value_fault bytes = or_else (byte_fault 4096 is_value_byte bytes) (if is_utf8 bytes then None else Some NotUtf8)
 
 -- the word of a kind
 abbrev pub kind_word : Kind → List ℕ

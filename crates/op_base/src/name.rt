@@ -2,7 +2,8 @@
 //!
 //! Their texts are this project's own profile. UTF-8 is std's.
 
-ghost use Rattle.std.specs.Prelude.{◌≡◌, ◌≢◌, IfOk, IfErr, OnOk, IsTrue, position, not, Some};
+ghost use Rattle.std.specs.Prelude.{◌≡◌, ◌≢◌, IfOk, IfErr, OnOk, IsTrue, position, not, Some, Ok};
+ghost use Rattle.std.specs.List.{list_all};
 ghost use Rattle.std.specs.Prelude.{nat_eq, refl};
 ghost use Rattle.std.specs.Str.{is_utf8};
 ghost use Rattle.std.specs.Ordering.{nat_cmp, as_partial_cmp};
@@ -21,7 +22,7 @@ use std::{fmt, str};
 pub const MOST_KEY_BYTES: usize = 32;
 
 /// A value has at most so many bytes.
-pub const MOST_VALUE_BYTES: usize = 64;
+pub const MOST_VALUE_BYTES: usize = 4096;
 
 /// The type of an object. Objects of different kinds never meet.
 #[derive(Clone, Copy, Debug, PartialEq, Eq, PartialOrd, Ord, Hash)]
@@ -96,24 +97,26 @@ impl From<AllocError> for NameFault {
     }
 }
 
-/// A key: 1 to 32 bytes of `a-z`, `0-9`, `_`, `.` and `-`. Contracts see the list of its bytes.
-#[derive(Debug, Drop)]
+/// A key: 1 to 32 bytes of `a-z`, `0-9`, `_`, `.` and `-`, which stand in the key itself. Contracts see the list of them.
+#[derive(Drop)]
 pub struct Key {
-    bytes: Vec<u8>,
+    len: u8,
+    bytes: [u8; MOST_KEY_BYTES],
 }
 
 impl Model for Key {
-    ghost use Rattle.std.specs.Prelude.{List, ℕ, IsTrue};
-    ghost use Rattle.op_base.specs.Name.{is_key};
+    ghost use Rattle.std.specs.Prelude.{List, ℕ};
 
     ghost Value = { List ℕ };
 
-    ghost view = { λ k. k.bytes.items };
+    ghost use Rattle.op_base.specs.KeyFields.{IsStored, text_of};
 
-    ghost invariant = { λ k. IsTrue (is_key k.bytes.items) };
+    ghost view = { text_of };
+
+    ghost invariant = { IsStored };
 }
 
-/// A value: 1 to 64 bytes of UTF-8 with no byte at or below 0x20 and no 0x7F, so that a terminal prints it
+/// A value: 1 to 4096 bytes of UTF-8 with no byte at or below 0x20 and no 0x7F, so that a terminal prints it
 /// without surprises. Contracts see the list of its bytes.
 #[derive(Debug, Drop)]
 pub struct Value {
@@ -185,15 +188,43 @@ fn is_value_byte(b: u8) -> bool
     b > 0x20 && b != 0x7F
 }
 
+/// Whether a key may have each of the bytes. There is no early end, so that several bytes are tested at once.
+fn are_key_bytes(bytes: &[u8]) -> bool
+    ensures { result ≡ list_all is_key_byte bytes.now }
+{
+    let mut all = true;
+    for b in bytes {
+        all &= is_key_byte(*b);
+    }
+    all
+}
+
 fn bad_key_place(bytes: &[u8]) -> Option<usize>
     ensures { result ≡ position (λ b. not (is_key_byte b)) bytes.now }
 {
+    if are_key_bytes(bytes) {
+        return None;
+    }
     bytes.iter().position(|b| !is_key_byte(*b))
+}
+
+/// Whether a value may have each of the bytes. There is no early end, so that several bytes are tested at once.
+fn are_value_bytes(bytes: &[u8]) -> bool
+    ensures { result ≡ list_all is_value_byte bytes.now }
+{
+    let mut all = true;
+    for b in bytes {
+        all &= is_value_byte(*b);
+    }
+    all
 }
 
 fn bad_value_place(bytes: &[u8]) -> Option<usize>
     ensures { result ≡ position (λ b. not (is_value_byte b)) bytes.now }
 {
+    if are_value_bytes(bytes) {
+        return None;
+    }
     bytes.iter().position(|b| !is_value_byte(*b))
 }
 
@@ -256,17 +287,27 @@ fn parts(bytes: &[u8]) -> (&[u8], &[u8])
 
 impl Key {
     /// Reads a key: all of the bytes. The refusals are `Empty`, `TooLong` (above 32 bytes) and `BadByte` with the
-    /// first place of a byte that no key has, in this order; `NoMemory` comes after them.
-    pub fn read(alloc: Global, bytes: &[u8]) -> Result<Key, NameFault>
+    /// first place of a byte that no key has, in this order. It takes no memory.
+    pub fn read(_alloc: Global, bytes: &[u8]) -> Result<Key, NameFault>
         ensures key { IfOk result (λ key. key ≡ bytes.now) }
         ensures valid { OnOk result (IsTrue (is_key bytes.now)) }
         ensures refused { Refuses (key_fault bytes.now) result }
     {
         match key_fault(bytes) {
             Some(fault) => Err(fault),
-            None => Ok(Key {
-                bytes: Vec::from_slice(alloc, bytes)?,
-            }),
+            None => Ok(Key::stored(bytes)),
+        }
+    }
+
+    fn stored(text: &[u8]) -> Key
+        requires { IsTrue (is_key text.now) }
+        ensures { result ≡ text.now }
+    {
+        let mut bytes = [0; MOST_KEY_BYTES];
+        bytes[..text.len()].copy_from_slice(text);
+        Key {
+            len: text.len() as u8,
+            bytes,
         }
     }
 
@@ -275,21 +316,22 @@ impl Key {
         ensures bytes { result.now ≡ self.now }
         ensures valid { IsTrue (is_key self.now) }
     {
-        self.bytes.as_slice()
+        &self.bytes[..self.len as usize]
     }
 
-    /// An equal key. `NoMemory` leaves nothing behind.
-    pub fn copy(&self, alloc: Global) -> Result<Key, NoMemory>
-        ensures { IfOk result (λ copy. copy ≡ self.now) }
+    /// An equal key. It takes no memory.
+    pub fn copy(&self, _alloc: Global) -> Result<Key, NoMemory>
+        ensures { result ≡ Ok self.now }
     {
         Ok(Key {
-            bytes: Vec::from_slice(alloc, self.bytes.as_slice())?,
+            len: self.len,
+            bytes: self.bytes,
         })
     }
 }
 
 impl Value {
-    /// Reads a value: all of the bytes. The refusals are `Empty`, `TooLong` (above 64 bytes), `BadByte` with the
+    /// Reads a value: all of the bytes. The refusals are `Empty`, `TooLong` (above 4096 bytes), `BadByte` with the
     /// first place of a byte that no value has, and `NotUtf8`, in this order; `NoMemory` comes after them.
     pub fn read(alloc: Global, bytes: &[u8]) -> Result<Value, NameFault>
         ensures value { IfOk result (λ value. value ≡ bytes.now) }
@@ -304,7 +346,7 @@ impl Value {
         }
     }
 
-    /// The bytes, 1 to 64 of them.
+    /// The bytes, 1 to 4096 of them.
     pub fn as_slice(&self) -> &[u8]
         ensures bytes { result.now ≡ self.now }
         ensures valid { IsTrue (is_value self.now) }
@@ -360,13 +402,19 @@ impl ObjectId {
     }
 }
 
+impl fmt::Debug for Key {
+    fn fmt<W: fmt::Write>(&self, f: &mut fmt::Formatter<W>) -> fmt::Result {
+        f.debug_tuple("Key").field(&self.as_slice()).finish()
+    }
+}
+
 impl PartialEq for Key {
     ghost eq = { pointwise nat_eq };
 
     ghost laws = { partial_equiv_from_equiv nat_list_eq_equiv };
 
     fn eq(&self, other: &Key) -> bool {
-        self.bytes.as_slice() == other.bytes.as_slice()
+        self.as_slice() == other.as_slice()
     }
 }
 
@@ -394,7 +442,7 @@ impl Ord for Key {
     ghost matches_eq = { texts_ties };
 
     fn cmp(&self, other: &Key) -> Ordering {
-        self.bytes.as_slice().cmp(other.bytes.as_slice())
+        self.as_slice().cmp(other.as_slice())
     }
 }
 

@@ -47,8 +47,8 @@ fn names_are_refused_at_their_bounds(rt: HostRuntime) {
     }
     let values: [(&[u8], Option<NameFault>); 19] = [
         (b"", EMPTY),
-        (&[b'v'; 64], None),
-        (&[b'v'; 65], LONG),
+        (&[b'v'; 4096], None),
+        (&[b'v'; 4097], LONG),
         (b" v", bad(0)),
         (b"v ", bad(1)),
         (b"\x1F", bad(0)),

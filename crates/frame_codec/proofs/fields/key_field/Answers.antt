@@ -4,4 +4,4 @@ use Rattle.frame_codec.proofs.fields.key_field.Goals as goal
 
 pub returns-clause-tested : goal.returns-clause-tested
 returns-clause-tested c =
-    c.map.ensures.variant ∙ c.name_or.ensures.tested ∙ key_field_named c.in-Some.text.now c.args.bytes.now c.read.result c.in-Some.ensures.whole c.in-Some.ensures.text c.read.ensures.valid c.read.ensures.refused
+    c.map.ensures.variant ∙ c.name_or.ensures.tested ∙ key_field_named c.args.version c.in-Some.text.now c.args.bytes.now c.read.result c.in-Some.ensures.whole c.in-Some.ensures.text c.read.ensures.valid c.read.ensures.refused
