@@ -1,10 +1,11 @@
-//! Encodes or decodes one frame many times, for `bench/run` to measure.
+//! Encodes, decodes or copies one message many times, for `bench/run` to measure.
 //!
-//! Its words are `encode` or `decode`, `shortest` or `longest`, and how often. It prints how many bytes all the frames
-//! had together.
+//! Its words are `encode`, `decode` or `copy`; how many members the store has, 1 to 16; how many bytes the key has, 0 for a
+//! no-op; a text that is repeated for the value, and how often; and how many turns there are. It prints how many bytes
+//! the frames of all the turns had together, or the values of all the copies.
 #![tactic(auto)]
 
-ghost use Rattle.std.specs.Prelude.{◌≤◌, ◌&&◌, IsTrue, IfOk};
+ghost use Rattle.std.specs.Prelude.{◌≡◌, ◌≤◌, ◌&&◌, IsTrue, IfOk};
 ghost use Rattle.op_base.specs.Message.{fits};
 
 use anyhow::{Context, Result, bail, ensure};
@@ -15,38 +16,46 @@ use std::env;
 use std::rt::Env;
 
 /// The greatest limit of messages a member.
-const LIMIT: u32 = 65535;
+const LIMIT: u32 = 1000000;
 
-/// The no-op of a store of one member: 8 bytes.
-fn shortest() -> Message {
-    let mut tag = Tag::zero(1);
-    tag.set(0, 1);
-    Message {
-        origin: 0,
-        tag,
-        op: Op::NoOp,
+const EPOCH: u32 = 0;
+
+/// So many texts, one behind the other.
+fn repeated(alloc: Global, text: &str, count: u32) -> Result<Vec<u8>> {
+    let mut bytes = Vec::new(alloc);
+    for _ in 0..count {
+        bytes.extend_from_slice(text.as_bytes())?;
     }
+    Ok(bytes)
 }
 
-/// An add to a set in a store of 16 members, with a key of 32 bytes and a value of 64: 166 bytes.
-fn longest(alloc: Global) -> Result<Message> {
+/// An add to a set, with a key of so many bytes.
+fn add(alloc: Global, key: u32, value: &[u8]) -> Result<Op> {
     let object = ObjectId {
         kind: Kind::AwSet,
-        key: Key::read(alloc, &[b'k'; 32])?,
+        key: Key::read(alloc, &repeated(alloc, "k", key)?)?,
     };
-    let act = Act::Add(Value::read(alloc, &[b'v'; 64])?);
+    let act = Act::Add(Value::read(alloc, value)?);
     let Ok(update) = Update::new(object, act) else {
         bail!("a set has an add");
     };
-    let mut tag = Tag::zero(MOST_MEMBERS as u8);
-    for x in 0..16 {
+    Ok(Op::Update(update))
+}
+
+/// What the last member of a store sends, each of whose members has sent all that it may.
+fn message(op: Op, n: u8) -> Message
+    requires some { 1 ≤ n }
+    requires few { n ≤ MOST_MEMBERS }
+{
+    let mut tag = Tag::zero(n);
+    for x in 0..n {
         tag.set(x, LIMIT);
     }
-    Ok(Message {
-        origin: 15,
+    Message {
+        origin: n - 1,
         tag,
-        op: Op::Update(update),
-    })
+        op,
+    }
 }
 
 /// Encodes a message so often. The number of bytes of all the frames, modulo 2^64.
@@ -55,7 +64,7 @@ fn encode_often(alloc: Global, message: &Message, n: u8, count: u32) -> Result<u
 {
     let mut bytes = 0u64;
     for _ in 0..count {
-        bytes = bytes.wrapping_add(encode(alloc, message, n)?.len() as u64);
+        bytes = bytes.wrapping_add(encode(alloc, message, n, EPOCH)?.len() as u64);
     }
     Ok(bytes)
 }
@@ -67,41 +76,83 @@ fn decode_often(alloc: Global, frame: &[u8], n: u8, count: u32) -> Result<u64>
 {
     let mut bytes = 0u64;
     for _ in 0..count {
-        let message = decode(alloc, frame, n, LIMIT)?;
+        let message = decode(alloc, frame, n, EPOCH, LIMIT)?;
         ensure!(message.tag.members() == n, "a timestamp of other members");
         bytes = bytes.wrapping_add(frame.len() as u64);
     }
     Ok(bytes)
 }
 
-fn measure(alloc: Global, call: &str, size: &str, count: u32) -> Result<u64> {
-    let message = match size {
-        "shortest" => shortest(),
-        "longest" => longest(alloc)?,
-        _ => bail!("no size: {size}"),
-    };
+/// How many bytes a message's value has, 0 where it has none.
+fn value_len(message: &Message) -> u64 {
+    match &message.op {
+        Op::Update(update) => match update.act() {
+            Act::Add(value) => value.as_slice().len() as u64,
+            _ => 0,
+        },
+        Op::NoOp => 0,
+    }
+}
+
+/// Copies a message so often. The number of bytes of all the values, modulo 2^64.
+fn copy_often(alloc: Global, message: &Message, count: u32) -> Result<u64> {
+    let mut bytes = 0u64;
+    for _ in 0..count {
+        bytes = bytes.wrapping_add(value_len(&message.copy(alloc)?));
+    }
+    Ok(bytes)
+}
+
+fn measure(alloc: Global, call: &str, message: &Message, count: u32) -> Result<u64> {
     let n = message.tag.members();
     ensure!(
         message.origin < n && message.tag.at(message.origin) > 0,
         "no message"
     );
     match call {
-        "encode" => encode_often(alloc, &message, n, count),
+        "encode" => encode_often(alloc, message, n, count),
         "decode" => {
-            let frame = encode(alloc, &message, n)?;
+            let frame = encode(alloc, message, n, EPOCH)?;
             decode_often(alloc, &frame, n, count)
         }
+        "copy" => copy_often(alloc, message, count),
         _ => bail!("no call: {call}"),
     }
 }
 
+fn number(word: &str) -> Result<u32> {
+    Ok(word.parse::<u32>().context("reading a number")?)
+}
+
 fn main(rt: HostRuntime) -> Result<()> {
-    let words: Vec<String> = env::args(&rt)?.collect(rt.alloc())?;
-    let [_, call, size, count] = words.as_slice() else {
-        bail!("the words are a call, a size and a count");
+    let alloc = rt.alloc();
+    let words: Vec<String> = env::args(&rt)?.collect(alloc)?;
+    let [_, call, members, key, text, times, count] = words.as_slice() else {
+        bail!(
+            "the words are a call, members, a key's length, a text, how often it is repeated, and turns"
+        );
     };
-    let count = count.as_str().parse::<u32>().context("reading the count")?;
-    let bytes = measure(rt.alloc(), call.as_str(), size.as_str(), count)?;
+    let n = members
+        .as_str()
+        .parse::<u8>()
+        .context("reading the members")?;
+    ensure!(
+        n >= 1 && n as usize <= MOST_MEMBERS,
+        "no store has {n} members"
+    );
+    let op = match number(key.as_str())? {
+        0 => Op::NoOp,
+        key => {
+            let value = repeated(alloc, text.as_str(), number(times.as_str())?)?;
+            add(alloc, key, &value)?
+        }
+    };
+    let bytes = measure(
+        alloc,
+        call.as_str(),
+        &message(op, n),
+        number(count.as_str())?,
+    )?;
     println!(rt; "{bytes}")?;
     Ok(())
 }

@@ -1,10 +1,10 @@
 -- A text has no fault exactly where it is a name.
 use Rattle.std.proofs.Common.{◌≡◌, ◌≢◌, ap, ℕ, ◌+◌, Bool, true, false, not, ◌&&◌, cond, List, [], ◌∷◌, length, suc, refl, sym, ◌∙◌, arith}
-use Rattle.std.specs.Prelude.{position, Option, Some, None, is_none, is_some, ◌↔◌, nat_lt, nat_le, ◌==◌, if◌then◌else◌, Result, Ok, Err, MatchResult, is_ok, IsTrue}
+use Rattle.std.specs.Prelude.{position, Option, Some, None, is_none, is_some, ◌↔◌, nat_lt, nat_le, ◌==◌, if◌then◌else◌, Result, Ok, Err, IsTrue}
 use Rattle.std.specs.List.{list_all, position_or_len}
 use Rattle.std.specs.Option.{option_map}
 use Rattle.std.specs.Str.{IsUtf8, is_utf8}
-use Rattle.std.proofs.lemmas.Bool.{false_from_ne_true, cond-false}
+use Rattle.std.proofs.lemmas.Bool.{false≢true, false_from_ne_true, cond-false}
 use Rattle.std.proofs.lemmas.Bool.Decides.{nat_tests}
 use Rattle.std.proofs.lemmas.Str.{is_utf8-from_IsUtf8, IsUtf8-from_is_utf8}
 use Rattle.op_base.specs.Name.{is_short, byte_fault, is_key, is_value, is_object, is_key_byte, is_value_byte, key_fault, value_fault, object_fault, kind_fault, kind_of, kind_part, key_part, or_else, Refuses}
@@ -14,10 +14,10 @@ use Rattle.op_base.specs.declared.name.Kind.{Kind}
 use Rattle.op_base.specs.declared.name.NameFault.{NameFault}
 use Rattle.op_base.specs.declared.name.NameFault.TheVariants.{Empty, TooLong, BadByte, NotUtf8, NoMemory}
 
--- `from_utf8` answers `Ok` exactly at UTF-8
-pub utf8_tested : {A E : Type 0} (r : Result A E) (bs : List ℕ) (P : A → Type 0) (Q : E → Type 0) → MatchResult r (λ s. P s × IsUtf8 bs) (λ e. ¬ (IsUtf8 bs) × Q e) → is_ok r ≡ is_utf8 bs
-utf8_tested (Ok s) bs P Q h = sym (is_utf8-from_IsUtf8 bs h.1)
-utf8_tested (Err e) bs P Q h = sym (false_from_ne_true (is_utf8 bs) (λ t. h.0 (IsUtf8-from_is_utf8 bs t)))
+-- a test that passes exactly at UTF-8 is the definition's
+pub utf8_tested : (tested : Bool) (bs : List ℕ) → (IsTrue tested ↔ IsUtf8 bs) → tested ≡ is_utf8 bs
+utf8_tested true bs h = sym (is_utf8-from_IsUtf8 bs (h.0 refl))
+utf8_tested false bs h = sym (false_from_ne_true (is_utf8 bs) (λ t. false≢true (h.1 (IsUtf8-from_is_utf8 bs t))))
 
 -- some byte fails exactly where not all pass
 some_fails : (p : ℕ → Bool) (xs : List ℕ) → nat_lt (position_or_len (λ b. not (p b)) xs) (length xs) ≡ not (list_all p xs)

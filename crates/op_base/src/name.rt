@@ -1,6 +1,6 @@
 //! Names: the seven kinds, keys, values and objects.
 //!
-//! Their texts are this project's own profile. UTF-8 is std's.
+//! Their texts are this project's own profile. UTF-8 is tested by `simdutf8`.
 
 ghost use Rattle.std.specs.Prelude.{◌≡◌, ◌≢◌, IfOk, IfErr, OnOk, IsTrue, position, not, Some, Ok};
 ghost use Rattle.std.specs.List.{list_all};
@@ -12,17 +12,21 @@ ghost use Rattle.std.specs.Cmp.Lexicographic.{pointwise, slice_cmp, nat_list_eq_
 ghost use Rattle.op_base.specs.Name.{is_key, is_value, is_object, is_key_byte, is_value_byte, key_fault, value_fault, object_fault, kind_word, kind_of, kind_part, key_part, is_colon, Refuses};
 
 use crate::memory::NoMemory;
+use smallvec::SmallVec;
 use std::alloc::{AllocError, Global};
 use std::cmp::Ordering;
 use std::error::Error;
+use std::fmt;
 use std::marker::Model;
-use std::{fmt, str};
 
 /// A key has at most so many bytes.
 pub const MOST_KEY_BYTES: usize = 32;
 
 /// A value has at most so many bytes.
 pub const MOST_VALUE_BYTES: usize = 4096;
+
+/// A value of at most so many bytes stands in the value itself, a longer one in an allocation.
+const VALUE_BYTES_IN_PLACE: usize = 24;
 
 /// The type of an object. Objects of different kinds never meet.
 #[derive(Clone, Copy, Debug, PartialEq, Eq, PartialOrd, Ord, Hash)]
@@ -117,10 +121,10 @@ impl Model for Key {
 }
 
 /// A value: 1 to 4096 bytes of UTF-8 with no byte at or below 0x20 and no 0x7F, so that a terminal prints it
-/// without surprises. Contracts see the list of its bytes.
+/// without surprises. A short one stands in the value itself. Contracts see the list of its bytes.
 #[derive(Debug, Drop)]
 pub struct Value {
-    bytes: Vec<u8>,
+    bytes: SmallVec<u8, VALUE_BYTES_IN_PLACE>,
 }
 
 impl Model for Value {
@@ -231,7 +235,7 @@ fn bad_value_place(bytes: &[u8]) -> Option<usize>
 fn is_utf8(bytes: &[u8]) -> bool
     ensures { result ≡ is_utf8 bytes.now }
 {
-    str::from_utf8(bytes).is_ok()
+    simdutf8::is_utf8(bytes)
 }
 
 /// Why bytes are no key, where they are none.
@@ -341,7 +345,7 @@ impl Value {
         match value_fault(bytes) {
             Some(fault) => Err(fault),
             None => Ok(Value {
-                bytes: Vec::from_slice(alloc, bytes)?,
+                bytes: SmallVec::from_slice(alloc, bytes)?,
             }),
         }
     }
@@ -359,7 +363,7 @@ impl Value {
         ensures { IfOk result (λ copy. copy ≡ self.now) }
     {
         Ok(Value {
-            bytes: Vec::from_slice(alloc, self.bytes.as_slice())?,
+            bytes: SmallVec::from_slice(alloc, self.bytes.as_slice())?,
         })
     }
 }

@@ -19,7 +19,7 @@ pub record IsAlone (me n w limit : ℕ) : Type 0 where
   pub members : n ≡ 1
   pub member : me ≡ 0
   pub window : 1 ≤ w
-  pub most : limit ≤ 65535
+  pub most : limit ≤ 1000000
 
 pub alone : (me n w limit : ℕ) → IsTrue (are_numbers me n w limit) → IsAlone me n w limit
 alone me n w limit h = record { members = grind (arith, nat_tests); member = grind (arith, nat_tests); window = grind (arith, nat_tests); most = grind (arith, nat_tests) }

@@ -5,8 +5,8 @@ use Rattle.std.specs.Prelude.{ℕ, Bool, ◌&&◌, ◌==◌, nat_lt, nat_le}
 abbrev pub is_from_to : ℕ → ℕ → ℕ → Bool
 is_from_to low high x = nat_le low x && nat_le x high
 
--- Member me of 1 to 16 members, a window of 1 to 64, 1 to 65535 messages a member. Stores of several members are not
+-- Member me of 1 to 16 members, a window of 1 to 64, 1 to 1000000 messages a member. Stores of several members are not
 -- built yet.
 abbrev pub are_numbers : ℕ → ℕ → ℕ → ℕ → Bool
 are_numbers me n w limit =
-    is_from_to 1 16 n && (n == 1) && is_from_to 1 64 w && is_from_to 1 65535 limit && nat_lt me n
+    is_from_to 1 16 n && (n == 1) && is_from_to 1 64 w && is_from_to 1 1000000 limit && nat_lt me n

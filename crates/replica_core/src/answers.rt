@@ -5,7 +5,7 @@ use op_base::Message;
 /// Why a replica wasn't made.
 #[derive(Clone, Copy, Debug, PartialEq, Eq)]
 pub enum CreateFault {
-    /// A number is out of its range: 1 to 16 members (for now 1), a window of 1 to 64, a limit of 1 to 65535, a
+    /// A number is out of its range: 1 to 16 members (for now 1), a window of 1 to 64, a limit of 1 to 1000000, a
     /// member below the number of members.
     BadNumbers,
     /// There is no memory. A replica takes none when it is made, so this doesn't come yet.

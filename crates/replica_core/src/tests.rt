@@ -8,7 +8,7 @@ fn numbers_are_taken_in_their_ranges(rt: HostRuntime) -> Result<(), Fail> {
     // me, n, w, limit, and whether they are taken.
     let cases: [(u8, u8, u8, u32, bool); 12] = [
         (0, 1, 1, 1, true),
-        (0, 1, 64, 65535, true),
+        (0, 1, 64, 1000000, true),
         (0, 1, 7, 10000, true),
         (0, 0, 1, 1, false),
         (0, 2, 1, 1, false),
@@ -18,7 +18,7 @@ fn numbers_are_taken_in_their_ranges(rt: HostRuntime) -> Result<(), Fail> {
         (0, 1, 0, 1, false),
         (0, 1, 65, 1, false),
         (0, 1, 1, 0, false),
-        (0, 1, 1, 65536, false),
+        (0, 1, 1, 1000001, false),
     ];
     for (me, n, w, limit, taken) in cases {
         match Replica::create(rt.alloc(), me, n, w, limit) {

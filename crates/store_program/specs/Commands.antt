@@ -25,7 +25,7 @@ o >>= f = option_and_then f o
 
 -- a command line, and a header, has at most so many bytes
 abbrev pub most_line_bytes : ℕ
-most_line_bytes = 512
+most_line_bytes = 16384
 
 -- how many messages a member may send where the header doesn't say
 abbrev pub usual_limit : ℕ

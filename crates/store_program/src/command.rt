@@ -16,7 +16,7 @@ use replica_core::are_numbers;
 use std::alloc::Global;
 
 /// A command line, and a header, has at most so many bytes.
-pub const MOST_LINE_BYTES: usize = 512;
+pub const MOST_LINE_BYTES: usize = 16384;
 
 /// How many messages a member may send where the header doesn't say.
 pub const USUAL_LIMIT: u32 = 10000;
@@ -24,7 +24,7 @@ pub const USUAL_LIMIT: u32 = 10000;
 /// What a script begins with. So far it has one form.
 #[derive(Clone, Copy, Debug, PartialEq, Eq)]
 pub enum Header {
-    /// A store of `n` members (for now 1) with a window of `w`, 1 to 64, and a limit of 1 to 65535 messages a member.
+    /// A store of `n` members (for now 1) with a window of `w`, 1 to 64, and a limit of 1 to 1000000 messages a member.
     Store { n: u8, w: u8, limit: u32 },
 }
 

@@ -78,18 +78,18 @@ fn scripts_give_their_transcripts(rt: HostRuntime) -> Result<(), Fail> {
         (b"", Status::BadHeader, b""),
         (b"\n# no command\n \t \r\n", Status::BadHeader, b""),
         (b"store 17 1\n", Status::BadHeader, b""),
-        (b"store 2 2 70000\n", Status::BadHeader, b""),
+        (b"store 2 2 1000001\n", Status::BadHeader, b""),
         (b"store 2 1\n", Status::BadHeader, b""),
         (b"store 1 0\n", Status::BadHeader, b""),
         (b"store 1 65\n", Status::BadHeader, b""),
         (b"store 1 1 0\n", Status::BadHeader, b""),
-        (b"store 1 1 65536\n", Status::BadHeader, b""),
+        (b"store 1 1 1000001\n", Status::BadHeader, b""),
         (b"store 1\n", Status::BadHeader, b""),
         (b"store 1 1 1 1\n", Status::BadHeader, b""),
         (b"stores 1 1\n", Status::BadHeader, b""),
         (b"do 0 counter:a inc 5\nstore 1 1\n", Status::BadHeader, b""),
         (b"store 1 1", Status::Fine, b""),
-        (b"store 1 64 65535", Status::Fine, b""),
+        (b"store 1 64 1000000", Status::Fine, b""),
         // The end of a member's messages.
         (
             b"store 1 1 3\ndo 0 counter:c inc 1\ndo 0 counter:c inc 1\ndo 0 counter:c inc 1\ndo 0 counter:c inc 1\nask 0 counter:c\n",
@@ -236,6 +236,21 @@ fn an_input_has_at_most_4194304_bytes(rt: HostRuntime) -> Result<(), Fail> {
     ];
     for (head, len, tail, status) in cases {
         let input = padded(rt.alloc(), head, len, tail)?;
+        let (found, written) = script(&rt, input.as_slice())?;
+        assert_eq!(rt; found, status);
+        assert!(rt; written.is_empty());
+    }
+    Ok(())
+}
+
+#[test]
+fn a_command_line_has_at_most_16384_bytes(rt: HostRuntime) -> Result<(), Fail> {
+    for (spaces, status) in [(16375, Status::Fine), (16376, Status::BadHeader)] {
+        let mut input = Vec::from_slice(rt.alloc(), b"store 1 1")?;
+        for _ in 0..spaces {
+            input.push(b' ')?;
+        }
+        input.push(b'\n')?;
         let (found, written) = script(&rt, input.as_slice())?;
         assert_eq!(rt; found, status);
         assert!(rt; written.is_empty());
