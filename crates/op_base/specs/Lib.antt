@@ -2,6 +2,7 @@ pub mod Name
 pub mod Object
 pub mod Operation
 pub mod Code
+pub mod Valid
 pub mod TagFields
 pub mod KeyFields
 pub mod Timestamp

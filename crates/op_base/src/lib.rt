@@ -12,6 +12,7 @@ mod outcome;
 mod tag;
 #[cfg(test)]
 mod tests;
+mod validity;
 
 pub use laws::{items_are_in_one_order, names_are_exactly_what_is_read};
 pub use list::{ByteList, IdList, ListOf, MessageList, StepList, Text, ValueList};
@@ -22,3 +23,4 @@ pub use operation::{Act, Op, Update};
 pub use order::item_order;
 pub use outcome::{Answer, Cell, Crook, Item, Step};
 pub use tag::{MOST_MEMBERS, MessageId, Tag};
+pub use validity::{operations_are_valid, updates_are_valid};
