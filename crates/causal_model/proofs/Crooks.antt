@@ -1,5 +1,5 @@
 -- What a message has that is not crooked.
-use Rattle.std.proofs.Common.{◌≡◌, ◌≢◌, ℕ, ◌<◌, ◌≤◌, true, not, ◌&&◌, ◌||◌, ◌==◌, nat_lt, List, [], ◌∷◌, ◌++◌, sym, ap, ◌∙◌, inl, inr, arith, map}
+use Rattle.std.proofs.Common.{◌≡◌, ◌≢◌, ℕ, ◌<◌, ◌≤◌, true, not, ◌&&◌, ◌||◌, ◌==◌, nat_lt, List, [], ◌∷◌, ◌++◌, None, sym, ap, ◌∙◌, inl, inr, arith, map}
 use mathlib.Core.Bool.{and-true}
 use Rattle.std.specs.Prelude.{is_none}
 use Rattle.std.specs.List.{list_all}
@@ -10,7 +10,7 @@ use Rattle.op_base.specs.declared.message.Message.{Message}
 use Rattle.op_base.specs.declared.outcome.Crook.TheVariants.{Regress, Unclosed, Overrun, NoopOverrun}
 use Rattle.causal_model.specs.Counts.{members}
 use Rattle.causal_model.specs.Stability.{last_tag, unstable_operations, unstable_noops, noop_window}
-use Rattle.causal_model.specs.Crook.{fallen_at, tag_of, regress_of, unclosed_at, unclosed_of, overrun_of, noop_overrun_of, crook_of}
+use Rattle.causal_model.specs.Crook.{first_below, tag_of, regress_of, unclosed_at, unclosed_of, overrun_of, noop_overrun_of, crook_of}
 use Rattle.causal_model.proofs.Lists.{each_member, from_each_member}
 use Rattle.causal_model.proofs.Options.{none-find, none-first_some, none-option_map, none_unless, none_where}
 
@@ -23,23 +23,27 @@ pub record IsStraight (n w me : ℕ) (h : List Message) (m : Message) : Type 0 w
 
 -- ---- each cause is none exactly where its part holds
 
-rises : (n : ℕ) (had got : List ℕ) → is_none (fallen_at n had got) ≡ true → (x : ℕ) → x < n → entry had x ≤ entry got x
+pub rises : (n : ℕ) (had got : List ℕ) → is_none (first_below n had got) ≡ true → (x : ℕ) → x < n → entry had x ≤ entry got x
 rises n had got t x l =
     let stays = each_member (λ y. not (nat_lt (entry got y) (entry had y))) n (sym (none-find (λ y. nat_lt (entry got y) (entry had y)) (members n)) ∙ t) x l in
     ltb-false (entry got x) (entry had x) (not-true (nat_lt (entry got x) (entry had x)) stays)
 
-from_rises : (n : ℕ) (had got : List ℕ) → ((x : ℕ) → x < n → entry had x ≤ entry got x) → is_none (fallen_at n had got) ≡ true
+pub from_rises : (n : ℕ) (had got : List ℕ) → ((x : ℕ) → x < n → entry had x ≤ entry got x) → is_none (first_below n had got) ≡ true
 from_rises n had got each =
     none-find (λ y. nat_lt (entry got y) (entry had y)) (members n) ∙ from_each_member (λ y. not (nat_lt (entry got y) (entry had y))) n (λ x l. not_from_false (nat_lt (entry got x) (entry had x)) (le-ltb (entry got x) (entry had x) (each x l)))
 
 module _ (n : ℕ) (h : List Message) (m : Message) where
-  regress-none : is_none (regress_of n h m) ≡ is_none (fallen_at n (last_tag n h m.origin) m.tag)
-  regress-none = none-option_map (λ x. Regress x (entry (last_tag n h m.origin) x) (entry m.tag x)) (fallen_at n (last_tag n h m.origin) m.tag)
+  regress-none : is_none (regress_of n h m) ≡ is_none (first_below n (last_tag n h m.origin) m.tag)
+  regress-none = none-option_map (λ x. Regress x (entry (last_tag n h m.origin) x) (entry m.tag x)) (first_below n (last_tag n h m.origin) m.tag)
 
-  unclosed_at-none : (x : ℕ) → is_none (unclosed_at n h m x) ≡ ((x == m.origin) || (entry m.tag x == 0) || is_none (fallen_at n (tag_of n h x (entry m.tag x)) m.tag))
+  -- a sender's timestamps that don't regress don't fall
+  pub risen_from_none : regress_of n h m ≡ None → (x : ℕ) → x < n → entry (last_tag n h m.origin) x ≤ entry m.tag x
+  risen_from_none none = rises n (last_tag n h m.origin) m.tag (sym regress-none ∙ ap is_none none)
+
+  unclosed_at-none : (x : ℕ) → is_none (unclosed_at n h m x) ≡ ((x == m.origin) || (entry m.tag x == 0) || is_none (first_below n (tag_of n h x (entry m.tag x)) m.tag))
   unclosed_at-none x =
       let had = tag_of n h x (entry m.tag x) in
-      none_unless ((x == m.origin) || (entry m.tag x == 0)) _ ∙ ap (λ b. (x == m.origin) || (entry m.tag x == 0) || b) (none-option_map (λ y. Unclosed x y (entry had y) (entry m.tag y)) (fallen_at n had m.tag))
+      none_unless ((x == m.origin) || (entry m.tag x == 0)) _ ∙ ap (λ b. (x == m.origin) || (entry m.tag x == 0) || b) (none-option_map (λ y. Unclosed x y (entry had y) (entry m.tag y)) (first_below n had m.tag))
 
   unclosed-none : is_none (unclosed_of n h m) ≡ list_all (λ x. is_none (unclosed_at n h m x)) (members n)
   unclosed-none = none-first_some (map (unclosed_at n h m) (members n)) ∙ list_all-map is_none (unclosed_at n h m) (members n)

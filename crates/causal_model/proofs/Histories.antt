@@ -1,66 +1,81 @@
--- Histories, message by message.
-use Rattle.std.proofs.Common.{◌≡◌, ◌≢◌, ℕ, ◌+◌, ◌<◌, ◌≤◌, true, not, ◌&&◌, ◌||◌, ◌==◌, nat_lt, nat_le, nat_eq, IsTrue, List, [], ◌∷◌, ◌++◌, length, sym, ap, ◌∙◌, inl, inr, append_assoc, append-nil, arith}
-use mathlib.Core.Bool.{and-true, and_assoc}
-use Rattle.std.specs.Prelude.{is_none}
+-- Histories and their limits in parts, and with one message more.
+use Rattle.std.proofs.Common.{◌≡◌, ℕ, ◌<◌, ◌≤◌, Bool, true, ◌&&◌, nat_le, nat_lt, IsTrue, List, [], ◌∷◌, ◌++◌, sym, ap, ◌∙◌}
+use mathlib.Core.Bool.{and-true}
 use Rattle.std.specs.List.{list_all}
-use Rattle.std.specs.Cmp.Lexicographic.{pointwise, bytes_decides}
-use Rattle.std.proofs.lemmas.Bool.{and_parts, and_from, or_cases, or_left, or_right, not-true, not_from_false, eqb-true, eqb-false, eq-eqb, ne_eqb, ltb-true, lt-ltb, leb-true, le-leb, cases_eq}
-use Rattle.op_base.specs.Timestamp.{entry}
-use Rattle.op_base.specs.Message.{number, fits}
+use Rattle.std.proofs.lemmas.Bool.{and_parts, and_from, ltb-true, lt-ltb, leb-true, le-leb}
+use Rattle.std.proofs.lemmas.List.Folds.{list_all-append}
 use Rattle.op_base.specs.declared.message.Message.{Message}
-use Rattle.causal_model.specs.Counts.{members, count_of, next_tag, is_deliverable}
-use Rattle.causal_model.specs.Crook.{crook_of}
-use Rattle.causal_model.specs.History.{is_admissible, is_next, follows, is_history}
-use Rattle.causal_model.proofs.Lists.{induction_at_end, each_member, from_each_member}
-use Rattle.causal_model.proofs.Crooks.{IsStraight, IsStraight-from_none, none-from_IsStraight}
+use Rattle.causal_model.specs.Counts.{is_carried, are_carried}
+use Rattle.causal_model.specs.Chapter.{is_chapter, is_next}
+use Rattle.causal_model.specs.History.{Chapter, History, epoch_of, with_message, is_chapter_of, is_all_stable, is_history, is_limited}
+use Rattle.causal_model.proofs.Chapters.{is_chapter-push}
+use Rattle.causal_model.proofs.Limits.{are_carried-push}
 
--- that a message of a store of n members with a window w is the next of member me's history, in parts
-pub record IsNext (n w me : ℕ) (h : List Message) (m : Message) : Type 0 where
-  pub entries : length m.tag ≡ n
-  pub member : m.origin < n
-  pub counted : number m ≡ count_of h m.origin + 1
-  pub seen : (x : ℕ) → x < n → x ≢ m.origin → entry m.tag x ≤ count_of h x
-  pub straight : IsStraight n w me h m
-  pub own : m.origin ≡ me → m.tag ≡ next_tag n me h
+-- the tests that the chapters that are over pass
+abbrev pub is_over : ℕ → Chapter → Bool
+is_over w chapter = is_chapter_of w chapter && is_all_stable chapter
 
-module _ (n w me : ℕ) (h : List Message) (m : Message) where
-  pub IsNext-from_is_next : IsTrue (is_next n w me h m) → IsNext n w me h m
-  IsNext-from_is_next t =
-      let ruled = and_parts (fits n m && is_admissible n w me h m) (not (m.origin == me) || pointwise nat_eq m.tag (next_tag n me h)) t in
-      let both = and_parts (fits n m) (is_admissible n w me h m) ruled.0 in
-      let admitted = and_parts (is_deliverable n h m) (is_none (crook_of n w me h m)) both.1 in
-      let formed = and_parts (length m.tag == n && nat_lt m.origin n) (nat_lt 0 (number m)) both.0 in
-      let long = and_parts (length m.tag == n) (nat_lt m.origin n) formed.0 in
-      let causal = and_parts (number m == count_of h m.origin + 1) (list_all (λ x. (x == m.origin) || nat_le (entry m.tag x) (count_of h x)) (members n)) admitted.0 in
-      record {
-        entries = eqb-true (length m.tag) n long.0;
-        member = ltb-true m.origin n long.1;
-        counted = eqb-true (number m) (count_of h m.origin + 1) causal.0;
-        seen = λ x l ne. elim (or_cases (x == m.origin) (nat_le (entry m.tag x) (count_of h x)) (each_member _ n causal.1 x l)) [ inl same ↦ absurd (ne (eqb-true x m.origin same)) | inr low ↦ leb-true (entry m.tag x) (count_of h x) low ];
-        straight = IsStraight-from_none n w me h m admitted.1;
-        own = λ e. elim (or_cases (not (m.origin == me)) (pointwise nat_eq m.tag (next_tag n me h)) ruled.1) [ inl other ↦ absurd (eqb-false m.origin me (not-true (m.origin == me) other) e) | inr same ↦ (bytes_decides m.tag (next_tag n me h)).0 same ];
-      }
+-- that a history is one, in parts
+pub record IsHistory (w : ℕ) (h : History) : Type 0 where
+  pub past : list_all (is_over w) h.past ≡ true
+  pub few : h.present.n ≤ 16
+  pub member : h.present.me < h.present.n
+  pub chapter : IsTrue (is_chapter h.present.n w h.present.me h.present.messages)
 
-  pub is_next-from_IsNext : IsNext n w me h m → IsTrue (is_next n w me h m)
-  is_next-from_IsNext p =
-      let seen : (x : ℕ) → x < n → ((x == m.origin) || nat_le (entry m.tag x) (count_of h x)) ≡ true = λ x l. elim (cases_eq x m.origin) [ inl e ↦ or_left (x == m.origin) (nat_le (entry m.tag x) (count_of h x)) (eq-eqb x m.origin e) | inr ne ↦ or_right (x == m.origin) (nat_le (entry m.tag x) (count_of h x)) (le-leb (entry m.tag x) (count_of h x) (p.seen x l ne)) ] in
-      let ruled : (not (m.origin == me) || pointwise nat_eq m.tag (next_tag n me h)) ≡ true = elim (cases_eq m.origin me) [ inl e ↦ or_right (not (m.origin == me)) (pointwise nat_eq m.tag (next_tag n me h)) ((bytes_decides m.tag (next_tag n me h)).1 (p.own e)) | inr ne ↦ or_left (not (m.origin == me)) (pointwise nat_eq m.tag (next_tag n me h)) (not_from_false (m.origin == me) (ne_eqb m.origin me ne)) ] in
-      and_from _ _ (and_from _ _
-      (and_from _ _ (and_from _ _ (eq-eqb (length m.tag) n p.entries) (lt-ltb m.origin n p.member)) (lt-ltb 0 (number m) (omega (arith, p.counted))))
-      (and_from _ _ (and_from _ _ (eq-eqb (number m) (count_of h m.origin + 1) p.counted) (from_each_member _ n seen)) (none-from_IsStraight n w me h m p.straight))) ruled
+pub IsHistory-from_test : (w : ℕ) (h : History) → IsTrue (is_history w h) → IsHistory w h
+IsHistory-from_test w h t =
+    let both = and_parts (list_all (is_over w) h.past) (is_chapter_of w h.present) t in
+    let parts = and_parts (nat_le h.present.n 16 && nat_lt h.present.me h.present.n) (is_chapter h.present.n w h.present.me h.present.messages) both.1 in
+    let store = and_parts (nat_le h.present.n 16) (nat_lt h.present.me h.present.n) parts.0 in
+    record { past = both.0; few = leb-true h.present.n 16 store.0; member = ltb-true h.present.me h.present.n store.1; chapter = parts.1 }
 
-pub follows-append : (n w me : ℕ) (g h k : List Message) → follows n w me g (h ++ k) ≡ (follows n w me g h && follows n w me (g ++ h) k)
-follows-append n w me g [] k = ap (λ l. follows n w me l k) (sym (append-nil g))
-follows-append n w me g (m ∷ h) k =
-    ap (λ b. is_next n w me g m && b) (follows-append n w me (g ++ m ∷ []) h k)
-    ∙ ap (λ l. is_next n w me g m && (follows n w me (g ++ m ∷ []) h && follows n w me l k)) (append_assoc g (m ∷ []) h)
-    ∙ sym (and_assoc (is_next n w me g m) (follows n w me (g ++ m ∷ []) h) (follows n w me (g ++ m ∷ h) k))
+pub test-from_IsHistory : (w : ℕ) (h : History) → IsHistory w h → IsTrue (is_history w h)
+test-from_IsHistory w h is =
+    and_from (list_all (is_over w) h.past) (is_chapter_of w h.present) is.past (and_from (nat_le h.present.n 16 && nat_lt h.present.me h.present.n) (is_chapter h.present.n w h.present.me h.present.messages) (and_from (nat_le h.present.n 16) (nat_lt h.present.me h.present.n) (le-leb h.present.n 16 is.few) (lt-ltb h.present.me h.present.n is.member)) is.chapter)
 
-pub is_history-push : (n w me : ℕ) (h : List Message) (m : Message) → is_history n w me (h ++ m ∷ []) ≡ (is_history n w me h && is_next n w me h m)
-is_history-push n w me h m = follows-append n w me [] h (m ∷ []) ∙ ap (λ b. is_history n w me h && b) (and-true (is_next n w me h m))
+pub present_is_chapter : (w : ℕ) (h : History) → IsTrue (is_history w h) → is_chapter_of w h.present ≡ true
+present_is_chapter w h t = (and_parts (list_all (is_over w) h.past) (is_chapter_of w h.present) t).1
 
--- what holds of the empty history, and of a history with its next message at the end, holds of every history
-pub history_induction : (n w me : ℕ) (P : List Message → Type 0) → P [] → ((h : List Message) (m : Message) → IsTrue (is_history n w me h) → IsNext n w me h m → P h → P (h ++ m ∷ [])) → (h : List Message) → IsTrue (is_history n w me h) → P h
-history_induction n w me P none more h t = induction_at_end (λ g. IsTrue (is_history n w me g) → P g) (λ _. none) (λ g m ih both.
-    let parts = and_parts (is_history n w me g) (is_next n w me g m) (sym (is_history-push n w me g m) ∙ both) in
-    more g m parts.0 (IsNext-from_is_next n w me g m parts.1) (ih parts.0)) h t
+-- that the messages of chapters can be carried
+abbrev pub all_carried : ℕ → List Chapter → Bool
+all_carried limit chapters = list_all (λ chapter. are_carried limit chapter.messages) chapters
+
+pub all_carried-push : (limit : ℕ) (past : List Chapter) (chapter : Chapter) → all_carried limit (past ++ chapter ∷ []) ≡ (all_carried limit past && are_carried limit chapter.messages)
+all_carried-push limit past chapter = list_all-append (λ c. are_carried limit c.messages) past (chapter ∷ []) ∙ ap (λ b. all_carried limit past && b) (and-true (are_carried limit chapter.messages))
+
+-- that a history is within the limits, in parts
+pub record IsLimited (limit : ℕ) (h : History) : Type 0 where
+  pub epochs : epoch_of h ≤ 65535
+  pub past : all_carried limit h.past ≡ true
+  pub present : are_carried limit h.present.messages ≡ true
+
+pub IsLimited-from_test : (limit : ℕ) (h : History) → IsTrue (is_limited limit h) → IsLimited limit h
+IsLimited-from_test limit h t =
+    let both = and_parts (nat_le (epoch_of h) 65535) (all_carried limit (h.past ++ h.present ∷ [])) t in
+    let parts = and_parts (all_carried limit h.past) (are_carried limit h.present.messages) (sym (all_carried-push limit h.past h.present) ∙ both.1) in
+    record { epochs = leb-true (epoch_of h) 65535 both.0; past = parts.0; present = parts.1 }
+
+pub test-from_IsLimited : (limit : ℕ) (h : History) → IsLimited limit h → IsTrue (is_limited limit h)
+test-from_IsLimited limit h is =
+    and_from (nat_le (epoch_of h) 65535) (all_carried limit (h.past ++ h.present ∷ [])) (le-leb (epoch_of h) 65535 is.epochs) (all_carried-push limit h.past h.present ∙ and_from (all_carried limit h.past) (are_carried limit h.present.messages) is.past is.present)
+
+-- a history with its next message
+pub history_with : (w : ℕ) (h : History) (m : Message) → IsTrue (is_history w h) → IsTrue (is_next h.present.n w h.present.me h.present.messages m) → IsTrue (is_history w (with_message h m))
+history_with w h m t next =
+    let is = IsHistory-from_test w h t in
+    test-from_IsHistory w (with_message h m) (record {
+      past = is.past;
+      few = is.few;
+      member = is.member;
+      chapter = is_chapter-push h.present.n w h.present.me h.present.messages m ∙ and_from _ _ is.chapter next;
+    })
+
+-- a history with a message that can be carried
+pub limited_with : (limit : ℕ) (h : History) (m : Message) → IsTrue (is_limited limit h) → IsTrue (is_carried limit m) → IsTrue (is_limited limit (with_message h m))
+limited_with limit h m t carried =
+    let is = IsLimited-from_test limit h t in
+    test-from_IsLimited limit (with_message h m) (record {
+      epochs = is.epochs;
+      past = is.past;
+      present = are_carried-push limit h.present.messages m ∙ and_from _ _ is.present carried;
+    })

@@ -1,4 +1,4 @@
--- What one message more leaves of the outbox, of what is uncovered, logged and settled; and how long a log is.
+-- What one message more leaves of the outbox, of what is uncovered and logged; and how long a log is.
 use Rattle.std.proofs.Common.{◌≡◌, ℕ, ◌+◌, ◌*◌, ◌<◌, ◌≤◌, Bool, true, false, not, ◌&&◌, ◌||◌, ◌==◌, nat_lt, cond, All, IsTrue, List, [], ◌∷◌, ◌++◌, length, zero, suc, refl, sym, ap, ◌∙◌, inl, inr, if◌then◌else◌, arith}
 use mathlib.Core.Bool.{and-true, and_assoc}
 use Rattle.std.specs.List.{filter, count_by, list_any}
@@ -9,26 +9,21 @@ use Rattle.std.proofs.lemmas.List.Sums.{length-filter, sum_by-cons}
 use Rattle.op_base.specs.Timestamp.{entry}
 use Rattle.op_base.specs.Message.{number}
 use Rattle.op_base.specs.declared.message.Message.{Message}
-use Rattle.op_base.specs.declared.name.ObjectId.{ObjectId}
-use Rattle.op_base.specs.declared.operation.Act.{Act}
 use Rattle.op_base.specs.declared.operation.Update.{Update}
 use Rattle.op_base.specs.declared.operation.Op.{Op}
 use Rattle.op_base.specs.declared.operation.Op.TheVariants as op
 use Rattle.causal_model.specs.Counts.{count_of}
-use Rattle.causal_model.specs.Covering.{store_covers}
-use Rattle.causal_model.specs.History.{is_history}
+use Rattle.causal_model.specs.Chapter.{is_chapter}
 use Rattle.causal_model.specs.Log.{is_kept, is_covered_by, is_uncovered, kept_log}
 use Rattle.causal_model.specs.Order.{happened_before}
-use Rattle.causal_model.specs.Query.{does}
 use Rattle.causal_model.specs.Sending.{outbox_of}
-use Rattle.causal_model.specs.Settled.{has_settled, has_pending}
-use Rattle.causal_model.specs.Stability.{is_stable, carries_operation, unstable_operations}
+use Rattle.causal_model.specs.Stability.{stable_vector, is_stable, carries_operation, unstable_operations}
 use Rattle.causal_model.proofs.Lists.{filter-filter, count_by-le-count_by}
 use Rattle.causal_model.proofs.Orders.{never_before_itself}
 use Rattle.causal_model.proofs.Settling.{last_is_next, origins_are_members, few_are_unstable}
 use Rattle.causal_model.proofs.Stability.{stable_stays}
 use Rattle.causal_model.proofs.Timestamps.{tags_are_counted}
-use Rattle.causal_model.proofs.Windows.{unstable-count}
+use Rattle.causal_model.proofs.Windows.{unstable_of-filter, unstable-count}
 
 -- ---- what is uncovered
 
@@ -47,7 +42,7 @@ pub never_before_counted : (h : List Message) (m e : Message) → count_of h m.o
 never_before_counted h m e above counted = and_right _ _ (lt-leb (number m) (entry e.tag m.origin) (omega (arith, above, counted m.origin)))
 
 -- the new message neither happened before one of the history nor before itself
-pub last_is_uncovered : (covers : Update → Update → Bool) (n w me : ℕ) (h : List Message) (m : Message) → IsTrue (is_history n w me (h ++ m ∷ [])) → is_uncovered covers (h ++ m ∷ []) m ≡ true
+pub last_is_uncovered : (covers : Update → Update → Bool) (n w me : ℕ) (h : List Message) (m : Message) → IsTrue (is_chapter n w me (h ++ m ∷ [])) → is_uncovered covers (h ++ m ∷ []) m ≡ true
 last_is_uncovered covers n w me h m t =
     let parts = last_is_next n w me h m t in
     let covered : Message → Bool = λ later. is_covered_by covers m.op later.op && happened_before m later in
@@ -63,7 +58,7 @@ filter_agree_on p q (x ∷ xs) each =
     ap (λ b. cond b (x ∷ filter p xs) (filter p xs)) (All-head (λ y. p y ≡ q y) x xs each) ∙ ap (λ ys. cond (q x) (x ∷ ys) ys) (filter_agree_on p q xs (All-tail (λ y. p y ≡ q y) x xs each))
 
 -- what is kept with one item more: of what was kept and of the item, what stays
-kept-push : {X : Type 0} (now was stays : X → Bool) (takes : Bool) (xs : List X) (x : X) → All (λ y. now y ≡ (was y && stays y)) xs → now x ≡ (takes && stays x)
+pub kept-push : {X : Type 0} (now was stays : X → Bool) (takes : Bool) (xs : List X) (x : X) → All (λ y. now y ≡ (was y && stays y)) xs → now x ≡ (takes && stays x)
     → filter now (xs ++ x ∷ []) ≡ filter stays (filter was xs ++ (if takes then x ∷ [] else []))
 kept-push now was stays takes xs x each last =
     filter-append now xs (x ∷ []) ∙ ap (λ ys. ys ++ filter now (x ∷ [])) (filter_agree_on now (λ y. was y && stays y) xs each ∙ sym (filter-filter was stays xs))
@@ -74,25 +69,25 @@ kept-push now was stays takes xs x each last =
       one false = refl
 
 -- with one message more, what is stable stays stable
-stables_stay : (n w me : ℕ) (h : List Message) (m : Message) → IsTrue (is_history n w me (h ++ m ∷ [])) → All (λ e. is_stable n me h e ≡ true → is_stable n me (h ++ m ∷ []) e ≡ true) h
+stables_stay : (n w me : ℕ) (h : List Message) (m : Message) → IsTrue (is_chapter n w me (h ++ m ∷ [])) → All (λ e. is_stable (stable_vector n me h) e ≡ true → is_stable (stable_vector n me (h ++ m ∷ [])) e ≡ true) h
 stables_stay n w me h m t =
     let parts = last_is_next n w me h m t in
-    All-weaker (λ e. e.origin < n) (λ e. is_stable n me h e ≡ true → is_stable n me (h ++ m ∷ []) e ≡ true) (stable_stays n me h m parts.1.straight.risen) h (origins_are_members n w me h parts.0)
+    All-weaker (λ e. e.origin < n) (λ e. is_stable (stable_vector n me h) e ≡ true → is_stable (stable_vector n me (h ++ m ∷ [])) e ≡ true) (stable_stays n me h m parts.1.straight.risen) h (origins_are_members n w me h parts.0)
 
 still_sent : (a s t : Bool) → (s ≡ true → t ≡ true) → (a && not t) ≡ ((a && not s) && not t)
 still_sent false s t h = refl
 still_sent true false t h = refl
 still_sent true true t h = not_from_true t (h refl)
 
-pub outbox_of-push : (n w me : ℕ) (h : List Message) (m : Message) → me < n → IsTrue (is_history n w me (h ++ m ∷ []))
+pub outbox_of-push : (n w me : ℕ) (h : List Message) (m : Message) → me < n → IsTrue (is_chapter n w me (h ++ m ∷ []))
     → outbox_of n me (h ++ m ∷ [])
-    ≡ filter (λ e. not (is_stable n me (h ++ m ∷ []) e)) (outbox_of n me h ++ (if m.origin == me then m ∷ [] else []))
+    ≡ filter (λ e. not (is_stable (stable_vector n me (h ++ m ∷ [])) e)) (outbox_of n me h ++ (if m.origin == me then m ∷ [] else []))
 outbox_of-push n w me h m l t =
-    let was : Message → Bool = λ e. (e.origin == me) && not (is_stable n me h e) in
-    let stays : Message → Bool = λ e. not (is_stable n me (h ++ m ∷ []) e) in
+    let was : Message → Bool = λ e. (e.origin == me) && not (is_stable (stable_vector n me h) e) in
+    let stays : Message → Bool = λ e. not (is_stable (stable_vector n me (h ++ m ∷ [])) e) in
     let now : Message → Bool = λ e. (e.origin == me) && stays e in
-    let each = All-weaker (λ e. is_stable n me h e ≡ true → is_stable n me (h ++ m ∷ []) e ≡ true) (λ e. now e ≡ (was e && stays e)) (λ e. still_sent (e.origin == me) (is_stable n me h e) (is_stable n me (h ++ m ∷ []) e)) h (stables_stay n w me h m t) in
-    kept-push now was stays (m.origin == me) h m each refl
+    let each = All-weaker (λ e. is_stable (stable_vector n me h) e ≡ true → is_stable (stable_vector n me (h ++ m ∷ [])) e ≡ true) (λ e. now e ≡ (was e && stays e)) (λ e. still_sent (e.origin == me) (is_stable (stable_vector n me h) e) (is_stable (stable_vector n me (h ++ m ∷ [])) e)) h (stables_stay n w me h m t) in
+    unstable_of-filter n me (h ++ m ∷ []) me ∙ kept-push now was stays (m.origin == me) h m each refl ∙ ap (λ ms. filter stays (ms ++ (if m.origin == me then m ∷ [] else []))) (sym (unstable_of-filter n me h me))
 
 still_logged : (k u c s t : Bool) → (s ≡ true → t ≡ true) → (k && (u && not c) && not t) ≡ (((k && u && not s) && not c) && not t)
 still_logged false u c s t h = refl
@@ -100,46 +95,19 @@ still_logged true false c s t h = refl
 still_logged true true c false t h = refl
 still_logged true true c true t h = and_right (not c) (not t) (not_from_true t (h refl))
 
-pub kept_log-push : (keeps : Update → Bool) (covers : Update → Update → Bool) (n w me : ℕ) (h : List Message) (m : Message) → IsTrue (is_history n w me (h ++ m ∷ []))
+pub kept_log-push : (keeps : Update → Bool) (covers : Update → Update → Bool) (n w me : ℕ) (h : List Message) (m : Message) → IsTrue (is_chapter n w me (h ++ m ∷ []))
     → kept_log keeps covers n me (h ++ m ∷ [])
-    ≡ filter (λ e. not (is_stable n me (h ++ m ∷ []) e))
+    ≡ filter (λ e. not (is_stable (stable_vector n me (h ++ m ∷ [])) e))
     (filter (λ e. not (is_covered_by covers e.op m.op && happened_before e m)) (kept_log keeps covers n me h)
     ++ (if is_kept keeps m.op then m ∷ [] else []))
 kept_log-push keeps covers n w me h m t =
-    let was : Message → Bool = λ e. is_kept keeps e.op && is_uncovered covers h e && not (is_stable n me h e) in
+    let was : Message → Bool = λ e. is_kept keeps e.op && is_uncovered covers h e && not (is_stable (stable_vector n me h) e) in
     let bare : Message → Bool = λ e. not (is_covered_by covers e.op m.op && happened_before e m) in
-    let stays : Message → Bool = λ e. not (is_stable n me (h ++ m ∷ []) e) in
+    let stays : Message → Bool = λ e. not (is_stable (stable_vector n me (h ++ m ∷ [])) e) in
     let now : Message → Bool = λ e. is_kept keeps e.op && is_uncovered covers (h ++ m ∷ []) e && stays e in
-    let each = All-weaker (λ e. is_stable n me h e ≡ true → is_stable n me (h ++ m ∷ []) e ≡ true) (λ e. now e ≡ ((was e && bare e) && stays e)) (λ e stable. ap (λ b. is_kept keeps e.op && b && stays e) (is_uncovered-push covers h m e) ∙ still_logged (is_kept keeps e.op) (is_uncovered covers h e) (is_covered_by covers e.op m.op && happened_before e m) (is_stable n me h e) (is_stable n me (h ++ m ∷ []) e) stable) h (stables_stay n w me h m t) in
+    let each = All-weaker (λ e. is_stable (stable_vector n me h) e ≡ true → is_stable (stable_vector n me (h ++ m ∷ [])) e ≡ true) (λ e. now e ≡ ((was e && bare e) && stays e)) (λ e stable. ap (λ b. is_kept keeps e.op && b && stays e) (is_uncovered-push covers h m e) ∙ still_logged (is_kept keeps e.op) (is_uncovered covers h e) (is_covered_by covers e.op m.op && happened_before e m) (is_stable (stable_vector n me h) e) (is_stable (stable_vector n me (h ++ m ∷ [])) e) stable) h (stables_stay n w me h m t) in
     let last : now m ≡ (is_kept keeps m.op && stays m) = rw (last_is_uncovered covers n w me h m t) (ap (λ b. b && stays m) (and-true (is_kept keeps m.op))) in
     kept-push now (λ e. was e && bare e) stays (is_kept keeps m.op) h m each last ∙ ap (λ ms. filter stays (ms ++ (if is_kept keeps m.op then m ∷ [] else []))) (sym (filter-filter was bare h))
-
--- ---- what has settled
-
-settled_new : (a b c : Bool) → c ≡ true → ((a && (b && c)) || false) ≡ (a && b)
-settled_new false b c h = refl
-settled_new true false c h = refl
-settled_new true true c h = or_left c false h
-
-pub has_settled-push : (n w me : ℕ) (h : List Message) (m : Message) (object : ObjectId) (passes : Act → Bool) → IsTrue (is_history n w me (h ++ m ∷ []))
-    → has_settled n me (h ++ m ∷ []) object passes
-    ≡ (list_any (λ e. does object passes e && (is_stable n me (h ++ m ∷ []) e && (is_uncovered store_covers h e && not (is_covered_by store_covers e.op m.op && happened_before e m)))) h
-    || (does object passes m && is_stable n me (h ++ m ∷ []) m))
-has_settled-push n w me h m object passes t =
-    let settles : (Message → Bool) → Message → Bool = λ uncovered e. does object passes e && (is_stable n me (h ++ m ∷ []) e && uncovered e) in
-    let now : Message → Bool = settles (is_uncovered store_covers (h ++ m ∷ [])) in
-    let new : (now m || false) ≡ (does object passes m && is_stable n me (h ++ m ∷ []) m) = settled_new (does object passes m) (is_stable n me (h ++ m ∷ []) m) (is_uncovered store_covers (h ++ m ∷ []) m) (last_is_uncovered store_covers n w me h m t) in
-    list_any-append now h (m ∷ []) ∙ ap (λ b. list_any now h || b) new ∙ (λ i. list_any (settles (λ e. is_uncovered-push store_covers h m e i)) h || (does object passes m && is_stable n me (h ++ m ∷ []) m))
-
-pub has_pending-push : (n w me : ℕ) (h : List Message) (m : Message) (object : ObjectId) (passes : Act → Bool) → IsTrue (is_history n w me (h ++ m ∷ []))
-    → has_pending n me (h ++ m ∷ []) object passes
-    ≡ (list_any (λ e. does object passes e && (not (is_stable n me (h ++ m ∷ []) e) && (is_uncovered store_covers h e && not (is_covered_by store_covers e.op m.op && happened_before e m)))) h
-    || (does object passes m && not (is_stable n me (h ++ m ∷ []) m)))
-has_pending-push n w me h m object passes t =
-    let waits : (Message → Bool) → Message → Bool = λ uncovered e. does object passes e && (not (is_stable n me (h ++ m ∷ []) e) && uncovered e) in
-    let now : Message → Bool = waits (is_uncovered store_covers (h ++ m ∷ [])) in
-    let new : (now m || false) ≡ (does object passes m && not (is_stable n me (h ++ m ∷ []) m)) = settled_new (does object passes m) (not (is_stable n me (h ++ m ∷ []) m)) (is_uncovered store_covers (h ++ m ∷ []) m) (last_is_uncovered store_covers n w me h m t) in
-    list_any-append now h (m ∷ []) ∙ ap (λ b. list_any now h || b) new ∙ (λ i. list_any (waits (λ e. is_uncovered-push store_covers h m e i)) h || (does object passes m && not (is_stable n me (h ++ m ∷ []) m)))
 
 -- ---- how long a log is
 
@@ -165,12 +133,12 @@ below_or_at k n b t =
     ]
 
 -- where at most w of each kind pass a test, at most n times w of the first n kinds do
-count_by-le-product : {X : Type 0} (kind : X → ℕ) (p : X → Bool) (w : ℕ) (xs : List X) → ((k : ℕ) → count_by (λ x. (kind x == k) && p x) xs ≤ w) → (n : ℕ) → count_by (λ x. nat_lt (kind x) n && p x) xs ≤ n * w
+pub count_by-le-product : {X : Type 0} (kind : X → ℕ) (p : X → Bool) (w : ℕ) (xs : List X) → ((k : ℕ) → count_by (λ x. (kind x == k) && p x) xs ≤ w) → (n : ℕ) → count_by (λ x. nat_lt (kind x) n && p x) xs ≤ n * w
 count_by-le-product kind p w xs each zero = omega (arith, count_by_none (λ x. nat_lt (kind x) 0 && p x) xs (λ x. and_left _ _ (le-ltb (kind x) 0 (omega arith))))
 count_by-le-product kind p w xs each (suc n) =
     omega (arith, count_by-either (λ x. nat_lt (kind x) (suc n) && p x) (λ x. nat_lt (kind x) n && p x) (λ x. (kind x == n) && p x) xs (λ x. below_or_at (kind x) n (p x)), each n, count_by-le-product kind p w xs each n)
 
-is_operation : (keeps : Update → Bool) (o : Op) → is_kept keeps o ≡ true → carries_operation o ≡ true
+pub is_operation : (keeps : Update → Bool) (o : Op) → is_kept keeps o ≡ true → carries_operation o ≡ true
 is_operation keeps op.NoOp t = t
 is_operation keeps (op.Update u) t = refl
 
@@ -180,13 +148,13 @@ logged_is_unstable true false u s c h t = absurd (false≢true t)
 logged_is_unstable false k u s c h t = t
 
 -- the log has unstable operations alone, and each of them is a member's
-pub log_is_bounded : (keeps : Update → Bool) (covers : Update → Update → Bool) (n w me : ℕ) (h : List Message) → IsTrue (is_history n w me h) → length (kept_log keeps covers n me h) ≤ n * w
+pub log_is_bounded : (keeps : Update → Bool) (covers : Update → Update → Bool) (n w me : ℕ) (h : List Message) → IsTrue (is_chapter n w me h) → length (kept_log keeps covers n me h) ≤ n * w
 log_is_bounded keeps covers n w me h t =
-    let unstable : Message → Bool = λ e. not (is_stable n me h e) && carries_operation e.op in
-    let kept : Message → Bool = λ e. is_kept keeps e.op && is_uncovered covers h e && not (is_stable n me h e) in
+    let unstable : Message → Bool = λ e. not (is_stable (stable_vector n me h) e) && carries_operation e.op in
+    let kept : Message → Bool = λ e. is_kept keeps e.op && is_uncovered covers h e && not (is_stable (stable_vector n me h) e) in
     let member : Message → Bool = λ e. nat_lt e.origin n in
     let each = All-weaker (λ e. e.origin < n) (λ e. kept e ≡ (member e && kept e)) (λ e l. sym (ap (λ b. b && kept e) (lt-ltb e.origin n l))) h (origins_are_members n w me h t) in
     let long = ap length (filter_agree_on kept (λ e. member e && kept e) h each) ∙ length-filter (λ e. member e && kept e) h in
-    let fewer = count_by-le-count_by (λ e. member e && kept e) (λ e. member e && unstable e) h (λ e. logged_is_unstable (member e) (is_kept keeps e.op) (is_uncovered covers h e) (not (is_stable n me h e)) (carries_operation e.op) (is_operation keeps e.op)) in
-    let counted : (x : ℕ) → unstable_operations n me h x ≡ count_by (λ e. (e.origin == x) && unstable e) h = λ x. unstable-count (λ e. carries_operation e.op) n me h x ∙ (λ i. count_by (λ e. and_assoc (e.origin == x) (not (is_stable n me h e)) (carries_operation e.op) i) h) in
+    let fewer = count_by-le-count_by (λ e. member e && kept e) (λ e. member e && unstable e) h (λ e. logged_is_unstable (member e) (is_kept keeps e.op) (is_uncovered covers h e) (not (is_stable (stable_vector n me h) e)) (carries_operation e.op) (is_operation keeps e.op)) in
+    let counted : (x : ℕ) → unstable_operations n me h x ≡ count_by (λ e. (e.origin == x) && unstable e) h = λ x. unstable-count (λ e. carries_operation e.op) n me h x ∙ (λ i. count_by (λ e. and_assoc (e.origin == x) (not (is_stable (stable_vector n me h) e)) (carries_operation e.op) i) h) in
     omega (arith, long, fewer, count_by-le-product (λ e. e.origin) unstable w h (λ x. omega (arith, counted x, (few_are_unstable n w me x h t).0)) n)

@@ -13,10 +13,10 @@ use Rattle.op_base.specs.declared.message.Message.{Message}
 use Rattle.causal_model.specs.Counts.{count_of}
 use Rattle.causal_model.specs.Stability.{last_tag}
 use Rattle.causal_model.specs.Crook.{tag_of}
-use Rattle.causal_model.specs.History.{is_history}
+use Rattle.causal_model.specs.Chapter.{is_chapter}
 use Rattle.causal_model.specs.Order.{same_id, happened_before}
 use Rattle.causal_model.proofs.Counts.{count_of-push_own, count_of-push_other}
-use Rattle.causal_model.proofs.Histories.{IsNext, history_induction}
+use Rattle.causal_model.proofs.Chapters.{IsNext, chapter_induction}
 use Rattle.causal_model.proofs.Stability.{last_tag-push, last_tag_grows}
 use Rattle.causal_model.proofs.Timestamps.{tag_of_has, entry-zero_tag, tags_are_counted}
 
@@ -55,8 +55,8 @@ tag_of_is_numbered n (y ∷ h) m x s some has =
 
 module _ (n w me : ℕ) where
   -- under each number up to the count a timestamp with that number is found
-  pub each_number_is_there : (h : List Message) → IsTrue (is_history n w me h) → (x s : ℕ) → 0 < s → s ≤ count_of h x → entry (tag_of n h x s) x ≡ s
-  each_number_is_there = history_induction n w me (λ g. (x s : ℕ) → 0 < s → s ≤ count_of g x → entry (tag_of n g x s) x ≡ s) (λ x s some low. absurd (omega (arith, some, low))) (λ g m _ next ih x s some low.
+  pub each_number_is_there : (h : List Message) → IsTrue (is_chapter n w me h) → (x s : ℕ) → 0 < s → s ≤ count_of h x → entry (tag_of n h x s) x ≡ s
+  each_number_is_there = chapter_induction n w me (λ g. (x s : ℕ) → 0 < s → s ≤ count_of g x → entry (tag_of n g x s) x ≡ s) (λ x s some low. absurd (omega (arith, some, low))) (λ g m _ next ih x s some low.
       tag_of_is_numbered n g m x s some (elim (cases_lt (count_of g x) s) [
         | inr old ↦ inl (ih x s some old)
         | inl past ↦ elim (cases_eq m.origin x) [
@@ -66,13 +66,13 @@ module _ (n w me : ℕ) where
       ]))
 
   -- no timestamp is above the last one of its origin
-  pub last_tag_is_last : (h : List Message) → IsTrue (is_history n w me h) → All (λ b. (y : ℕ) → y < n → entry b.tag y ≤ entry (last_tag n h b.origin) y) h
-  last_tag_is_last = history_induction n w me (λ g. All (λ b. (y : ℕ) → y < n → entry b.tag y ≤ entry (last_tag n g b.origin) y) g) (All-nil (λ b. (y : ℕ) → y < n → entry b.tag y ≤ entry (last_tag n [] b.origin) y)) (λ g m _ next ih.
+  pub last_tag_is_last : (h : List Message) → IsTrue (is_chapter n w me h) → All (λ b. (y : ℕ) → y < n → entry b.tag y ≤ entry (last_tag n h b.origin) y) h
+  last_tag_is_last = chapter_induction n w me (λ g. All (λ b. (y : ℕ) → y < n → entry b.tag y ≤ entry (last_tag n g b.origin) y) g) (All-nil (λ b. (y : ℕ) → y < n → entry b.tag y ≤ entry (last_tag n [] b.origin) y)) (λ g m _ next ih.
       All-push (λ b. (y : ℕ) → y < n → entry b.tag y ≤ entry (last_tag n (g ++ m ∷ []) b.origin) y) g m (λ k d l y low. omega (arith, ih k d l y low, last_tag_grows n me g m next.straight.risen (get_or g k d).origin y low)) (λ y low.
       omega (arith, ap (λ tag. entry tag y) (last_tag-push n g m m.origin ∙ cond-true (m.origin == m.origin) m.tag (last_tag n g m.origin) (eq-eqb m.origin m.origin refl)))))
 
-  pub each_fits : (h : List Message) → IsTrue (is_history n w me h) → All (λ m. (m.origin < n) × (0 < number m)) h
-  each_fits = history_induction n w me (λ g. All (λ m. (m.origin < n) × (0 < number m)) g) (All-nil (λ m. (m.origin < n) × (0 < number m))) (λ g m _ next ih.
+  pub each_fits : (h : List Message) → IsTrue (is_chapter n w me h) → All (λ m. (m.origin < n) × (0 < number m)) h
+  each_fits = chapter_induction n w me (λ g. All (λ m. (m.origin < n) × (0 < number m)) g) (All-nil (λ m. (m.origin < n) × (0 < number m))) (λ g m _ next ih.
       All-push (λ b. (b.origin < n) × (0 < number b)) g m ih (next.member, omega (arith, next.counted)))
 
 -- ---- what a message has seen is not above it
@@ -81,7 +81,7 @@ module _ (n w me : ℕ) where
 abbrev pub IsBelow : ℕ → Message → Message → Type 0
 IsBelow n b c = Sees c b → (y : ℕ) → y < n → entry b.tag y ≤ entry c.tag y
 
-module _ (n w me : ℕ) (h : List Message) (m : Message) (t : IsTrue (is_history n w me h)) (next : IsNext n w me h m) where
+module _ (n w me : ℕ) (h : List Message) (m : Message) (t : IsTrue (is_chapter n w me h)) (next : IsNext n w me h m) where
   -- no message of a history has seen the next one
   pub next_is_unseen : All (λ e. entry e.tag m.origin < number m) h
   next_is_unseen k d l = omega (arith, next.counted, tags_are_counted n w me h t k d l m.origin)
@@ -99,8 +99,8 @@ module _ (n w me : ℕ) (h : List Message) (m : Message) (t : IsTrue (is_history
   ]
 
 module _ (n w me : ℕ) where
-  pub seen_is_below : (h : List Message) → IsTrue (is_history n w me h) → All (λ b. All (IsBelow n b) h) h
-  seen_is_below = history_induction n w me (λ g. All (λ b. All (IsBelow n b) g) g) (All-nil (λ b. All (IsBelow n b) [])) (λ g m t next ih.
+  pub seen_is_below : (h : List Message) → IsTrue (is_chapter n w me h) → All (λ b. All (IsBelow n b) h) h
+  seen_is_below = chapter_induction n w me (λ g. All (λ b. All (IsBelow n b) g) g) (All-nil (λ b. All (IsBelow n b) [])) (λ g m t next ih.
       All-push (λ b. All (IsBelow n b) (g ++ m ∷ [])) g m (λ k d l.
       let b = get_or g k d in
       let fit = each_fits n w me g t k d l in
@@ -109,8 +109,8 @@ module _ (n w me : ℕ) where
 
   -- ---- what a message has seen is not later
 
-  unseen_before : (h : List Message) → IsTrue (is_history n w me h) → (i j : ℕ) (d : Message) → i < length h → j < i → entry (get_or h j d).tag (get_or h i d).origin < number (get_or h i d)
-  unseen_before = history_induction n w me (λ g. (i j : ℕ) (d : Message) → i < length g → j < i → entry (get_or g j d).tag (get_or g i d).origin < number (get_or g i d)) (λ i j d l _. absurd (omega (arith, l))) (λ g m t next ih i j d l before.
+  unseen_before : (h : List Message) → IsTrue (is_chapter n w me h) → (i j : ℕ) (d : Message) → i < length h → j < i → entry (get_or h j d).tag (get_or h i d).origin < number (get_or h i d)
+  unseen_before = chapter_induction n w me (λ g. (i j : ℕ) (d : Message) → i < length g → j < i → entry (get_or g j d).tag (get_or g i d).origin < number (get_or g i d)) (λ i j d l _. absurd (omega (arith, l))) (λ g m t next ih i j d l before.
       let within : i < length g + 1 = omega (arith, l, length_push g m) in
       let Unseen : Message → Message → Type 0 = λ b a. entry b.tag a.origin < number a in
       let old_j : j < length g = omega (arith, within, before) in
@@ -121,7 +121,7 @@ module _ (n w me : ℕ) where
             subst (λ k. Unseen (get_or g j d) (get_or (g ++ m ∷ []) k d)) e (subst (Unseen (get_or g j d)) (sym (get_or-append_seam g m [] d)) (next_is_unseen n w me g m t next j d old_j))
       ]))
 
-  pub seen_is_not_later : (h : List Message) (i j : ℕ) (a b : Message) → IsTrue (is_history n w me h) → slice_get h i ≡ Some a → slice_get h j ≡ Some b → Sees b a → i ≤ j
+  pub seen_is_not_later : (h : List Message) (i j : ℕ) (a b : Message) → IsTrue (is_chapter n w me h) → slice_get h i ≡ Some a → slice_get h j ≡ Some b → Sees b a → i ≤ j
   seen_is_not_later h i j a b t at_i at_j seen = elim (cases_lt j i) [
     | inr early ↦ early
     | inl late ↦
@@ -132,7 +132,7 @@ module _ (n w me : ℕ) where
 
   -- ---- the order is forward and transitive
 
-  pub order_goes_forward : (h : List Message) (i j : ℕ) (a b : Message) → IsTrue (is_history n w me h) → slice_get h i ≡ Some a → slice_get h j ≡ Some b → IsTrue (happened_before a b) → i < j
+  pub order_goes_forward : (h : List Message) (i j : ℕ) (a b : Message) → IsTrue (is_chapter n w me h) → slice_get h i ≡ Some a → slice_get h j ≡ Some b → IsTrue (happened_before a b) → i < j
   order_goes_forward h i j a b t at_i at_j before =
       let early = seen_is_not_later h i j a b t at_i at_j (Sees-from_happened a b before) in
       elim (cases_eq i j) [
@@ -142,7 +142,7 @@ module _ (n w me : ℕ) where
         | inr ne ↦ omega (arith, early, ne)
       ]
 
-  pub order_is_transitive : (h : List Message) (a b c : Message) → IsTrue (is_history n w me h) → Contains h a → Contains h b → Contains h c → IsTrue (happened_before a b) → IsTrue (happened_before b c) → IsTrue (happened_before a c)
+  pub order_is_transitive : (h : List Message) (a b c : Message) → IsTrue (is_chapter n w me h) → Contains h a → Contains h b → Contains h c → IsTrue (happened_before a b) → IsTrue (happened_before b c) → IsTrue (happened_before a c)
   order_is_transitive h a b c t has_a has_b has_c ab bc =
       let place_b = slice_get_read h (length h) has_b.0 b refl has_b.1 (sym has_b.2) in
       let place_c = slice_get_read h (length h) has_c.0 c refl has_c.1 (sym has_c.2) in
@@ -156,6 +156,6 @@ module _ (n w me : ℕ) where
       omega (arith, forward, seen_is_not_later h has_c.0 has_b.0 c b t place_c place_b back)) in
       and_from _ _ (not_from_false (same_id a c) other) (le-leb (number a) (entry c.tag a.origin) (omega (arith, seen, through)))
 
-  pub order_is_asymmetric : (h : List Message) (a b : Message) → IsTrue (is_history n w me h) → Contains h a → Contains h b → IsTrue (happened_before a b) → happened_before b a ≡ false
+  pub order_is_asymmetric : (h : List Message) (a b : Message) → IsTrue (is_chapter n w me h) → Contains h a → Contains h b → IsTrue (happened_before a b) → happened_before b a ≡ false
   order_is_asymmetric h a b t has_a has_b ab = false_from_ne_true (happened_before b a) (λ ba.
       both_ways (happened_before a a) (never_before_itself a) (order_is_transitive h a b a t has_a has_b has_a ab ba))

@@ -8,12 +8,12 @@ use Rattle.op_base.specs.declared.operation.Op.{Op}
 use Rattle.op_base.specs.declared.operation.Op.TheVariants as op
 use Rattle.causal_model.specs.Counts.{next_tag}
 use Rattle.causal_model.specs.Stability.{last_tag, carries_operation, unstable_of, unstable_operations, unstable_noops, noop_window}
-use Rattle.causal_model.specs.History.{is_history, is_next}
+use Rattle.causal_model.specs.Chapter.{is_chapter, is_next}
 use Rattle.causal_model.specs.Sending.{own_message}
-use Rattle.causal_model.specs.Laws.{HasRoom}
+use Rattle.causal_model.specs.Laws.Delivery.{HasRoom}
 use Rattle.causal_model.proofs.Counts.{length-next_tag, entry-next_tag_other, number-own_message}
 use Rattle.causal_model.proofs.Crooks.{IsStraight}
-use Rattle.causal_model.proofs.Histories.{is_next-from_IsNext}
+use Rattle.causal_model.proofs.Chapters.{is_next-from_IsNext}
 use Rattle.causal_model.proofs.Lists.{cond-le-cond}
 use Rattle.causal_model.proofs.Timestamps.{last_tag_is_counted, tag_of_is_counted, next_tag_has_counts}
 use Rattle.causal_model.proofs.Windows.{unstable_grows, windows_hold}
@@ -24,7 +24,7 @@ has_room : (n w me : ℕ) (h : List Message) (o : Op) → HasRoom n w me h o →
 has_room n w me h op.NoOp room operations noops = (omega (arith, operations), omega (arith, room))
 has_room n w me h (op.Update u) room operations noops = (omega (arith, room), omega (arith, noops))
 
-module _ (n w me : ℕ) (h : List Message) (o : Op) (l : me < n) (t : IsTrue (is_history n w me h)) where
+module _ (n w me : ℕ) (h : List Message) (o : Op) (l : me < n) (t : IsTrue (is_chapter n w me h)) where
   own_message_rises : (y x : ℕ) → x < n → entry (last_tag n h y) x ≤ entry (next_tag n me h) x
   own_message_rises y x k = omega (arith, last_tag_is_counted n w me h y x t, next_tag_has_counts n me h x l k)
 
@@ -45,7 +45,7 @@ module _ (n w me : ℕ) (h : List Message) (o : Op) (l : me < n) (t : IsTrue (is
         noops = omega (arith, fits.1, one_more (λ e. not (carries_operation e.op)));
       }
 
-pub own_message_is_next : (n w me : ℕ) (h : List Message) (o : Op) → me < n → IsTrue (is_history n w me h) → HasRoom n w me h o → IsTrue (is_next n w me h (own_message n me h o))
+pub own_message_is_next : (n w me : ℕ) (h : List Message) (o : Op) → me < n → IsTrue (is_chapter n w me h) → HasRoom n w me h o → IsTrue (is_next n w me h (own_message n me h o))
 own_message_is_next n w me h o l t room = is_next-from_IsNext n w me h (own_message n me h o) (record {
   entries = length-next_tag n me h;
   member = l;

@@ -1,38 +1,47 @@
--- The places of settled items rise in the order of items, and each has its cell.
-use Rattle.std.proofs.Common.{◌≡◌, ℕ, Bool, true, false, not, ◌||◌, pos, All, Contains, List, [], ◌∷◌, map, cond, refl, sym, ap, ◌∙◌, Option, if◌then◌else◌, arith}
+-- The places of settled items rise in the order of items, and each object and value has its cell among the items.
+use Rattle.std.proofs.Common.{◌≡◌, ℕ, Bool, true, false, not, ◌&&◌, ◌||◌, ℤ, pos, ◌+ℤ◌, All, List, [], ◌∷◌, map, cond, refl, sym, ap, ◌∙◌, Option, Some, None, IsTrue, if◌then◌else◌, arith}
 use Rattle.std.specs.List.{filter, fold, list_any, slice_index_or}
 use Rattle.std.specs.Cmp.{IsTotalOrder}
-use Rattle.std.specs.Cmp.Lexicographic.{options_total}
+use Rattle.std.specs.Cmp.Lexicographic.{options_total, bytes_decides}
 use Rattle.std.specs.Ordering.{is_lt, is_eq, int_eq, ordering_reverse}
 use Rattle.std.specs.declared.cmp.Ordering.{Ordering}
 use Rattle.std.specs.declared.cmp.Ordering.TheVariants.{Less, Equal, Greater}
-use Rattle.std.proofs.lemmas.Bool.{or_parts, or_left, or_right, not-false}
+use Rattle.std.proofs.Math.IntN.{+ℤ_idr}
+use Rattle.std.proofs.lemmas.Bool.{or_parts, or_left, or_right, and_parts, and_left, not-false, both_ways, cond_both, false_from_ne_true}
 use Rattle.std.proofs.lemmas.Bool.Decides.{Decides-int_eq}
 use Rattle.std.proofs.lemmas.Cmp.{tied_itself, tied_back, on_total, then_total, nat_cmp_total, nat_list_cmp_total}
-use Rattle.std.proofs.lemmas.List.Elements.{All-nil, All-cons, All-map, All-weaker, All-head, All-tail, All-contains}
+use Rattle.std.proofs.lemmas.List.Elements.{All-nil, All-cons, All-map, All-weaker, All-head, All-tail, All-filter, filter_passes}
+use Rattle.std.proofs.lemmas.List.Folds.{list_any_none}
 use Rattle.std.proofs.lemmas.List.Kept.{AllPairs-cons, AllPairs-filter}
-use Rattle.op_base.specs.Object.{kind_place}
+use Rattle.op_base.specs.Object.{kind_place, same_object}
 use Rattle.op_base.specs.Order.{item_cmp}
 use Rattle.op_base.specs.declared.name.ObjectId.{ObjectId}
-use Rattle.op_base.specs.declared.message.Message.{Message}
+use Rattle.op_base.specs.declared.name.Kind.{Kind}
+use Rattle.op_base.specs.declared.name.Kind.TheVariants.{AwSet, RwSet, EwFlag, DwFlag, MvReg, Counter, RCounter}
 use Rattle.op_base.specs.declared.outcome.Cell.{Cell}
 use Rattle.op_base.specs.declared.outcome.Item.{Item}
+use Rattle.op_base.specs.declared.operation.Act.{Act}
+use Rattle.op_base.specs.declared.operation.Act.TheVariants.{Add, Rmv, Enable, Disable, Write, Inc, Dec}
 use Rattle.op_base.specs.declared.operation.Update.{Update}
 use Rattle.op_base.specs.declared.operation.Op.{Op}
 use Rattle.op_base.specs.declared.operation.Op.TheVariants as op
 use Rattle.op_base.proofs.Orders.{items_tied}
-use Rattle.causal_model.specs.Acts.{value_of}
-use Rattle.causal_model.specs.Items.{zero_cell, is_at, cell_in, is_filled, AreApart}
-use Rattle.causal_model.specs.Settled.{settled_cell, put_place, put_place_of, places_of, settled_items}
+use Rattle.causal_model.specs.Acts.{acts_on, value_of, is_add_of, is_rmv_of, is_write_of, is_enable, is_disable}
+use Rattle.causal_model.specs.History.{History, Event, events}
+use Rattle.causal_model.specs.Items.{zero_cell, cell_in, is_filled}
+use Rattle.causal_model.specs.Laws.Cells.{Rise}
+use Rattle.causal_model.specs.Query.{is_act_on, amount_of, share_of, counter_sum}
+use Rattle.causal_model.specs.Settled.{is_settled, is_pending, on_cell, sum_cell, remove_wins_cell, object_cell, value_cell, settled_cell, put_place, put_place_of, places_of, settled_items}
 use Rattle.causal_model.proofs.Lists.{fold_has}
+use Rattle.causal_model.proofs.Rules.{object_from_same}
 
-abbrev Place : Type 0
+abbrev pub Place : Type 0
 Place = ObjectId × Option (List ℕ)
 
-abbrev place_cmp : Place → Place → Ordering
+abbrev pub place_cmp : Place → Place → Ordering
 place_cmp p q = item_cmp p.0 p.1 q.0 q.1
 
-places_total : IsTotalOrder place_cmp
+pub places_total : IsTotalOrder place_cmp
 places_total = then_total (then_total (on_total (λ p. kind_place p.0.kind) nat_cmp_total) (on_total (λ p. p.0.key) nat_list_cmp_total)) (on_total (λ p. p.1) (options_total nat_list_cmp_total))
 
 -- the list that put_place makes at its first place, by how that compares
@@ -64,27 +73,27 @@ put_place_rises object value (p ∷ ps) rising = by (item_cmp object value p.0 p
   by Greater is later =
       (put_place_has (λ q. place_cmp p q ≡ Less) object value ps (places_total.antisymm p (object, value) ∙ ap ordering_reverse is) rising.0, later)
 
-places_rise : (h : List Message) → AreRising (places_of h)
-places_rise h = fold_has AreRising (λ places m. put_place_of m.op places) [] h tt (λ k d l places. one (slice_index_or h k d).op places) where
+places_rise : (es : List Event) → AreRising (places_of es)
+places_rise es = fold_has AreRising (λ places e. put_place_of e.message.op places) [] es tt (λ k d l places. one (slice_index_or es k d).message.op places) where
   one : (o : Op) (places : List Place) → AreRising places → AreRising (put_place_of o places)
   one op.NoOp places rising = rising
   one (op.Update u) places rising = put_place_rises u.object (value_of u.act) places rising
 
--- ---- items are apart
+-- ---- items rise
 
-module _ (n me : ℕ) (h : List Message) where
+module _ (h : History) where
   abbrev item_at : Place → Item
-  item_at p = record { object = p.0; value = p.1; cell = settled_cell n me h p.0 p.1 }
+  item_at p = record { object = p.0; value = p.1; cell = settled_cell h p.0 p.1 }
 
-  rising_apart : (ps : List Place) → AreRising ps → AreApart (map item_at ps)
-  rising_apart [] rising = λ i j d lt within. absurd (omega arith)
-  rising_apart (p ∷ ps) rising =
-      AllPairs-cons (λ (a b : Item). is_at b.object b.value a ≡ false) (item_at p) (map item_at ps)
-      (All-map (λ b. is_at b.object b.value (item_at p) ≡ false) item_at ps (All-weaker (λ q. place_cmp p q ≡ Less) (λ q. is_eq (place_cmp p q) ≡ false) (λ q before. ap is_eq before) ps rising.0))
-      (rising_apart ps rising.1)
+  rising_items : (ps : List Place) → AreRising ps → Rise (map item_at ps)
+  rising_items [] rising = λ i j d lt within. absurd (omega arith)
+  rising_items (p ∷ ps) rising =
+      AllPairs-cons (λ (a b : Item). item_cmp a.object a.value b.object b.value ≡ Less) (item_at p) (map item_at ps)
+      (All-map (λ b. item_cmp p.0 p.1 b.object b.value ≡ Less) item_at ps rising.0)
+      (rising_items ps rising.1)
 
-  pub settled_items_are_apart : AreApart (settled_items n me h)
-  settled_items_are_apart = AllPairs-filter (λ (a b : Item). is_at b.object b.value a ≡ false) (λ item. is_filled item.cell) (map item_at (places_of h)) (rising_apart (places_of h) (places_rise h))
+  pub items_rise : Rise (settled_items h)
+  items_rise = AllPairs-filter (λ (a b : Item). item_cmp a.object a.value b.object b.value ≡ Less) (λ item. is_filled item.cell) (map item_at (places_of (events h))) (rising_items (places_of (events h)) (places_rise (events h)))
 
 -- ---- each named place is there
 
@@ -111,26 +120,111 @@ put_place_puts object value (p ∷ ps) = by (item_cmp object value p.0 p.1) refl
   by Equal is later = or_left (is_place object value p) (list_any (is_place object value) ps) (ap is_eq (tied_back places_total (object, value) p is))
   by Greater is later = or_right (is_place object value p) (list_any (is_place object value) (put_place object value ps)) later
 
-abbrev places_from : List Place → List Message → List Place
-places_from ps h = fold (λ places m. put_place_of m.op places) ps h
+abbrev places_from : List Place → List Event → List Place
+places_from ps es = fold (λ places e. put_place_of e.message.op places) ps es
 
-places_keep : (q : Place → Bool) (ps : List Place) (h : List Message) → list_any q ps ≡ true → list_any q (places_from ps h) ≡ true
-places_keep q ps h t = fold_has (λ places. list_any q places ≡ true) (λ places m. put_place_of m.op places) ps h t (λ k d l places. one (slice_index_or h k d).op places) where
+places_keep : (q : Place → Bool) (ps : List Place) (es : List Event) → list_any q ps ≡ true → list_any q (places_from ps es) ≡ true
+places_keep q ps es t = fold_has (λ places. list_any q places ≡ true) (λ places e. put_place_of e.message.op places) ps es t (λ k d l places. one (slice_index_or es k d).message.op places) where
   one : (o : Op) (places : List Place) → list_any q places ≡ true → list_any q (put_place_of o places) ≡ true
   one op.NoOp places u = u
   one (op.Update u) places v = put_place_keeps q u.object (value_of u.act) places v
 
 -- that the place that an operation names is there
-abbrev IsNamed : List Place → Message → Type 0
-IsNamed ps m = (u : Update) → m.op ≡ op.Update u → list_any (is_place u.object (value_of u.act)) ps ≡ true
+abbrev IsNamed : List Place → Event → Type 0
+IsNamed ps e = (u : Update) → e.message.op ≡ op.Update u → list_any (is_place u.object (value_of u.act)) ps ≡ true
 
-each_is_named : (ps : List Place) (h : List Message) → All (IsNamed (places_from ps h)) h
+each_is_named : (ps : List Place) (es : List Event) → All (IsNamed (places_from ps es)) es
 each_is_named ps [] = All-nil (IsNamed ps)
-each_is_named ps (m ∷ h) = All-cons (IsNamed (places_from (put_place_of m.op ps) h)) m h (λ u e.
-    let put : list_any (is_place u.object (value_of u.act)) (put_place_of m.op ps) ≡ true = ap (λ o. list_any (is_place u.object (value_of u.act)) (put_place_of o ps)) e ∙ put_place_puts u.object (value_of u.act) ps in
-    places_keep (is_place u.object (value_of u.act)) (put_place_of m.op ps) h put) (each_is_named (put_place_of m.op ps) h)
+each_is_named ps (e ∷ es) = All-cons (IsNamed (places_from (put_place_of e.message.op ps) es)) e es (λ u is.
+    let put : list_any (is_place u.object (value_of u.act)) (put_place_of e.message.op ps) ≡ true = ap (λ o. list_any (is_place u.object (value_of u.act)) (put_place_of o ps)) is ∙ put_place_puts u.object (value_of u.act) ps in
+    places_keep (is_place u.object (value_of u.act)) (put_place_of e.message.op ps) es put) (each_is_named (put_place_of e.message.op ps) es)
 
--- ---- and has its cell
+-- ---- a place that is not there has no mark and no sum
+
+module _ (object : ObjectId) (value : Option (List ℕ)) where
+  -- that an operation doesn't name this object and value
+  abbrev IsOther : Op → Type 0
+  IsOther o = (u : Update) → o ≡ op.Update u → u.object ≡ object → value_of u.act ≡ value → ⊥
+
+  -- so it does no act to the object that names the value
+  other_does_none : (passes : Act → Bool) → ((act : Act) → passes act ≡ true → value_of act ≡ value) → (o : Op) → IsOther o → acts_on object passes o ≡ false
+  other_does_none passes names op.NoOp other = refl
+  other_does_none passes names (op.Update u) other = false_from_ne_true (same_object u.object object && passes u.act) (λ t.
+      let both = and_parts (same_object u.object object) (passes u.act) t in
+      other u refl (object_from_same u.object object both.0) (names u.act both.1))
+
+  each_is_other : (es : List Event) → list_any (is_place object value) (places_of es) ≡ false → All (λ e. IsOther e.message.op) es
+  each_is_other es none = All-weaker (IsNamed (places_of es)) (λ e. IsOther e.message.op) (λ e named u is object_is value_is.
+      both_ways (list_any (is_place object value) (places_of es)) none (sym (λ i. list_any (is_place (object_is i) (value_is i)) (places_of es)) ∙ named u is)) es (each_is_named [] es)
+
+module _ (object : ObjectId) (value : Option (List ℕ)) (h : History) (others : All (λ e. IsOther object value e.message.op) (events h)) where
+  none_does : (passes : Act → Bool) (stands : Event → Bool) → ((act : Act) → passes act ≡ true → value_of act ≡ value) → list_any (λ e. is_act_on object passes e && stands e) (events h) ≡ false
+  none_does passes stands names = list_any_none (λ e. is_act_on object passes e && stands e) (events h) (All-weaker (λ e. IsOther object value e.message.op) (λ e. (is_act_on object passes e && stands e) ≡ false) (λ e other. and_left _ _ (other_does_none object value passes names e.message.op other)) (events h) others)
+
+-- ---- which place an act names
+
+enable_names_none : (act : Act) → is_enable act ≡ true → value_of act ≡ None
+enable_names_none Enable t = refl
+enable_names_none act t = cc
+
+disable_names_none : (act : Act) → is_disable act ≡ true → value_of act ≡ None
+disable_names_none Disable t = refl
+disable_names_none act t = cc
+
+add_names_value : (value : List ℕ) (act : Act) → is_add_of value act ≡ true → value_of act ≡ Some value
+add_names_value value (Add v) t = ap Some ((bytes_decides v value).0 t)
+add_names_value value act t = cc
+
+rmv_names_value : (value : List ℕ) (act : Act) → is_rmv_of value act ≡ true → value_of act ≡ Some value
+rmv_names_value value (Rmv v) t = ap Some ((bytes_decides v value).0 t)
+rmv_names_value value act t = cc
+
+write_names_value : (value : List ℕ) (act : Act) → is_write_of value act ≡ true → value_of act ≡ Some value
+write_names_value value (Write v) t = ap Some ((bytes_decides v value).0 t)
+write_names_value value act t = cc
+
+amount_names_none : (act : Act) → (value_of act ≡ None → ⊥) → amount_of act ≡ pos 0
+amount_names_none (Inc a) named = absurd (named refl)
+amount_names_none (Dec a) named = absurd (named refl)
+amount_names_none act named = refl
+
+other_shares_none : (object : ObjectId) (o : Op) → IsOther object None o → share_of object o ≡ pos 0
+other_shares_none object op.NoOp other = refl
+other_shares_none object (op.Update u) other =
+    cond_both (same_object u.object object) (amount_of u.act) (pos 0) (λ z. z ≡ pos 0) (λ t. amount_names_none u.act (λ none. other u refl (object_from_same u.object object t) none)) (λ _. refl)
+
+none_sum : (object : ObjectId) (es : List Event) → All (λ e. IsOther object None e.message.op) es → counter_sum object es ≡ pos 0
+none_sum object es others = fold_has (λ z. z ≡ pos 0) (λ sum o. sum +ℤ share_of object o) (pos 0) (map (λ e. e.message.op) es) refl
+    (All-map (λ o. (z : ℤ) → z ≡ pos 0 → (z +ℤ share_of object o) ≡ pos 0) (λ e. e.message.op) es
+    (All-weaker (λ e. IsOther object None e.message.op) (λ e. (z : ℤ) → z ≡ pos 0 → (z +ℤ share_of object e.message.op) ≡ pos 0) (λ e other z is. ap (λ k. z +ℤ k) (other_shares_none object e.message.op other) ∙ +ℤ_idr z ∙ is) es others))
+
+-- ---- so the cell of a place that no operation names has no mark and no sum
+
+module _ (h : History) (object : ObjectId) where
+  none_at_object : All (λ e. IsOther object None e.message.op) (events h) → (kind : Kind) → object_cell h kind object ≡ zero_cell
+  none_at_object others EwFlag = ap on_cell (none_does object None h others is_enable (is_settled h) enable_names_none)
+  none_at_object others DwFlag =
+      λ i. remove_wins_cell (none_does object None h others is_enable (is_settled h) enable_names_none i)
+      (none_does object None h others is_disable (is_settled h) disable_names_none i)
+      (none_does object None h others is_enable (is_pending h) enable_names_none i)
+  none_at_object others Counter = ap sum_cell (none_sum object (events h) others)
+  none_at_object others RCounter = ap sum_cell (none_sum object (filter (is_settled h) (events h)) (All-filter (is_settled h) (λ e. IsOther object None e.message.op) (events h) others))
+  none_at_object others kind = refl
+
+  none_at_value : (value : List ℕ) → All (λ e. IsOther object (Some value) e.message.op) (events h) → (kind : Kind) → value_cell h kind object value ≡ zero_cell
+  none_at_value value others AwSet = ap on_cell (none_does object (Some value) h others (is_add_of value) (is_settled h) (add_names_value value))
+  none_at_value value others RwSet =
+      λ i. remove_wins_cell (none_does object (Some value) h others (is_add_of value) (is_settled h) (add_names_value value) i)
+      (none_does object (Some value) h others (is_rmv_of value) (is_settled h) (rmv_names_value value) i)
+      (none_does object (Some value) h others (is_add_of value) (is_pending h) (add_names_value value) i)
+  none_at_value value others MvReg = ap on_cell (none_does object (Some value) h others (is_write_of value) (is_settled h) (write_names_value value))
+  none_at_value value others kind = refl
+
+  unnamed_is_zero : (value : Option (List ℕ)) → list_any (is_place object value) (places_of (events h)) ≡ false → settled_cell h object value ≡ zero_cell
+  unnamed_is_zero None none = none_at_object (each_is_other object None (events h) none) object.kind
+  unnamed_is_zero (Some value) none = none_at_value value (each_is_other object (Some value) (events h) none) object.kind
+
+-- ---- each place has its cell
 
 unfilled_is_zero : (cell : Cell) → is_filled cell ≡ false → cell ≡ zero_cell
 unfilled_is_zero cell t =
@@ -147,24 +241,25 @@ first_cell true false false here s later same none rest = rest ∙ sym (none ref
 first_cell false true found here s later same none rest = rest
 first_cell false false found here s later same none rest = rest
 
-is_equal : (o : Ordering) → is_eq o ≡ true → o ≡ Equal
+pub is_equal : (o : Ordering) → is_eq o ≡ true → o ≡ Equal
 is_equal Less t = cc
 is_equal Equal t = refl
 is_equal Greater t = cc
 
-module _ (n me : ℕ) (h : List Message) (object : ObjectId) (value : Option (List ℕ)) where
-  cells : (ps : List Place) → cell_in (filter (λ item. is_filled item.cell) (map (item_at n me h) ps)) object value ≡ (if list_any (is_place object value) ps then settled_cell n me h object value else zero_cell)
+module _ (h : History) (object : ObjectId) (value : Option (List ℕ)) where
+  cells : (ps : List Place) → cell_in (filter (λ item. is_filled item.cell) (map (item_at h) ps)) object value ≡ (if list_any (is_place object value) ps then settled_cell h object value else zero_cell)
   cells [] = refl
   cells (p ∷ ps) =
-      let here : Cell = settled_cell n me h p.0 p.1 in
-      let rest : List Item = filter (λ item. is_filled item.cell) (map (item_at n me h) ps) in
-      let split : (b : Bool) → cell_in (cond b (item_at n me h p ∷ rest) rest) object value ≡ (if b then (if is_place object value p then here else cell_in rest object value) else cell_in rest object value) = λ b. elim b as (λ b. cell_in (cond b (item_at n me h p ∷ rest) rest) object value ≡ (if b then (if is_place object value p then here else cell_in rest object value) else cell_in rest object value)) [ true ↦ refl | false ↦ refl ] in
-      split (is_filled here) ∙ first_cell (is_place object value p) (is_filled here) (list_any (is_place object value) ps) here (settled_cell n me h object value) (cell_in rest object value) (λ t.
+      let here : Cell = settled_cell h p.0 p.1 in
+      let rest : List Item = filter (λ item. is_filled item.cell) (map (item_at h) ps) in
+      let split : (b : Bool) → cell_in (cond b (item_at h p ∷ rest) rest) object value ≡ (if b then (if is_place object value p then here else cell_in rest object value) else cell_in rest object value) = λ b. elim b as (λ b. cell_in (cond b (item_at h p ∷ rest) rest) object value ≡ (if b then (if is_place object value p then here else cell_in rest object value) else cell_in rest object value)) [ true ↦ refl | false ↦ refl ] in
+      split (is_filled here) ∙ first_cell (is_place object value p) (is_filled here) (list_any (is_place object value) ps) here (settled_cell h object value) (cell_in rest object value) (λ t.
       let tied = items_tied p.0 object p.1 value (is_equal (place_cmp p (object, value)) t) in
-      λ i. settled_cell n me h (tied.0 i) (tied.1 i)) (unfilled_is_zero here) (cells ps)
+      λ i. settled_cell h (tied.0 i) (tied.1 i)) (unfilled_is_zero here) (cells ps)
 
-pub settled_items_are_cells : (n me : ℕ) (h : List Message) (m : Message) (u : Update) → Contains h m → m.op ≡ op.Update u
-    → cell_in (settled_items n me h) u.object (value_of u.act) ≡ settled_cell n me h u.object (value_of u.act)
-settled_items_are_cells n me h m u has e =
-    let named : list_any (is_place u.object (value_of u.act)) (places_of h) ≡ true = All-contains (IsNamed (places_of h)) h m (each_is_named [] h) has u e in
-    cells n me h u.object (value_of u.act) (places_of h) ∙ ap (λ b. if b then settled_cell n me h u.object (value_of u.act) else zero_cell) named
+pub items_are_cells : (h : History) (object : ObjectId) (value : Option (List ℕ)) → cell_in (settled_items h) object value ≡ settled_cell h object value
+items_are_cells h object value =
+    cells h object value (places_of (events h)) ∙ cond_both (list_any (is_place object value) (places_of (events h))) (settled_cell h object value) zero_cell (λ cell. cell ≡ settled_cell h object value) (λ _. refl) (λ none. sym (unnamed_is_zero h object value none))
+
+pub items_are_filled : (h : History) → All (λ item. IsTrue (is_filled item.cell)) (settled_items h)
+items_are_filled h = filter_passes (λ item. is_filled item.cell) (map (item_at h) (places_of (events h)))

@@ -19,7 +19,7 @@ use Rattle.causal_model.specs.Acts.{value_of, is_clear}
 use Rattle.causal_model.specs.Covering.{same_value, covers_act, store_keeps, store_covers}
 
 -- two names of one object are one name
-object_from_same : (a b : ObjectId) → same_object a b ≡ true → a ≡ b
+pub object_from_same : (a b : ObjectId) → same_object a b ≡ true → a ≡ b
 object_from_same a b t =
     let both = and_parts (kind_place a.kind == kind_place b.kind) (same_text a.key b.key) t in
     let kind : nat_cmp (kind_place a.kind) (kind_place b.kind) ≡ Equal = ap (nat_cmp (kind_place a.kind)) (sym (eqb-true (kind_place a.kind) (kind_place b.kind) both.0)) ∙ tied_itself nat_cmp_total (kind_place a.kind) in

@@ -1,76 +1,84 @@
--- The steps of receiving: each takes an early message out, and after the last none can be delivered.
-use Rattle.std.proofs.Common.{◌≡◌, ℕ, zero, suc, ◌+◌, ◌<◌, ◌≤◌, Bool, true, false, not, ◌&&◌, ◌||◌, ◌==◌, cond, List, [], ◌∷◌, length, map, refl, ap, ◌∙◌, Option, Some, None, if◌then◌else◌, arith}
-use Rattle.std.specs.List.{filter, find, list_any}
-use Rattle.std.proofs.lemmas.Bool.{false≢true, or_left, or_right}
+-- The steps of receiving: each takes an early message out, more fuel than there are early messages changes nothing, and
+-- after the last step none can be delivered.
+use Rattle.std.proofs.Common.{◌≡◌, ℕ, zero, suc, ◌+◌, ◌<◌, ◌≤◌, true, not, ◌==◌, List, [], ◌∷◌, length, refl, sym, ap, ◌∙◌, Option, Some, None, arith}
+use Rattle.std.proofs.lemmas.Bool.{and_from, eq-eqb}
+use Rattle.op_base.specs.Message.{number, id_of}
 use Rattle.op_base.specs.declared.message.Message.{Message}
 use Rattle.op_base.specs.declared.outcome.Step.{Step}
-use Rattle.causal_model.specs.Counts.{members, is_deliverable}
-use Rattle.causal_model.specs.Crook.{first_some, crook_of}
-use Rattle.causal_model.specs.Order.{same_id}
-use Rattle.causal_model.specs.Receiving.{State, next_early, deliverable_of, state_with, step_of, with_step, steps_from, steps_within, steps}
-use Rattle.causal_model.proofs.Orders.{same_id_itself}
+use Rattle.causal_model.specs.Counts.{is_deliverable}
+use Rattle.causal_model.specs.Receiving.{State, counted, next_early, has_id, crook_after, state_with, step_of, steps_within, steps}
+use Rattle.causal_model.specs.Laws.States.{next_of}
+use Rattle.causal_model.proofs.Finds.{found, fewer_pass}
 
--- ---- what is found is there
+pub has_own_id : (m : Message) → has_id (id_of m) m ≡ true
+has_own_id m = and_from (m.origin == m.origin) (number m == number m) (eq-eqb m.origin m.origin refl) (eq-eqb (number m) (number m) refl)
 
-found_is_there : (p : Message → Bool) (early : List Message) (m : Message) → find p early ≡ Some m → list_any (same_id m) early ≡ true
-found_is_there p [] m e = cc
-found_is_there p (x ∷ early) m e = by (found_is_there p early m) (p x) e where
-  by : (find p early ≡ Some m → list_any (same_id m) early ≡ true) → (b : Bool) → (if b then Some x else find p early) ≡ Some m → (same_id m x || list_any (same_id m) early) ≡ true
-  by rest true f = let same : x ≡ m = cc in or_left (same_id m x) (list_any (same_id m) early) (ap (same_id m) same ∙ same_id_itself m)
-  by rest false f = or_right (same_id m x) (list_any (same_id m) early) (rest f)
+taken_leaves_fewer : (w : ℕ) (s : State) (m : Message) → next_of s ≡ Some m → length (state_with w s m).early < length s.early
+taken_leaves_fewer w s m e =
+    let there = found (is_deliverable s.history.present.n (counted s.history)) s.early m e in
+    fewer_pass (λ other. not (has_id (id_of m) other)) s.early m there.0 (ap not (has_own_id m))
 
-first_is_there : (n : ℕ) (s : State) (xs : List ℕ) (m : Message) → first_some (map (deliverable_of n s) xs) ≡ Some m → list_any (same_id m) s.early ≡ true
-first_is_there n s [] m e = cc
-first_is_there n s (x ∷ xs) m e = by (first_is_there n s xs m) (deliverable_of n s x) refl e where
-  by : (first_some (map (deliverable_of n s) xs) ≡ Some m → list_any (same_id m) s.early ≡ true) → (o : Option Message) → deliverable_of n s x ≡ o → first_some (o ∷ map (deliverable_of n s) xs) ≡ Some m → list_any (same_id m) s.early ≡ true
-  by rest None is f = rest f
-  by rest (Some y) is f = found_is_there (λ z. (z.origin == x) && is_deliverable n s.history z) s.early m (is ∙ f)
+none_of_none : (s : State) → length s.early ≤ 0 → next_of s ≡ None
+none_of_none s l = by s.early l where
+  by : (early : List Message) → length early ≤ 0 → next_early s.history.present.n (counted s.history) early ≡ None
+  by [] k = refl
+  by (m ∷ early) k = absurd (omega (arith, k))
 
--- ---- a filter leaves fewer where something fails it
+-- the steps that begin with taking a message, where there is one to take
+abbrev pub steps_by : ℕ → ℕ → State → Option Message → List Step × State
+steps_by w most s None = ([], s)
+steps_by w most s (Some m) = (step_of m (crook_after w s.history m) ∷ (steps_within w most (state_with w s m)).0, (steps_within w most (state_with w s m)).1)
 
-length-filter-le : (p : Message → Bool) (ms : List Message) → length (filter p ms) ≤ length ms
-length-filter-le p [] = omega arith
-length-filter-le p (x ∷ ms) = elim (p x) as (λ b. length (cond b (x ∷ filter p ms) (filter p ms)) ≤ length (x ∷ ms)) [
-  | true ↦ omega (arith, length-filter-le p ms)
-  | false ↦ omega (arith, length-filter-le p ms)
-]
+steps_within-none : (w most : ℕ) (s : State) → next_of s ≡ None → steps_within w most s ≡ ([], s)
+steps_within-none w zero s e = refl
+steps_within-none w (suc most) s e = ap (steps_by w most s) e
 
-fewer_without : (m : Message) (early : List Message) → list_any (same_id m) early ≡ true → length (filter (λ other. not (same_id m other)) early) < length early
-fewer_without m [] t = absurd (false≢true t)
-fewer_without m (x ∷ early) t = by (fewer_without m early) (same_id m x) t where
-  by : (list_any (same_id m) early ≡ true → length (filter (λ other. not (same_id m other)) early) < length early) → (b : Bool) → (b || list_any (same_id m) early) ≡ true → length (cond (not b) (x ∷ filter (λ other. not (same_id m other)) early) (filter (λ other. not (same_id m other)) early)) < length (x ∷ early)
-  by rest true f = omega (arith, length-filter-le (λ other. not (same_id m other)) early)
-  by rest false f = omega (arith, rest f)
+-- as much fuel as there are early messages is enough
+fuel_suffices : (w most more : ℕ) (s : State) → length s.early ≤ most → length s.early ≤ more → steps_within w most s ≡ steps_within w more s
+fuel_suffices w zero more s l k = sym (steps_within-none w more s (none_of_none s l))
+fuel_suffices w (suc most) zero s l k = steps_within-none w (suc most) s (none_of_none s k)
+fuel_suffices w (suc most) (suc more) s l k = by (fuel_suffices w most more) (next_of s) refl where
+  by : ((g : State) → length g.early ≤ most → length g.early ≤ more → steps_within w most g ≡ steps_within w more g) → (o : Option Message) → next_of s ≡ o → steps_by w most s o ≡ steps_by w more s o
+  by later None is = refl
+  by later (Some m) is =
+      let left = taken_leaves_fewer w s m is in
+      ap (λ made. (step_of m (crook_after w s.history m) ∷ made.0, made.1)) (later (state_with w s m) (omega (arith, left, l)) (omega (arith, left, k)))
 
-taken_leaves_fewer : (n w me : ℕ) (s : State) (m : Message) → next_early n s ≡ Some m → length (state_with n w me s m).early < length s.early
-taken_leaves_fewer n w me s m e = fewer_without m s.early (first_is_there n s (members n) m e)
+-- the steps of a state are the next one, where there is one, and those of the state after it
+pub steps_of_none : (w : ℕ) (s : State) → next_of s ≡ None → steps w s ≡ ([], s)
+steps_of_none w s e = steps_within-none w (length s.early) s e
 
-none_is_next : (n : ℕ) (s : State) (xs : List ℕ) → length s.early ≤ 0 → first_some (map (deliverable_of n s) xs) ≡ None
-none_is_next n s [] l = refl
-none_is_next n s (x ∷ xs) l = by (none_is_next n s xs l) s.early l refl where
-  by : first_some (map (deliverable_of n s) xs) ≡ None → (early : List Message) → length early ≤ 0 → s.early ≡ early → first_some (map (deliverable_of n s) (x ∷ xs)) ≡ None
-  by rest [] k is = ap (λ ms. first_some (find (λ z. (z.origin == x) && is_deliverable n s.history z) ms ∷ map (deliverable_of n s) xs)) is ∙ rest
-  by rest (y ∷ ys) k is = absurd (omega (arith, k))
+steps_within-one_more : (w most : ℕ) (s : State) (m : Message) → length s.early ≤ most → next_of s ≡ Some m
+    → steps_within w most s ≡ (step_of m (crook_after w s.history m) ∷ (steps w (state_with w s m)).0, (steps w (state_with w s m)).1)
+steps_within-one_more w zero s m l e = absurd (omega (arith, l, taken_leaves_fewer w s m e))
+steps_within-one_more w (suc most) s m l e =
+    let after = state_with w s m in
+    let enough = fuel_suffices w most (length after.early) after (omega (arith, l, taken_leaves_fewer w s m e)) (omega arith) in
+    ap (steps_by w most s) e ∙ ap (λ made. (step_of m (crook_after w s.history m) ∷ made.0, made.1)) enough
 
--- ---- the steps
+pub steps_of_one_more : (w : ℕ) (s : State) (m : Message) → next_of s ≡ Some m
+    → steps w s ≡ (step_of m (crook_after w s.history m) ∷ (steps w (state_with w s m)).0, (steps w (state_with w s m)).1)
+steps_of_one_more w s m e = steps_within-one_more w (length s.early) s m (omega arith) e
 
--- after at most so many steps nothing can be delivered, and each step took a message out
-record HasEnded (n : ℕ) (s : State) (made : List Step × State) : Type 0 where
-  none : next_early n made.1 ≡ None
+-- ---- the end
+
+-- after at most so many steps none can be delivered, and each step took a message out
+record HasEnded (s : State) (made : List Step × State) : Type 0 where
+  none : next_of made.1 ≡ None
   fewer : length made.0 + length made.1.early ≤ length s.early
 
-steps_within_end : (n w me most : ℕ) (s : State) → length s.early ≤ most → HasEnded n s (steps_within n w me most s)
-steps_within_end n w me zero s l = record { none = none_is_next n s (members n) l; fewer = omega arith }
-steps_within_end n w me (suc most) s l = by (steps_within_end n w me most) (next_early n s) refl where
-  by : ((g : State) → length g.early ≤ most → HasEnded n g (steps_within n w me most g)) → (o : Option Message) → next_early n s ≡ o → HasEnded n s (steps_from o s (λ m. with_step (step_of m (crook_of n w me s.history m)) (steps_within n w me most (state_with n w me s m))))
+steps_within_end : (w most : ℕ) (s : State) → length s.early ≤ most → HasEnded s (steps_within w most s)
+steps_within_end w zero s l = record { none = none_of_none s l; fewer = omega arith }
+steps_within_end w (suc most) s l = by (steps_within_end w most) (next_of s) refl where
+  by : ((g : State) → length g.early ≤ most → HasEnded g (steps_within w most g)) → (o : Option Message) → next_of s ≡ o → HasEnded s (steps_by w most s o)
   by later_end None is = record { none = is; fewer = omega arith }
   by later_end (Some m) is =
-      let left = taken_leaves_fewer n w me s m is in
-      let later = later_end (state_with n w me s m) (omega (arith, left, l)) in
+      let left = taken_leaves_fewer w s m is in
+      let later = later_end (state_with w s m) (omega (arith, left, l)) in
       record { none = later.none; fewer = omega (arith, later.fewer, left) }
 
-pub none_is_next_after_steps : (n w me : ℕ) (s : State) → next_early n (steps n w me s).1 ≡ None
-none_is_next_after_steps n w me s = (steps_within_end n w me (length s.early) s (omega arith)).none
+pub none_is_next_after_steps : (w : ℕ) (s : State) → next_of (steps w s).1 ≡ None
+none_is_next_after_steps w s = (steps_within_end w (length s.early) s (omega arith)).none
 
-pub steps_take_messages_out : (n w me : ℕ) (s : State) → length (steps n w me s).0 + length (steps n w me s).1.early ≤ length s.early
-steps_take_messages_out n w me s = (steps_within_end n w me (length s.early) s (omega arith)).fewer
+pub steps_take_messages_out : (w : ℕ) (s : State) → length (steps w s).0 + length (steps w s).1.early ≤ length s.early
+steps_take_messages_out w s = (steps_within_end w (length s.early) s (omega arith)).fewer

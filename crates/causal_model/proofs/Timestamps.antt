@@ -9,9 +9,9 @@ use Rattle.op_base.specs.declared.message.Message.{Message}
 use Rattle.causal_model.specs.Counts.{count_of, next_tag}
 use Rattle.causal_model.specs.Stability.{last_tag}
 use Rattle.causal_model.specs.Crook.{tag_of}
-use Rattle.causal_model.specs.History.{is_history}
+use Rattle.causal_model.specs.Chapter.{is_chapter}
 use Rattle.causal_model.proofs.Counts.{count_of-push_own, count_of_grows, entry-next_tag_own, entry-next_tag_other}
-use Rattle.causal_model.proofs.Histories.{IsNext, history_induction}
+use Rattle.causal_model.proofs.Chapters.{IsNext, chapter_induction}
 use Rattle.causal_model.proofs.Lists.{fold_has}
 
 -- ---- what holds of all zeros, and of each timestamp of a history, holds of those that are looked up in it
@@ -40,14 +40,14 @@ next_is_counted n w me h m next x = elim (cases_eq m.origin x) [
   ]
 ]
 
-pub tags_are_counted : (n w me : ℕ) (h : List Message) → IsTrue (is_history n w me h) → All (λ m. (x : ℕ) → entry m.tag x ≤ count_of h x) h
-tags_are_counted n w me h t = history_induction n w me (λ g. All (λ m. (x : ℕ) → entry m.tag x ≤ count_of g x) g) (All-nil (λ m. (x : ℕ) → entry m.tag x ≤ count_of [] x)) (λ g m _ next ih.
+pub tags_are_counted : (n w me : ℕ) (h : List Message) → IsTrue (is_chapter n w me h) → All (λ m. (x : ℕ) → entry m.tag x ≤ count_of h x) h
+tags_are_counted n w me h t = chapter_induction n w me (λ g. All (λ m. (x : ℕ) → entry m.tag x ≤ count_of g x) g) (All-nil (λ m. (x : ℕ) → entry m.tag x ≤ count_of [] x)) (λ g m _ next ih.
     All-push (λ y. (x : ℕ) → entry y.tag x ≤ count_of (g ++ m ∷ []) x) g m (All-weaker (λ y. (x : ℕ) → entry y.tag x ≤ count_of g x) (λ y. (x : ℕ) → entry y.tag x ≤ count_of (g ++ m ∷ []) x) (λ y each x. omega (arith, each x, count_of_grows g m x)) g ih) (next_is_counted n w me g m next)) h t
 
-pub last_tag_is_counted : (n w me : ℕ) (h : List Message) (y x : ℕ) → IsTrue (is_history n w me h) → entry (last_tag n h y) x ≤ count_of h x
+pub last_tag_is_counted : (n w me : ℕ) (h : List Message) (y x : ℕ) → IsTrue (is_chapter n w me h) → entry (last_tag n h y) x ≤ count_of h x
 last_tag_is_counted n w me h y x t = last_tag_has (λ tag. (z : ℕ) → entry tag z ≤ count_of h z) n h y (λ z. omega (arith, entry-zero_tag n z)) (tags_are_counted n w me h t) x
 
-pub tag_of_is_counted : (n w me : ℕ) (h : List Message) (y seq x : ℕ) → IsTrue (is_history n w me h) → entry (tag_of n h y seq) x ≤ count_of h x
+pub tag_of_is_counted : (n w me : ℕ) (h : List Message) (y seq x : ℕ) → IsTrue (is_chapter n w me h) → entry (tag_of n h y seq) x ≤ count_of h x
 tag_of_is_counted n w me h y seq x t = tag_of_has (λ tag. (z : ℕ) → entry tag z ≤ count_of h z) n h y seq (λ z. omega (arith, entry-zero_tag n z)) (tags_are_counted n w me h t) x
 
 -- the next own timestamp has no entry below its count

@@ -18,8 +18,8 @@ first_some (None ∷ others) = first_some others
 first_some (Some x ∷ others) = Some x
 
 -- the least member at which a timestamp is below another
-abbrev pub fallen_at : ℕ → List ℕ → List ℕ → Option ℕ
-fallen_at n had got = find (λ x. nat_lt (entry got x) (entry had x)) (members n)
+abbrev pub first_below : ℕ → List ℕ → List ℕ → Option ℕ
+first_below n had got = find (λ x. nat_lt (entry got x) (entry had x)) (members n)
 
 -- the timestamp of the message of a member with this number, all zeros where there is none
 abbrev pub tag_of : ℕ → List Message → ℕ → ℕ → List ℕ
@@ -28,33 +28,33 @@ tag_of n (m ∷ ms) x seq = if (m.origin == x) && (number m == seq) then m.tag e
 
 -- the sender's last timestamp had more at some member
 abbrev pub regress_of : ℕ → List Message → Message → Option Crook
-regress_of n history m =
-    option_map (λ x. Regress x (entry (last_tag n history m.origin) x) (entry m.tag x)) (fallen_at n (last_tag n history m.origin) m.tag)
+regress_of n messages m =
+    option_map (λ x. Regress x (entry (last_tag n messages m.origin) x) (entry m.tag x)) (first_below n (last_tag n messages m.origin) m.tag)
 
 -- the last message of member x that this one has seen had more at some member
 abbrev pub unclosed_at : ℕ → List Message → Message → ℕ → Option Crook
-unclosed_at n history m x =
+unclosed_at n messages m x =
     if (x == m.origin) || (entry m.tag x == 0) then None
-    else option_map (λ y. Unclosed x y (entry (tag_of n history x (entry m.tag x)) y) (entry m.tag y))
-    (fallen_at n (tag_of n history x (entry m.tag x)) m.tag)
+    else option_map (λ y. Unclosed x y (entry (tag_of n messages x (entry m.tag x)) y) (entry m.tag y))
+    (first_below n (tag_of n messages x (entry m.tag x)) m.tag)
 
 -- the cause at the first member where there is one
 abbrev pub unclosed_of : ℕ → List Message → Message → Option Crook
-unclosed_of n history m = first_some (map (unclosed_at n history m) (members n))
+unclosed_of n messages m = first_some (map (unclosed_at n messages m) (members n))
 
 -- after it, more operations of its sender would be unstable than the window has
 abbrev pub overrun_of : ℕ → ℕ → ℕ → List Message → Message → Option Crook
-overrun_of n w me history m =
-    if nat_lt w (unstable_operations n me (history ++ m ∷ []) m.origin)
-    then Some (Overrun (unstable_operations n me (history ++ m ∷ []) m.origin)) else None
+overrun_of n w me messages m =
+    if nat_lt w (unstable_operations n me (messages ++ m ∷ []) m.origin)
+    then Some (Overrun (unstable_operations n me (messages ++ m ∷ []) m.origin)) else None
 
 -- after it, more no-ops of its sender would be unstable than the no-op window has
 abbrev pub noop_overrun_of : ℕ → ℕ → ℕ → List Message → Message → Option Crook
-noop_overrun_of n w me history m =
-    if nat_lt (noop_window n w) (unstable_noops n me (history ++ m ∷ []) m.origin)
-    then Some (NoopOverrun (unstable_noops n me (history ++ m ∷ []) m.origin)) else None
+noop_overrun_of n w me messages m =
+    if nat_lt (noop_window n w) (unstable_noops n me (messages ++ m ∷ []) m.origin)
+    then Some (NoopOverrun (unstable_noops n me (messages ++ m ∷ []) m.origin)) else None
 
--- why a deliverable message is crooked after a history of member me: the first of the four causes that applies
+-- why a deliverable message is crooked after what member me delivered: the first of the four causes that applies
 abbrev pub crook_of : ℕ → ℕ → ℕ → List Message → Message → Option Crook
-crook_of n w me history m =
-    first_some (regress_of n history m ∷ unclosed_of n history m ∷ overrun_of n w me history m ∷ noop_overrun_of n w me history m ∷ [])
+crook_of n w me messages m =
+    first_some (regress_of n messages m ∷ unclosed_of n messages m ∷ overrun_of n w me messages m ∷ noop_overrun_of n w me messages m ∷ [])

@@ -1,38 +1,51 @@
 -- Journals: the notes that a replica's calls leave, their replay, and which lists of notes calls can have left. They are
 -- this project's own profile.
-use Rattle.std.specs.Prelude.{ℕ, IsTrue, List, [], ◌∷◌, ◌++◌, map, fold, Option, Some, None}
-use Rattle.std.specs.List.{find}
-use Rattle.op_base.specs.Message.{fits}
+use Rattle.std.specs.Prelude.{◌≡◌, ℕ, ◌+◌, ◌<◌, ◌≤◌, IsTrue, List, [], ◌∷◌, ◌++◌, map, fold, Option, Some, None}
+use Rattle.std.specs.List.{find, flat_map}
 use Rattle.op_base.specs.declared.message.Message.{Message}
 use Rattle.op_base.specs.declared.operation.Update.{Update}
 use Rattle.op_base.specs.declared.outcome.Step.{Step}
 use Rattle.op_base.specs.declared.outcome.Step.TheVariants as step
-use Rattle.causal_model.specs.Counts.{is_within}
+use Rattle.op_base.specs.Message.{fits}
+use Rattle.op_base.specs.Valid.{is_valid_update}
+use Rattle.causal_model.specs.Counts.{is_carried}
+use Rattle.causal_model.specs.History.{epoch_of, with_message, with_messages, is_all_stable}
 use Rattle.causal_model.specs.Sending.{Sending, sends, busy, ended, sending, Beating, beats, quiet, held, beat_ended, beating}
 use Rattle.causal_model.specs.Receiving.{State, start, has_id, without, with_early, Receiving, old, again, far, accepts, receiving}
 use Rattle.causal_model.specs.declared.note.Note.{Note}
-use Rattle.causal_model.specs.declared.note.Note.TheVariants.{Sent, Kept, Took, Crook}
+use Rattle.causal_model.specs.declared.note.Note.TheVariants.{Sent, Kept, Took, Crook, Regroup}
 
 -- the state after an own message
 abbrev pub with_own : State → Message → State
-with_own s m = record { history = s.history ++ m ∷ []; early = s.early }
+with_own s m = record { history = with_message s.history m; early = s.early }
 
--- a history with an early message, where there is one
-abbrev pub history_and : List Message → Option Message → List Message
-history_and history None = history
-history_and history (Some m) = history ++ m ∷ []
+-- messages with an early message, where there is one
+abbrev pub messages_and : List Message → Option Message → List Message
+messages_and messages None = messages
+messages_and messages (Some m) = messages ++ m ∷ []
+
+-- the state of the next epoch, as member me of n members: the present chapter is over, and nothing has come yet
+abbrev pub regrouped : ℕ → ℕ → State → State
+regrouped n me s =
+    record { history = record { past = s.history.past ++ s.history.present ∷ []; present = record { n = n; me = me; messages = [] } }; early = [] }
 
 -- what a note makes of a state: an own message is delivered; a message becomes early; an early message is delivered, or
--- dropped
-abbrev pub noted : State → Note → State
-noted s (Sent m) = with_own s m
-noted s (Kept m) = with_early s m
-noted s (Took id) = record { history = history_and s.history (find (has_id id) s.early); early = without id s.early }
-noted s (Crook id) = record { history = s.history; early = without id s.early }
+-- dropped; the epoch ends
+abbrev pub state_noted : State → Note → State
+state_noted s (Sent m) = with_own s m
+state_noted s (Kept m) = with_early s m
+state_noted s (Took id) =
+    record { history = with_messages s.history (messages_and s.history.present.messages (find (has_id id) s.early)); early = without id s.early }
+state_noted s (Crook id) = record { history = s.history; early = without id s.early }
+state_noted s (Regroup epoch n me) = regrouped n me s
 
--- the state that notes give, from nothing
-abbrev pub replay : List Note → State
-replay notes = fold noted start notes
+-- the state that notes make of a state
+abbrev pub state_after : State → List Note → State
+state_after s notes = fold state_noted s notes
+
+-- the state that notes give, from nothing: first as member me of n members
+abbrev pub replay : ℕ → ℕ → List Note → State
+replay n me notes = state_after (start n me) notes
 
 -- the note of a step
 abbrev pub step_note : Step → Note
@@ -59,14 +72,29 @@ receiving_notes m old = []
 receiving_notes m again = []
 receiving_notes m far = []
 
--- Notes are legal for member me where they are made of whole groups: each is what one call notes by the rules at the
--- replay of the groups before it. What a call receives is a message of the store, with no entry above the limit: that is
--- what receiving owes.
-pub data IsLegal (n w limit me : ℕ) : List Note → Type 0 where
-  nothing : IsLegal n w limit me []
-  after_local : {notes : List Note} (update : Update) → IsLegal n w limit me notes
-      → IsLegal n w limit me (notes ++ sending_notes (sending n w limit me (replay notes).history update))
-  after_beat : {notes : List Note} → IsLegal n w limit me notes
-      → IsLegal n w limit me (notes ++ beating_notes (beating n w limit me (replay notes).history))
-  after_receive : {notes : List Note} (m : Message) → IsTrue (fits n m) → IsTrue (is_within limit (m ∷ [])) → IsLegal n w limit me notes
-      → IsLegal n w limit me (notes ++ receiving_notes m (receiving n w me (replay notes) m))
+-- A group: what one call notes by the rules at a state, in a store with a window w and a limit; none is empty. What a call
+-- receives is a message of the store that can be carried there: that is what receiving owes. An epoch ends where every
+-- operation is stable; the last is 65535.
+pub data IsGroup (w limit : ℕ) (s : State) : List Note → Type 0 where
+  sent : (update : Update) (m : Message) → IsTrue (is_valid_update update) → sending s.history.present.n w limit s.history.present.me s.history.present.messages update ≡ sends m
+      → IsGroup w limit s (Sent m ∷ [])
+  beaten : (m : Message) → beating s.history.present.n w limit s.history.present.me s.history.present.messages ≡ beats m → IsGroup w limit s (Sent m ∷ [])
+  received : (m : Message) (steps : List Step) (after : State) → IsTrue (fits s.history.present.n m) → IsTrue (is_carried limit m)
+      → receiving w s m ≡ accepts steps after → IsGroup w limit s (Kept m ∷ map step_note steps)
+  regrouped_as : (n me : ℕ) → n ≤ 16 → me < n → epoch_of s.history < 65535 → IsTrue (is_all_stable s.history.present)
+      → IsGroup w limit s (Regroup (epoch_of s.history + 1) n me ∷ [])
+
+-- groups, one after the other from a state
+abbrev pub AreGroups : ℕ → ℕ → State → List (List Note) → Type 0
+AreGroups w limit s [] = Unit {0}
+AreGroups w limit s (group ∷ later) = IsGroup w limit s group × AreGroups w limit (state_after s group) later
+
+-- the notes of groups, one after the other
+abbrev pub notes_of : List (List Note) → List Note
+notes_of groups = flat_map (λ group. group) groups
+
+-- Notes are legal, first for member me of n members, where they are the notes of a list of groups, from nothing.
+pub record IsLegal (w limit n me : ℕ) (notes : List Note) : Type 0 where
+  pub groups : List (List Note)
+  pub are_groups : AreGroups w limit (start n me) groups
+  pub are_theirs : notes ≡ notes_of groups

@@ -2,6 +2,7 @@ pub mod Order
 pub mod Counts
 pub mod Stability
 pub mod Crook
+pub mod Chapter
 pub mod History
 pub mod Acts
 pub mod Query
@@ -9,6 +10,8 @@ pub mod Covering
 pub mod Log
 pub mod Items
 pub mod Settled
+pub mod CellSteps
+pub mod Parts
 pub mod Sending
 pub mod Receiving
 pub mod Journal
@@ -17,6 +20,8 @@ pub use Rattle.op_base.specs.Timestamp
 pub use Rattle.op_base.specs.Name
 pub use Rattle.op_base.specs.Object
 pub use Rattle.op_base.specs.Operation
+pub use Rattle.op_base.specs.Valid
 pub mod Worked
 pub mod Table
+pub mod States
 pub mod Laws

@@ -1,12 +1,13 @@
--- The log of a history: what remains of it in a partially ordered log, as in Baquero, Almeida and Shoker (arXiv
--- 1710.04469). It filters the whole history; nothing is pruned step by step.
+-- The log of an epoch's messages: what remains of them in a partially ordered log, as in Baquero, Almeida and Shoker
+-- (arXiv 1710.04469). It filters all of them; nothing is pruned step by step.
 use Rattle.std.specs.Prelude.{ℕ, Bool, false, not, ◌&&◌, List, filter}
 use Rattle.op_base.specs.declared.message.Message.{Message}
+use Rattle.op_base.specs.declared.message.Entry.{Entry}
 use Rattle.op_base.specs.declared.operation.Update.{Update}
 use Rattle.op_base.specs.declared.operation.Op.{Op}
 use Rattle.op_base.specs.declared.operation.Op.TheVariants as op
-use Rattle.causal_model.specs.Order.{is_followed}
-use Rattle.causal_model.specs.Stability.{is_stable}
+use Rattle.causal_model.specs.Order.{happened_before, is_followed}
+use Rattle.causal_model.specs.Stability.{stable_vector, is_stable}
 
 -- whether an operation is one that a rule logs; the no-op never is
 abbrev pub is_kept : (Update → Bool) → Op → Bool
@@ -19,11 +20,15 @@ is_covered_by covers op.NoOp later = false
 is_covered_by covers (op.Update earlier) op.NoOp = false
 is_covered_by covers (op.Update earlier) (op.Update later) = covers later earlier
 
--- whether no message that happened after it covers a message
+-- whether no message of the epoch that happened after it covers a message
 abbrev pub is_uncovered : (Update → Update → Bool) → List Message → Message → Bool
-is_uncovered covers history m = not (is_followed (λ later. is_covered_by covers m.op later.op) history m)
+is_uncovered covers messages m = not (is_followed happened_before (λ later. is_covered_by covers m.op later.op) messages m)
 
 -- the messages that are logged: of an operation that the rule keeps, uncovered, and not stable
 abbrev pub kept_log : (Update → Bool) → (Update → Update → Bool) → ℕ → ℕ → List Message → List Message
-kept_log keeps covers n me history =
-    filter (λ m. is_kept keeps m.op && is_uncovered covers history m && not (is_stable n me history m)) history
+kept_log keeps covers n me messages =
+    filter (λ m. is_kept keeps m.op && is_uncovered covers messages m && not (is_stable (stable_vector n me messages) m)) messages
+
+-- the message that an entry of a log is of
+abbrev pub message_of : Entry → Message
+message_of entry = record { origin = entry.origin; tag = entry.tag; op = op.Update entry.update }

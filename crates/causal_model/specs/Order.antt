@@ -9,10 +9,10 @@ use Rattle.op_base.specs.declared.message.Message.{Message}
 abbrev pub same_id : Message → Message → Bool
 same_id a b = (a.origin == b.origin) && (number a == number b)
 
--- whether a happened before b: they have two ids, and the sender of b had seen a
+-- whether a happened before b, in one epoch: they have two ids, and the sender of b had seen a
 abbrev pub happened_before : Message → Message → Bool
 happened_before a b = not (same_id a b) && nat_le (number a) (entry b.tag a.origin)
 
--- whether a message that passes happened after this one
-abbrev pub is_followed : (Message → Bool) → List Message → Message → Bool
-is_followed passes history m = list_any (λ later. passes later && happened_before m later) history
+-- whether one of the items that pass happened after this one, by an order of such items
+abbrev pub is_followed : {A : Type 0} → (A → A → Bool) → (A → Bool) → List A → A → Bool
+is_followed before passes items item = list_any (λ later. passes later && before item later) items

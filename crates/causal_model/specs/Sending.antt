@@ -1,5 +1,5 @@
--- The rules by which a replica sends. The windows, the limit, the no-ops and the order of the tests are this project's
--- own profile.
+-- The rules by which a replica sends in an epoch. The windows, the limit, the no-ops and the order of the tests are this
+-- project's own profile.
 use Rattle.std.specs.Prelude.{ℕ, Bool, false, not, ◌||◌, ◌&&◌, ◌==◌, List, fold, if◌then◌else◌}
 use Rattle.op_base.specs.declared.message.Message.{Message}
 use Rattle.op_base.specs.declared.operation.Update.{Update}
@@ -15,21 +15,21 @@ pub data Sending : Type 0 where
   busy : Sending
   ended : Sending
 
--- the message by which member me sends after a history
+-- the message by which member me sends after messages
 abbrev pub own_message : ℕ → ℕ → List Message → Op → Message
-own_message n me history operation = record { origin = me; tag = next_tag n me history; op = operation }
+own_message n me messages operation = record { origin = me; tag = next_tag n me messages; op = operation }
 
 -- sending an update, for a window w and a limit of messages a member: the tests in their order
 abbrev pub sending : ℕ → ℕ → ℕ → ℕ → List Message → Update → Sending
-sending n w limit me history update =
-    if unstable_operations n me history me == w then busy
-    else if count_of history me == limit then ended
-    else sends (own_message n me history (op.Update update))
+sending n w limit me messages update =
+    if unstable_operations n me messages me == w then busy
+    else if count_of messages me == limit then ended
+    else sends (own_message n me messages (op.Update update))
 
 -- Whether a no-op is due: an operation of another member came after the last own message, or came at all where there is
 -- no own message.
 abbrev pub is_noop_due : ℕ → List Message → Bool
-is_noop_due me history = fold (λ due m. not (m.origin == me) && (due || carries_operation m.op)) false history
+is_noop_due me messages = fold (λ due m. not (m.origin == me) && (due || carries_operation m.op)) false messages
 
 -- what comes of sending a no-op: a message; or none is due; or as many own no-ops are unstable as their window has; or
 -- the member has sent all that it may
@@ -41,12 +41,12 @@ pub data Beating : Type 0 where
 
 -- sending a no-op: the tests in their order
 abbrev pub beating : ℕ → ℕ → ℕ → ℕ → List Message → Beating
-beating n w limit me history =
-    if not (is_noop_due me history) then quiet
-    else if unstable_noops n me history me == noop_window n w then held
-    else if count_of history me == limit then beat_ended
-    else beats (own_message n me history op.NoOp)
+beating n w limit me messages =
+    if not (is_noop_due me messages) then quiet
+    else if unstable_noops n me messages me == noop_window n w then held
+    else if count_of messages me == limit then beat_ended
+    else beats (own_message n me messages op.NoOp)
 
 -- the own messages that are not stable, oldest first: what a replica sends again
 abbrev pub outbox_of : ℕ → ℕ → List Message → List Message
-outbox_of n me history = unstable_of n me history me
+outbox_of n me messages = unstable_of n me messages me

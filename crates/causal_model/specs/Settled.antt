@@ -1,14 +1,13 @@
--- Settled items: what remains of the stable messages of a history without their timestamps, as in the plain state of
--- Baquero, Almeida and Shoker (arXiv 1710.04469). Of `counter` the sum is over all messages, stable or not. Each cell
--- asks all messages of the history; no entry is moved step by step. The cells are this project's own profile.
-use Rattle.std.specs.Prelude.{ℕ, Bool, false, not, ◌&&◌, ◌||◌, ℤ, pos, List, [], ◌∷◌, map, filter, fold, Option, Some, None, if◌then◌else◌}
+-- Settled items: what remains of the stable events of a history without their timestamps, as in the plain state of
+-- Baquero, Almeida and Shoker (arXiv 1710.04469). Of `counter` the sum is over all events, stable or not. Each cell asks
+-- all events of the history; no entry is moved step by step. The cells are this project's own profile.
+use Rattle.std.specs.Prelude.{ℕ, Bool, false, not, ◌&&◌, ◌||◌, nat_lt, ℤ, pos, List, [], ◌∷◌, map, filter, fold, Option, Some, None, if◌then◌else◌}
 use Rattle.std.specs.Ordering.{is_lt, is_eq}
 use Rattle.std.specs.List.{list_any}
 use Rattle.op_base.specs.Order.{item_cmp}
 use Rattle.op_base.specs.declared.name.ObjectId.{ObjectId}
 use Rattle.op_base.specs.declared.name.Kind.{Kind}
 use Rattle.op_base.specs.declared.name.Kind.TheVariants.{AwSet, RwSet, EwFlag, DwFlag, MvReg, Counter, RCounter}
-use Rattle.op_base.specs.declared.message.Message.{Message}
 use Rattle.op_base.specs.declared.outcome.Cell.{Cell}
 use Rattle.op_base.specs.declared.outcome.Item.{Item}
 use Rattle.op_base.specs.declared.operation.Act.{Act}
@@ -17,25 +16,35 @@ use Rattle.op_base.specs.declared.operation.Op.TheVariants as op
 use Rattle.causal_model.specs.Acts.{is_add_of, is_rmv_of, is_write_of, is_enable, is_disable, value_of}
 use Rattle.causal_model.specs.Covering.{store_covers}
 use Rattle.causal_model.specs.Items.{is_filled}
-use Rattle.causal_model.specs.Log.{is_uncovered}
-use Rattle.causal_model.specs.Query.{does, counter_sum}
-use Rattle.causal_model.specs.Stability.{is_stable}
+use Rattle.causal_model.specs.Log.{is_covered_by}
+use Rattle.causal_model.specs.Order.{is_followed}
+use Rattle.causal_model.specs.History.{History, Event, epoch_of, events, is_before}
+use Rattle.causal_model.specs.Query.{is_act_on, counter_sum}
+use Rattle.causal_model.specs.Stability.{stable_vector, is_stable}
 
--- whether a message is stable, and none that happened after it covers it
-abbrev pub is_settled : ℕ → ℕ → List Message → Message → Bool
-is_settled n me history m = is_stable n me history m && is_uncovered store_covers history m
+-- whether an event is stable: it is of an epoch that is over, or a stable message of the present one
+abbrev pub is_stable_event : History → Event → Bool
+is_stable_event h e = nat_lt e.epoch (epoch_of h) || is_stable (stable_vector h.present.n h.present.me h.present.messages) e.message
 
--- whether a message is unstable, and none that happened after it covers it
-abbrev pub is_pending : ℕ → ℕ → List Message → Message → Bool
-is_pending n me history m = not (is_stable n me history m) && is_uncovered store_covers history m
+-- whether no event that happened after it covers an event
+abbrev pub is_uncovered_event : List Event → Event → Bool
+is_uncovered_event events e = not (is_followed is_before (λ later. is_covered_by store_covers e.message.op later.message.op) events e)
 
--- a settled message does such an act to an object
-abbrev pub has_settled : ℕ → ℕ → List Message → ObjectId → (Act → Bool) → Bool
-has_settled n me history object passes = list_any (λ m. does object passes m && is_settled n me history m) history
+-- whether an event is stable and uncovered
+abbrev pub is_settled : History → Event → Bool
+is_settled h e = is_stable_event h e && is_uncovered_event (events h) e
 
--- a pending message does such an act to an object
-abbrev pub has_pending : ℕ → ℕ → List Message → ObjectId → (Act → Bool) → Bool
-has_pending n me history object passes = list_any (λ m. does object passes m && is_pending n me history m) history
+-- whether an event is uncovered, and not stable
+abbrev pub is_pending : History → Event → Bool
+is_pending h e = not (is_stable_event h e) && is_uncovered_event (events h) e
+
+-- a settled event does such an act to an object
+abbrev pub has_settled : History → ObjectId → (Act → Bool) → Bool
+has_settled h object passes = list_any (λ e. is_act_on object passes e && is_settled h e) (events h)
+
+-- a pending event does such an act to an object
+abbrev pub has_pending : History → ObjectId → (Act → Bool) → Bool
+has_pending h object passes = list_any (λ e. is_act_on object passes e && is_pending h e) (events h)
 
 -- the cell with an on mark alone
 abbrev pub on_cell : Bool → Cell
@@ -52,26 +61,26 @@ remove_wins_cell settled_add settled_remove pending_add =
     record { on = settled_add && (not settled_remove || pending_add); off = settled_remove && pending_add; sum = pos 0 }
 
 -- the cell of an object's value, where its kind has values
-abbrev pub value_cell : ℕ → ℕ → List Message → Kind → ObjectId → List ℕ → Cell
-value_cell n me history AwSet object value = on_cell (has_settled n me history object (is_add_of value))
-value_cell n me history RwSet object value =
-    remove_wins_cell (has_settled n me history object (is_add_of value)) (has_settled n me history object (is_rmv_of value)) (has_pending n me history object (is_add_of value))
-value_cell n me history MvReg object value = on_cell (has_settled n me history object (is_write_of value))
-value_cell n me history kind object value = on_cell false
+abbrev pub value_cell : History → Kind → ObjectId → List ℕ → Cell
+value_cell h AwSet object value = on_cell (has_settled h object (is_add_of value))
+value_cell h RwSet object value =
+    remove_wins_cell (has_settled h object (is_add_of value)) (has_settled h object (is_rmv_of value)) (has_pending h object (is_add_of value))
+value_cell h MvReg object value = on_cell (has_settled h object (is_write_of value))
+value_cell h kind object value = on_cell false
 
 -- the cell of an object, where its kind has none
-abbrev pub object_cell : ℕ → ℕ → List Message → Kind → ObjectId → Cell
-object_cell n me history EwFlag object = on_cell (has_settled n me history object is_enable)
-object_cell n me history DwFlag object =
-    remove_wins_cell (has_settled n me history object is_enable) (has_settled n me history object is_disable) (has_pending n me history object is_enable)
-object_cell n me history Counter object = sum_cell (counter_sum object history)
-object_cell n me history RCounter object = sum_cell (counter_sum object (filter (is_settled n me history) history))
-object_cell n me history kind object = on_cell false
+abbrev pub object_cell : History → Kind → ObjectId → Cell
+object_cell h EwFlag object = on_cell (has_settled h object is_enable)
+object_cell h DwFlag object =
+    remove_wins_cell (has_settled h object is_enable) (has_settled h object is_disable) (has_pending h object is_enable)
+object_cell h Counter object = sum_cell (counter_sum object (events h))
+object_cell h RCounter object = sum_cell (counter_sum object (filter (is_settled h) (events h)))
+object_cell h kind object = on_cell false
 
--- the cell of an object, or of one of its values, after a history of member me
-abbrev pub settled_cell : ℕ → ℕ → List Message → ObjectId → Option (List ℕ) → Cell
-settled_cell n me history object None = object_cell n me history object.kind object
-settled_cell n me history object (Some value) = value_cell n me history object.kind object value
+-- the cell of an object, or of one of its values, after a history
+abbrev pub settled_cell : History → ObjectId → Option (List ℕ) → Cell
+settled_cell h object None = object_cell h object.kind object
+settled_cell h object (Some value) = value_cell h object.kind object value
 
 -- an object and a value put into a list in the order of items, once
 abbrev pub put_place : ObjectId → Option (List ℕ) → List (ObjectId × Option (List ℕ)) → List (ObjectId × Option (List ℕ))
@@ -86,12 +95,12 @@ abbrev pub put_place_of : Op → List (ObjectId × Option (List ℕ)) → List (
 put_place_of op.NoOp places = places
 put_place_of (op.Update u) places = put_place u.object (value_of u.act) places
 
--- the objects and values that operations of a history name, in the order of items and each once
-abbrev pub places_of : List Message → List (ObjectId × Option (List ℕ))
-places_of history = fold (λ places m. put_place_of m.op places) [] history
+-- the objects and values that operations of events name, in the order of items and each once
+abbrev pub places_of : List Event → List (ObjectId × Option (List ℕ))
+places_of events = fold (λ places e. put_place_of e.message.op places) [] events
 
 -- the settled items of a history, in their order: the cells that have a mark or a sum
-abbrev pub settled_items : ℕ → ℕ → List Message → List Item
-settled_items n me history =
+abbrev pub settled_items : History → List Item
+settled_items h =
     filter (λ item. is_filled item.cell)
-    (map (λ p. record { object = p.0; value = p.1; cell = settled_cell n me history p.0 p.1 }) (places_of history))
+    (map (λ p. record { object = p.0; value = p.1; cell = settled_cell h p.0 p.1 }) (places_of (events h)))

@@ -13,4 +13,6 @@ pub enum Note {
     Took(MessageId),
     /// The early message of this id was dropped, since it is crooked.
     Crook(MessageId),
+    /// The epoch ended. The replica goes on in epoch `epoch` as member `me` of `n` members.
+    Regroup { epoch: u32, n: u8, me: u8 },
 }

@@ -1,7 +1,7 @@
 //! Worked histories: that the definitions mean what was meant. Each is the contract of a function that does nothing.
 
 ghost use Rattle.causal_model.specs.Table.{CoveringTable};
-ghost use Rattle.causal_model.specs.Worked.{BeforeAndConcurrent, AddWins, StableAndLog, RemoveWins, AddAfterBothRemoves, StableRemoveIsVoided, BothMarks, ConcurrentFlags, ConcurrentWrites, ConcurrentClear, SettledCounters, LoggedByKind, TakenWithItsCause, JournalReplays, KeptUpToTheWindows, LowestMemberFirst, Crooks, BusyUntilStable, NoOpsDue, HeldAfterThree, LegalJournals};
+ghost use Rattle.causal_model.specs.Worked.{BeforeAndConcurrent, AddWins, StableAndLog, RemoveWins, AddAfterBothRemoves, StableRemoveIsVoided, BothMarks, ConcurrentFlags, ConcurrentWrites, ConcurrentClear, SettledCounters, LoggedByKind, TakenWithItsCause, JournalReplays, KeptUpToTheWindows, LowestMemberFirst, Crooks, BusyUntilStable, NoOpsDue, HeldAfterThree, LegalJournals, RemovedInTheNextEpoch, ConcurrentInThePast, ClearedInTheNextEpoch, EpochsReplay};
 
 /// A message happened before those whose senders had it, and not before itself.
 pub fn messages_are_seen_or_concurrent()
@@ -111,4 +111,24 @@ pub fn no_ops_are_held_at_their_window()
 /// A journal is legal where it is made of whole groups of notes, and so begins with a send or an accepted message.
 pub fn a_journal_is_made_of_whole_groups()
     ensures { LegalJournals }
+{}
+
+/// What was added in an epoch that is over is in, and is removed by a remove of the next epoch, whoever sends it.
+pub fn a_remove_of_the_next_epoch_is_after_all()
+    ensures { RemovedInTheNextEpoch }
+{}
+
+/// What was concurrent in an epoch that is over stays so in the next one.
+pub fn what_was_concurrent_stays_so()
+    ensures { ConcurrentInThePast }
+{}
+
+/// A counter goes on over the end of an epoch, until a clear.
+pub fn a_counter_goes_on_in_the_next_epoch()
+    ensures { ClearedInTheNextEpoch }
+{}
+
+/// A journal replays over the end of an epoch.
+pub fn a_journal_replays_over_epochs()
+    ensures { EpochsReplay }
 {}

@@ -1,13 +1,13 @@
 -- A store of one member, as far as the replica needs it.
-use Rattle.std.proofs.Common.{◌≡◌, ℕ, ◌+◌, ◌<◌, ◌≤◌, ◌==◌, true, false, List, length, IsTrue, refl, subst, arith, set}
+use Rattle.std.proofs.Common.{◌≡◌, ℕ, ◌+◌, ◌<◌, ◌≤◌, ◌==◌, true, false, List, length, IsTrue, refl, sym, subst, arith, set}
 use Rattle.std.proofs.lemmas.Bool.Decides.{nat_tests}
 use Rattle.op_base.specs.Timestamp.{zero_tag}
 use Rattle.op_base.specs.declared.message.Message.{Message}
 use Rattle.op_base.specs.declared.operation.Op.TheVariants as op
 use Rattle.op_base.specs.declared.operation.Update.{Update}
-use Rattle.causal_model.specs.Counts.{count_of, next_tag, is_within}
-use Rattle.causal_model.specs.History.{is_history}
-use Rattle.causal_model.specs.Laws.{HasRoom}
+use Rattle.causal_model.specs.Counts.{count_of, next_tag, are_carried}
+use Rattle.causal_model.specs.Chapter.{is_chapter}
+use Rattle.causal_model.specs.Laws.Delivery.{HasRoom}
 use Rattle.causal_model.specs.Stability.{unstable_operations}
 use Rattle.causal_model.specs.Sending.{own_message, sending, sends, ended}
 use Rattle.causal_model.proofs.Alone.{count_of_alone, none_unstable_alone}
@@ -25,14 +25,16 @@ pub alone : (me n w limit : ℕ) → IsTrue (are_numbers me n w limit) → IsAlo
 alone me n w limit h = record { members = grind (arith, nat_tests); member = grind (arith, nat_tests); window = grind (arith, nat_tests); most = grind (arith, nat_tests) }
 
 -- the next own timestamp is one more than the number of messages
-pub tag_alone : (me n w limit : ℕ) (h : List Message) → IsAlone me n w limit → IsTrue (is_history n w me h) → set (zero_tag n) me (length h + 1) ≡ next_tag n me h
+pub tag_alone : (me n w limit : ℕ) (h : List Message) → IsAlone me n w limit → IsTrue (is_chapter n w me h) → set (zero_tag n) me (length h + 1) ≡ next_tag n me h
 tag_alone me n w limit h a is =
-    let here : IsTrue (is_history 1 w 0 h) = rw (a.members, a.member) at is in
+    let here : IsTrue (is_chapter 1 w 0 h) = rw (a.members, a.member) at is in
     rw (a.members, a.member, count_of_alone w h here) refl
 
-module _ (me n w limit : ℕ) (h : List Message) (u : Update) (a : IsAlone me n w limit) (is : IsTrue (is_history n w me h)) where
+module _ (me n w limit : ℕ) (h : List Message) (u : Update) (a : IsAlone me n w limit) (is : IsTrue (is_chapter n w me h)) where
   none_unstable : unstable_operations n me h me ≡ 0
-  none_unstable = rw (a.members, a.member) (none_unstable_alone w h (rw (a.members, a.member) at is))
+  none_unstable =
+      let here : IsTrue (is_chapter 1 w 0 h) = rw (a.members, a.member) at is in
+      subst (λ member. unstable_operations n member h member ≡ 0) (sym a.member) (subst (λ members. unstable_operations members 0 h 0 ≡ 0) (sym a.members) (none_unstable_alone w h here))
 
   all_own : count_of h me ≡ length h
   all_own = rw a.member (count_of_alone w h (rw (a.members, a.member) at is))
@@ -45,7 +47,7 @@ module _ (me n w limit : ℕ) (h : List Message) (u : Update) (a : IsAlone me n 
   not_busy = rw none_unstable (grind (arith, nat_tests, a.window))
 
   -- no more messages are kept than the member may send
-  pub few_alone : IsTrue (is_within limit h) → length h ≤ limit
+  pub few_alone : IsTrue (are_carried limit h) → length h ≤ limit
   few_alone within = subst (λ (count : ℕ). count ≤ limit) all_own (counts_are_within n w me limit me h is within)
 
   -- sending depends on the number of messages alone

@@ -1,2 +1,3 @@
 pub mod Alone
 pub mod Sent
+pub mod Sums

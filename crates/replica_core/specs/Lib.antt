@@ -2,6 +2,7 @@ pub mod Numbers
 pub mod Standing
 pub mod Rules
 pub use Rattle.causal_model.specs.Counts
+pub use Rattle.causal_model.specs.Chapter
 pub use Rattle.causal_model.specs.History
 pub use Rattle.causal_model.specs.Stability
 pub use Rattle.causal_model.specs.Sending

@@ -8,15 +8,16 @@ ghost use Rattle.op_base.specs.Message.{fits};
 ghost use Rattle.op_base.specs.declared.message.Message.{Message};
 ghost use Rattle.op_base.specs.declared.name.Kind.TheVariants as kinds;
 ghost use Rattle.op_base.specs.declared.operation.Op.TheVariants as op;
-ghost use Rattle.causal_model.specs.Counts.{is_within, next_tag};
-ghost use Rattle.causal_model.specs.History.{is_history};
+ghost use Rattle.causal_model.specs.Counts.{are_carried, next_tag};
+ghost use Rattle.causal_model.specs.Chapter.{is_chapter};
+ghost use Rattle.causal_model.specs.History.{events_in};
 ghost use Rattle.causal_model.specs.Sending.{own_message};
 ghost use Rattle.causal_model.specs.Query.{amount_of, share_of, counter_sum};
 ghost use Rattle.replica_core.specs.Numbers.{are_numbers};
 
 use crate::answers::{CreateFault, Local};
 use crate::numbers::are_numbers;
-use op_base::{Act, Message, MessageList, NoMemory, ObjectId, Op, Tag, Update};
+use op_base::{Act, Message, MessageList, NoMemory, ObjectId, Op, Tag, Update, updates_are_valid};
 use std::alloc::Global;
 
 /// One member's copy of a store.
@@ -33,8 +34,8 @@ pub struct Replica {
     /// The messages that it has, oldest first.
     pub history: MessageList,
     pub ghost numbers: { IsTrue (are_numbers me n w limit) },
-    pub ghost is_history: { IsTrue (is_history n w me history) },
-    pub ghost is_within: { IsTrue (is_within limit history) },
+    pub ghost is_chapter: { IsTrue (is_chapter n w me history) },
+    pub ghost are_carried: { IsTrue (are_carried limit history) },
 }
 
 impl Replica {
@@ -87,6 +88,7 @@ impl Replica {
         ensures err { OnErr result (self.new.history ≡ self.old.history) }
         ensures settings { SameSettings self.old self.new }
     {
+        updates_are_valid(update);
         let message = Message {
             origin: self.me,
             tag: self.next_tag(),
@@ -109,7 +111,7 @@ impl Replica {
     /// The value of a counter: all increments less all decrements.
     pub fn count(&self, object: &ObjectId) -> i128
         requires { object.now.kind ≡ kinds.Counter }
-        ensures { (h : List Message) → StandsFor self.now h → result ≡ counter_sum object.now h }
+        ensures { (h : List Message) → StandsFor self.now h → result ≡ counter_sum object.now (events_in 0 h) }
     {
         counter_sum(object, self.history.as_slice())
     }
@@ -117,7 +119,7 @@ impl Replica {
 
 /// The value of a counter after a history.
 fn counter_sum(object: &ObjectId, history: &[Message]) -> i128
-    ensures { result ≡ counter_sum object.now history.now }
+    ensures { result ≡ counter_sum object.now (events_in 0 history.now) }
 {
     let mut sum: i128 = 0;
     for message in history {

@@ -4,6 +4,7 @@ use Rattle.op_base.specs.Message.{number}
 use Rattle.op_base.specs.declared.message.Message.{Message}
 use Rattle.op_base.specs.declared.operation.Update.{Update}
 use Rattle.op_base.specs.declared.outcome.Answer.TheVariants.{Sum}
+use Rattle.causal_model.specs.History.{events_in}
 use Rattle.causal_model.specs.Sending.{Sending, sends, busy, ended, sending}
 use Rattle.causal_model.specs.Query.{counter_sum}
 use Rattle.store_program.specs.declared.command.Header.{Header}
@@ -37,7 +38,7 @@ sending_history h ended = h
 -- the reply to a command after a history
 abbrev pub command_reply : Header → List Message → Command → Reply
 command_reply store h (Do r update) = sending_reply (sending_in store h update)
-command_reply store h (Ask r object) = reply.Is (Sum (counter_sum object h))
+command_reply store h (Ask r object) = reply.Is (Sum (counter_sum object (events_in 0 h)))
 
 -- the history after a command
 abbrev pub command_history : Header → List Message → Command → List Message

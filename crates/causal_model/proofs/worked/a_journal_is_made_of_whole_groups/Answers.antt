@@ -1,55 +1,41 @@
-use Rattle.std.proofs.Common.{ℕ, List, [], ◌∷◌, ◌++◌, refl}
-use Rattle.op_base.specs.declared.message.Message.{Message}
+use Rattle.std.proofs.Common.{ℕ, List, [], ◌∷◌, ◌++◌, refl, sym, subst}
+use Rattle.op_base.specs.declared.outcome.Step.TheVariants as step
 use Rattle.causal_model.specs.declared.note.Note.{Note}
-use Rattle.causal_model.specs.declared.note.Note.TheVariants.{Sent, Kept, Took, Crook}
-use Rattle.causal_model.specs.Sending.{Sending, sends, busy, ended, Beating, beats, quiet, held, beat_ended}
-use Rattle.causal_model.specs.Receiving.{Receiving, old, again, far, accepts}
-use Rattle.causal_model.specs.Journal.{sending_notes, beating_notes, receiving_notes, IsLegal, nothing, after_local, after_beat, after_receive}
-use Rattle.causal_model.specs.Worked.{inc_1, noop}
+use Rattle.causal_model.specs.declared.note.Note.TheVariants.{Sent, Kept, Took, Crook, Regroup}
+use Rattle.causal_model.specs.Receiving.{State, start}
+use Rattle.causal_model.specs.Journal.{IsGroup, sent, beaten, received, regrouped_as, AreGroups, notes_of, IsLegal}
+use Rattle.causal_model.specs.Worked.{inc_1, noop, numbered, id}
 use Rattle.causal_model.proofs.worked.a_journal_is_made_of_whole_groups.Goals as goal
 
--- a journal begins with no message that is taken or dropped
+-- notes begin with no message that is taken or dropped
 abbrev Opens : List Note → Type 0
 Opens [] = Unit {0}
 Opens (Sent m ∷ later) = Unit {0}
 Opens (Kept m ∷ later) = Unit {0}
 Opens (Took id ∷ later) = ⊥
 Opens (Crook id ∷ later) = ⊥
+Opens (Regroup epoch n me ∷ later) = Unit {0}
 
-opens_more : (notes more : List Note) → Opens notes → Opens more → Opens (notes ++ more)
-opens_more [] more first second = second
-opens_more (Sent m ∷ notes) more first second = tt
-opens_more (Kept m ∷ notes) more first second = tt
-opens_more (Took id ∷ notes) more first second = first
-opens_more (Crook id ∷ notes) more first second = first
+group_opens : (w limit : ℕ) (s : State) (group later : List Note) → IsGroup w limit s group → Opens (group ++ later)
+group_opens w limit s _ later (sent update m _ _) = tt
+group_opens w limit s _ later (beaten m _) = tt
+group_opens w limit s _ later (received m steps after _ _ _) = tt
+group_opens w limit s _ later (regrouped_as n me _ _ _ _) = tt
 
-sending_opens : (s : Sending) → Opens (sending_notes s)
-sending_opens (sends m) = tt
-sending_opens busy = tt
-sending_opens ended = tt
+groups_open : (w limit : ℕ) (s : State) (groups : List (List Note)) → AreGroups w limit s groups → Opens (notes_of groups)
+groups_open w limit s [] are = tt
+groups_open w limit s (group ∷ later) are = group_opens w limit s group (notes_of later) are.0
 
-beating_opens : (b : Beating) → Opens (beating_notes b)
-beating_opens (beats m) = tt
-beating_opens quiet = tt
-beating_opens held = tt
-beating_opens beat_ended = tt
+legal_opens : (w limit n me : ℕ) (notes : List Note) → IsLegal w limit n me notes → Opens notes
+legal_opens w limit n me notes legal = subst Opens (sym legal.are_theirs) (groups_open w limit (start n me) legal.groups legal.are_groups)
 
-receiving_opens : (m : Message) (r : Receiving) → Opens (receiving_notes m r)
-receiving_opens m (accepts steps s) = tt
-receiving_opens m old = tt
-receiving_opens m again = tt
-receiving_opens m far = tt
-
-legal_opens : (n w limit me : ℕ) (notes : List Note) → IsLegal n w limit me notes → Opens notes
-legal_opens n w limit me _ nothing = tt
-legal_opens n w limit me _ (after_local {notes} update legal) = opens_more notes _ (legal_opens n w limit me notes legal) (sending_opens _)
-legal_opens n w limit me _ (after_beat {notes} legal) = opens_more notes _ (legal_opens n w limit me notes legal) (beating_opens _)
-legal_opens n w limit me _ (after_receive {notes} m _ _ legal) = opens_more notes _ (legal_opens n w limit me notes legal) (receiving_opens m _)
-
--- src/worked.rt:112:1
 pub returns : goal.returns
 returns c = record {
-  legal = after_receive (noop 1 (1 ∷ 1 ∷ [])) refl refl (after_local inc_1 nothing);
-  untaken = λ n w limit me first later legal. legal_opens n w limit me (Took first ∷ later) legal;
-  undropped = λ n w limit me first later legal. legal_opens n w limit me (Crook first ∷ later) legal;
+  legal = record {
+    groups = (Sent (numbered 1) ∷ []) ∷ (Kept (noop 1 (1 ∷ 1 ∷ [])) ∷ Took (id 1 1) ∷ []) ∷ [];
+    are_groups = (sent inc_1 (numbered 1) refl refl, (received (noop 1 (1 ∷ 1 ∷ [])) (step.Took (id 1 1) ∷ []) _ refl refl refl, tt));
+    are_theirs = refl;
+  };
+  untaken = λ w limit n me first later legal. legal_opens w limit n me (Took first ∷ later) legal;
+  undropped = λ w limit n me first later legal. legal_opens w limit n me (Crook first ∷ later) legal;
 }

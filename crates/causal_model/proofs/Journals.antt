@@ -1,0 +1,167 @@
+-- Journals: what receiving notes replays to the state that it leaves, a group keeps what a state is, and groups grow.
+use Rattle.std.proofs.Common.{◌≡◌, ◌≢◌, ℕ, zero, suc, ◌<◌, ◌≤◌, Bool, true, false, not, ◌==◌, IsTrue, List, [], ◌∷◌, ◌++◌, map, length, refl, sym, ap, subst, ◌∙◌, inl, inr, Option, Some, None, if◌then◌else◌, arith}
+use Rattle.std.proofs.lemmas.Bool.{and_parts, eqb-true, eqb-false, false_from_ne_true}
+use Rattle.std.proofs.lemmas.List.Sums.{fold-append}
+use Rattle.op_base.specs.Message.{number, fits, id_of}
+use Rattle.op_base.specs.Valid.{is_valid}
+use Rattle.op_base.specs.declared.message.Message.{Message}
+use Rattle.op_base.specs.declared.operation.Update.{Update}
+use Rattle.op_base.specs.declared.operation.Op.{Op}
+use Rattle.op_base.specs.declared.operation.Op.TheVariants as op
+use Rattle.op_base.specs.declared.outcome.Crook.{Crook}
+use Rattle.op_base.specs.declared.outcome.Step.{Step}
+use Rattle.causal_model.specs.Counts.{count_of, is_deliverable, is_carried}
+use Rattle.causal_model.specs.Stability.{unstable_operations, unstable_noops, noop_window}
+use Rattle.causal_model.specs.History.{with_messages}
+use Rattle.causal_model.specs.Sending.{own_message, sends, busy, ended, sending, beats, quiet, held, beat_ended, is_noop_due, beating}
+use Rattle.causal_model.specs.Receiving.{State, counted, is_old, is_again, is_far, has_id, without, crook_after, step_of, messages_with, state_with, steps_within, steps, with_early, old, again, far, accepts, receiving}
+use Rattle.causal_model.specs.Journal.{with_own, messages_and, state_noted, state_after, step_note, receiving_notes, IsGroup, sent, beaten, received, regrouped_as, AreGroups, notes_of}
+use Rattle.causal_model.specs.States.{IsState}
+use Rattle.causal_model.specs.Laws.Delivery.{HasRoom}
+use Rattle.causal_model.specs.Laws.States.{next_of}
+use Rattle.causal_model.specs.declared.note.Note.{Note}
+use Rattle.causal_model.proofs.Early.{StandsBefore, standing}
+use Rattle.causal_model.proofs.Histories.{IsHistory-from_test, IsLimited-from_test}
+use Rattle.causal_model.proofs.Limits.{counts_are_within}
+use Rattle.causal_model.proofs.Risings.{found_alike}
+use Rattle.causal_model.proofs.States.{step_keeps_state, accept_keeps_state, own_keeps_state, own_makes_none_deliverable, regroup_keeps_state}
+use Rattle.causal_model.proofs.Steps.{has_own_id, steps_by, none_is_next_after_steps}
+use Rattle.causal_model.proofs.Windows.{windows_hold}
+
+-- ---- steps
+
+-- no message that stands before another has its id
+before_has_other_id : (m y : Message) → StandsBefore y m → has_id (id_of m) y ≡ false
+before_has_other_id m y before = false_from_ne_true (has_id (id_of m) y) (λ t.
+    let same = and_parts (m.origin == y.origin) (number m == number y) t in
+    elim (standing y m before) [
+      | inl low ↦ omega (arith, low, eqb-true m.origin y.origin same.0)
+      | inr both ↦ omega (arith, both.1, eqb-true (number m) (number y) same.1)
+    ])
+
+-- the note of a step makes of a state what the step makes of it
+step_replays : (w limit : ℕ) (s : State) (m : Message) → IsState w limit s → next_of s ≡ Some m → state_noted s (step_note (step_of m (crook_after w s.history m))) ≡ state_with w s m
+step_replays w limit s m is e = by (crook_after w s.history m) where
+  by : (o : Option Crook) → state_noted s (step_note (step_of m o)) ≡ record { history = with_messages s.history (messages_with s.history.present.messages m o); early = without (id_of m) s.early }
+  by None =
+      let there = found_alike StandsBefore (is_deliverable s.history.present.n (counted s.history)) (has_id (id_of m)) s.early m is.are_early.rise e (has_own_id m) (before_has_other_id m) in
+      ap (λ o. record { history = with_messages s.history (messages_and s.history.present.messages o); early = without (id_of m) s.early }) there
+  by (Some crook) = refl
+
+-- steps keep a state, and their notes replay to the one after them
+record Replays (w limit : ℕ) (s : State) (made : List Step × State) : Type 0 where
+  keeps : IsState w limit made.1
+  replays : state_after s (map step_note made.0) ≡ made.1
+
+steps_within_replay : (w limit most : ℕ) (s : State) → IsState w limit s → Replays w limit s (steps_within w most s)
+steps_within_replay w limit zero s is = record { keeps = is; replays = refl }
+steps_within_replay w limit (suc most) s is = by (steps_within_replay w limit most) (next_of s) refl where
+  by : ((g : State) → IsState w limit g → Replays w limit g (steps_within w most g)) → (o : Option Message) → next_of s ≡ o → Replays w limit s (steps_by w most s o)
+  by later None none = record { keeps = is; replays = refl }
+  by later (Some m) next =
+      let rest = later (state_with w s m) (step_keeps_state w limit s m is next) in
+      record {
+        keeps = rest.keeps;
+        replays = ap (λ g. state_after g (map step_note (steps_within w most (state_with w s m)).0)) (step_replays w limit s m is next) ∙ rest.replays;
+      }
+
+-- ---- receiving
+
+-- that a message was accepted, in parts
+record IsAccepted (w : ℕ) (s : State) (m : Message) (made : List Step) (after : State) : Type 0 where
+  new : is_old s.history.present.me (counted s.history) m ≡ false
+  apart : is_again s.early m ≡ false
+  near : is_far s.history.present.n w s.history.present.me (counted s.history) m ≡ false
+  notes : (steps w (with_early s m)).0 ≡ made
+  state : (steps w (with_early s m)).1 ≡ after
+
+accepted : (w : ℕ) (s : State) (m : Message) (made : List Step) (after : State) → receiving w s m ≡ accepts made after → IsAccepted w s m made after
+accepted w s m made after e = by (is_old s.history.present.me (counted s.history) m) (is_again s.early m) (is_far s.history.present.n w s.history.present.me (counted s.history) m) refl refl refl e where
+  by : (a b c : Bool) → is_old s.history.present.me (counted s.history) m ≡ a → is_again s.early m ≡ b → is_far s.history.present.n w s.history.present.me (counted s.history) m ≡ c
+      → (if a then old else if b then again else if c then far else accepts (steps w (with_early s m)).0 (steps w (with_early s m)).1) ≡ accepts made after → IsAccepted w s m made after
+  by true b c is_a is_b is_c f = cc
+  by false true c is_a is_b is_c f = cc
+  by false false true is_a is_b is_c f = cc
+  by false false false is_a is_b is_c f = record { new = is_a; apart = is_b; near = is_c; notes = cc; state = cc }
+
+module _ (w limit : ℕ) (s : State) (m : Message) (made : List Step) (after : State) (is : IsState w limit s) (fit : IsTrue (fits s.history.present.n m)) (carried : IsTrue (is_carried limit m)) (e : receiving w s m ≡ accepts made after) where
+  receives : Replays w limit (with_early s m) (steps w (with_early s m))
+  receives =
+      let parts = accepted w s m made after e in
+      steps_within_replay w limit (length (with_early s m).early) (with_early s m) (accept_keeps_state w limit s m is fit carried parts.new parts.apart parts.near)
+
+  pub receiving_replays : state_after s (receiving_notes m (accepts made after)) ≡ after
+  receiving_replays =
+      let parts = accepted w s m made after e in
+      ap (λ notes. state_after (with_early s m) (map step_note notes)) (sym parts.notes) ∙ receives.replays ∙ parts.state
+
+  receiving_keeps_state : IsState w limit after × (next_of after ≡ None)
+  receiving_keeps_state =
+      let parts = accepted w s m made after e in
+      (subst (IsState w limit) parts.state receives.keeps, subst (λ g. next_of g ≡ None) parts.state (none_is_next_after_steps w (with_early s m)))
+
+-- ---- sending
+
+-- what lets a message be sent: room in its window, and a number below the limit
+record IsSent (n w limit me : ℕ) (messages : List Message) (o : Op) (m : Message) : Type 0 where
+  room : HasRoom n w me messages o
+  below : count_of messages me ≢ limit
+  own : m ≡ own_message n me messages o
+
+module _ (n w limit me : ℕ) (messages : List Message) (m : Message) where
+  sends_own : (u : Update) → unstable_operations n me messages me ≤ w → sending n w limit me messages u ≡ sends m → IsSent n w limit me messages (op.Update u) m
+  sends_own u within e = by (unstable_operations n me messages me == w) (count_of messages me == limit) refl refl e where
+    by : (a b : Bool) → (unstable_operations n me messages me == w) ≡ a → (count_of messages me == limit) ≡ b
+        → (if a then busy else if b then ended else sends (own_message n me messages (op.Update u))) ≡ sends m → IsSent n w limit me messages (op.Update u) m
+    by true b is_a is_b f = cc
+    by false true is_a is_b f = cc
+    by false false is_a is_b f = record {
+      room = omega (arith, within, eqb-false (unstable_operations n me messages me) w is_a);
+      below = eqb-false (count_of messages me) limit is_b;
+      own = cc;
+    }
+
+  beats_own : unstable_noops n me messages me ≤ noop_window n w → beating n w limit me messages ≡ beats m → IsSent n w limit me messages op.NoOp m
+  beats_own within e = by (is_noop_due me messages) (unstable_noops n me messages me == noop_window n w) (count_of messages me == limit) refl refl e where
+    by : (due a b : Bool) → (unstable_noops n me messages me == noop_window n w) ≡ a → (count_of messages me == limit) ≡ b
+        → (if not due then quiet else if a then held else if b then beat_ended else beats (own_message n me messages op.NoOp)) ≡ beats m → IsSent n w limit me messages op.NoOp m
+    by false a b is_a is_b f = cc
+    by true true b is_a is_b f = cc
+    by true false true is_a is_b f = cc
+    by true false false is_a is_b f = record {
+      room = omega (arith, within, eqb-false (unstable_noops n me messages me) (noop_window n w) is_a);
+      below = eqb-false (count_of messages me) limit is_b;
+      own = cc;
+    }
+
+sent_keeps_state : (w limit : ℕ) (s : State) (o : Op) (m : Message) → IsState w limit s → next_of s ≡ None → IsTrue (is_valid o)
+    → IsSent s.history.present.n w limit s.history.present.me s.history.present.messages o m → IsState w limit (with_own s m) × (next_of (with_own s m) ≡ None)
+sent_keeps_state w limit s o m is none valid send =
+    let n = s.history.present.n in
+    let me = s.history.present.me in
+    let messages = s.history.present.messages in
+    let was = IsHistory-from_test w s.history is.is_history in
+    let below : count_of messages me < limit = omega (arith, send.below, counts_are_within n w me limit me messages was.chapter (IsLimited-from_test limit s.history is.is_limited).present) in
+    (subst (λ own. IsState w limit (with_own s own)) (sym send.own) (own_keeps_state w limit s o is send.room valid below), own_makes_none_deliverable w limit s o is m (ap (λ own. own.origin) send.own) none)
+
+-- ---- groups
+
+-- a group keeps what a state is, and leaves no early message that can be delivered
+pub group_keeps_state : (w limit : ℕ) (s : State) (group : List Note) → IsState w limit s → next_of s ≡ None → IsGroup w limit s group
+    → IsState w limit (state_after s group) × (next_of (state_after s group) ≡ None)
+group_keeps_state w limit s _ is none (sent u m valid e) =
+    let was = IsHistory-from_test w s.history is.is_history in
+    let h = s.history.present in
+    sent_keeps_state w limit s (op.Update u) m is none valid (sends_own h.n w limit h.me h.messages m u (windows_hold h.n w h.me h.me h.messages was.member was.chapter).0 e)
+group_keeps_state w limit s _ is none (beaten m e) =
+    let was = IsHistory-from_test w s.history is.is_history in
+    let h = s.history.present in
+    sent_keeps_state w limit s op.NoOp m is none refl (beats_own h.n w limit h.me h.messages m (windows_hold h.n w h.me h.me h.messages was.member was.chapter).1 e)
+group_keeps_state w limit s _ is none (received m made after fit carried e) =
+    subst (λ g. IsState w limit g × (next_of g ≡ None)) (sym (receiving_replays w limit s m made after is fit carried e)) (receiving_keeps_state w limit s m made after is fit carried e)
+group_keeps_state w limit s _ is none (regrouped_as n me few member more stable) = (regroup_keeps_state w limit n me s is few member more stable, refl)
+
+pub groups_grow : (w limit : ℕ) (s : State) (groups : List (List Note)) (group : List Note) → AreGroups w limit s groups → IsGroup w limit (state_after s (notes_of groups)) group → AreGroups w limit s (groups ++ group ∷ [])
+groups_grow w limit s [] group are next = (next, tt)
+groups_grow w limit s (first ∷ groups) group are next =
+    (are.0, groups_grow w limit (state_after s first) groups group are.1 (subst (λ g. IsGroup w limit g group) (fold-append state_noted s first (notes_of groups)) next))

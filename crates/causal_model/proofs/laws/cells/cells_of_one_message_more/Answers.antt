@@ -1,0 +1,5 @@
+use Rattle.causal_model.proofs.SettledMarks.{cell_of_one_more}
+use Rattle.causal_model.proofs.laws.cells.cells_of_one_message_more.Goals as goal
+
+pub returns-clause-cell : goal.returns-clause-cell
+returns-clause-cell c = λ w h m object value t other. cell_of_one_more w h m object value t other

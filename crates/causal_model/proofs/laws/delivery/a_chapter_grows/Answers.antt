@@ -1,0 +1,5 @@
+use Rattle.causal_model.proofs.Chapters.{is_chapter-push}
+use Rattle.causal_model.proofs.laws.delivery.a_chapter_grows.Goals as goal
+
+pub returns : goal.returns
+returns c = is_chapter-push

@@ -1,0 +1,5 @@
+use Rattle.causal_model.proofs.Apart.{ids_are_apart}
+use Rattle.causal_model.proofs.laws.delivery.ids_are_apart.Goals as goal
+
+pub returns : goal.returns
+returns c = ids_are_apart

@@ -1,0 +1,11 @@
+use Rattle.causal_model.proofs.Numbered.{unstable_are_numbered, stable_is_counted, found_by_number}
+use Rattle.causal_model.proofs.laws.delivery.unstable_messages_are_numbered.Goals as goal
+
+pub returns-clause-numbered : goal.returns-clause-numbered
+returns-clause-numbered c = unstable_are_numbered
+
+pub returns-clause-counted : goal.returns-clause-counted
+returns-clause-counted c = stable_is_counted
+
+pub returns-clause-found : goal.returns-clause-found
+returns-clause-found c = found_by_number

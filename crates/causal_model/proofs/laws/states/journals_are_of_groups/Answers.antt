@@ -1,0 +1,11 @@
+use Rattle.causal_model.proofs.Journals.{receiving_replays, group_keeps_state, groups_grow}
+use Rattle.causal_model.proofs.laws.states.journals_are_of_groups.Goals as goal
+
+pub returns-clause-replays : goal.returns-clause-replays
+returns-clause-replays c = receiving_replays
+
+pub returns-clause-keeps : goal.returns-clause-keeps
+returns-clause-keeps c = group_keeps_state
+
+pub returns-clause-grow : goal.returns-clause-grow
+returns-clause-grow c = groups_grow

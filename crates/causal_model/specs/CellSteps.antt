@@ -1,0 +1,96 @@
+-- What one message more does to settled cells, step by step: what it covers goes, the entries of the log that are stable
+-- now are absorbed, and the marks of the kinds in which a remove wins are settled. The cells are this project's own
+-- profile.
+use Rattle.std.specs.Prelude.{ℕ, Bool, true, false, not, ◌&&◌, ◌||◌, ◌+ℤ◌, List, [], ◌∷◌, ◌++◌, filter, Option, Some, None, if◌then◌else◌}
+use Rattle.std.specs.List.{list_any}
+use Rattle.std.specs.Ordering.{is_eq}
+use Rattle.op_base.specs.Object.{same_object}
+use Rattle.op_base.specs.Order.{item_cmp}
+use Rattle.op_base.specs.declared.name.ObjectId.{ObjectId}
+use Rattle.op_base.specs.declared.name.Kind.{Kind}
+use Rattle.op_base.specs.declared.name.Kind.TheVariants.{AwSet, RwSet, EwFlag, DwFlag, MvReg, Counter, RCounter}
+use Rattle.op_base.specs.declared.message.Message.{Message}
+use Rattle.op_base.specs.declared.operation.Act.{Act}
+use Rattle.op_base.specs.declared.operation.Act.TheVariants.{Add, Rmv, Enable, Disable, Write}
+use Rattle.op_base.specs.declared.operation.Op.{Op}
+use Rattle.op_base.specs.declared.operation.Op.TheVariants as op
+use Rattle.op_base.specs.declared.operation.Update.{Update}
+use Rattle.op_base.specs.declared.outcome.Cell.{Cell}
+use Rattle.causal_model.specs.Acts.{acts_on, value_of, is_clear, is_enable, is_add_of}
+use Rattle.causal_model.specs.Covering.{same_value}
+use Rattle.causal_model.specs.Items.{zero_cell}
+use Rattle.causal_model.specs.Log.{is_kept, is_covered_by, kept_log}
+use Rattle.causal_model.specs.Order.{happened_before}
+use Rattle.causal_model.specs.Query.{amount_of}
+use Rattle.causal_model.specs.Stability.{stable_vector, is_stable}
+
+-- whether an act of a kind covers what is settled of a value, or of an object without one
+abbrev pub covers_value : Kind → Act → Option (List ℕ) → Bool
+covers_value AwSet act value = is_clear act || same_value (value_of act) value
+covers_value RwSet act value = is_clear act || same_value (value_of act) value
+covers_value EwFlag act value = true
+covers_value DwFlag act value = true
+covers_value MvReg act value = true
+covers_value Counter act value = false
+covers_value RCounter act value = is_clear act
+
+-- whether an operation covers what is settled of an object and a value
+abbrev pub covers_place : Op → ObjectId → Option (List ℕ) → Bool
+covers_place op.NoOp object value = false
+covers_place (op.Update u) object value = same_object u.object object && covers_value object.kind u.act value
+
+-- a cell without what an operation covers
+abbrev pub cell_uncovered : ObjectId → Option (List ℕ) → Op → Cell → Cell
+cell_uncovered object value o cell = if covers_place o object value then zero_cell else cell
+
+-- whether an act sets the on mark
+abbrev pub marks_on : Act → Bool
+marks_on (Add v) = true
+marks_on (Write v) = true
+marks_on Enable = true
+marks_on act = false
+
+-- whether an act sets the off mark
+abbrev pub marks_off : Act → Bool
+marks_off (Rmv v) = true
+marks_off Disable = true
+marks_off act = false
+
+-- a cell with the mark or the amount of an act
+abbrev pub with_act : Act → Cell → Cell
+with_act act cell = record { on = cell.on || marks_on act; off = cell.off || marks_off act; sum = cell.sum +ℤ amount_of act }
+
+-- the cell of an object and a value with an operation that was stripped from the log, where that is of them
+abbrev pub cell_with : ObjectId → Option (List ℕ) → Cell → Op → Cell
+cell_with object value cell op.NoOp = cell
+cell_with object value cell (op.Update u) = if is_eq (item_cmp u.object (value_of u.act) object value) then with_act u.act cell else cell
+
+-- the cell where a remove wins, when it is told whether an add is pending
+abbrev pub marks_settled : Bool → Cell → Cell
+marks_settled pending cell = record { on = cell.on && (not cell.off || pending); off = cell.off && pending; sum = cell.sum }
+
+-- the cell of a kind with its marks settled
+abbrev pub cell_settled : Kind → Bool → Cell → Cell
+cell_settled RwSet pending cell = marks_settled pending cell
+cell_settled DwFlag pending cell = marks_settled pending cell
+cell_settled kind pending cell = cell
+
+-- whether an act puts in what an object's value says, or turns on an object without one
+abbrev pub puts_in : Option (List ℕ) → Act → Bool
+puts_in None act = is_enable act
+puts_in (Some value) act = is_add_of value act
+
+-- the log with what a message covers gone, and the message where it is kept, before what is stable now goes
+abbrev pub pruned_log : (Update → Bool) → (Update → Update → Bool) → ℕ → ℕ → List Message → Message → List Message
+pruned_log keeps covers n me messages m =
+    filter (λ e. not (is_covered_by covers e.op m.op && happened_before e m)) (kept_log keeps covers n me messages)
+    ++ (if is_kept keeps m.op then m ∷ [] else [])
+
+-- the entries that go from the log as settled, when a message has come
+abbrev pub stripped_log : (Update → Bool) → (Update → Update → Bool) → ℕ → ℕ → List Message → Message → List Message
+stripped_log keeps covers n me messages m =
+    filter (is_stable (stable_vector n me (messages ++ m ∷ []))) (pruned_log keeps covers n me messages m)
+
+-- whether a message of a log puts in what an object's value says, or turns it on
+abbrev pub is_put_in : List Message → ObjectId → Option (List ℕ) → Bool
+is_put_in log object value = list_any (λ m. acts_on object (puts_in value) m.op) log

@@ -1,0 +1,106 @@
+-- What holds of the states that a replica can be in, and of what its calls make of them. Each statement is the contract of
+-- a function of laws/states.rt.
+use Rattle.std.specs.Prelude.{◌≡◌, ◌⊎◌, ◌↔◌, ℕ, ◌+◌, ◌*◌, ◌<◌, ◌≤◌, false, ◌==◌, List, [], ◌∷◌, ◌++◌, length, filter, IsTrue, All, AllPairs, Contains, Option, Some, None}
+use Rattle.op_base.specs.Message.{fits}
+use Rattle.op_base.specs.Valid.{is_valid}
+use Rattle.op_base.specs.declared.message.Message.{Message}
+use Rattle.op_base.specs.declared.operation.Op.{Op}
+use Rattle.op_base.specs.declared.outcome.Step.{Step}
+use Rattle.causal_model.specs.Counts.{count_of, is_deliverable, is_carried}
+use Rattle.causal_model.specs.History.{epoch_of, is_all_stable}
+use Rattle.causal_model.specs.Stability.{noop_window}
+use Rattle.causal_model.specs.Sending.{own_message}
+use Rattle.causal_model.specs.Receiving.{State, start, counted, is_old, is_again, is_far, stands_before, next_early, crook_after, step_of, state_with, steps, with_early, accepts, receiving}
+use Rattle.causal_model.specs.Journal.{with_own, regrouped, state_after, receiving_notes, IsGroup, AreGroups, notes_of}
+use Rattle.causal_model.specs.States.{AreEarly, IsState}
+use Rattle.causal_model.specs.Laws.Delivery.{HasRoom}
+use Rattle.causal_model.specs.declared.note.Note.{Note}
+
+-- the early message that is taken next, by what a state has
+abbrev pub next_of : State → Option Message
+next_of s = next_early s.history.present.n (counted s.history) s.early
+
+-- ---- the steps of receiving
+
+-- the steps of a state: none where no early message can be delivered, else the next one and then those of the state after it
+abbrev pub StepsOfNone : Type 0
+StepsOfNone = (w : ℕ) (s : State) → next_of s ≡ None → steps w s ≡ ([], s)
+
+abbrev pub StepsOfOneMore : Type 0
+StepsOfOneMore = (w : ℕ) (s : State) (m : Message) → next_of s ≡ Some m
+    → steps w s ≡ (step_of m (crook_after w s.history m) ∷ (steps w (state_with w s m)).0, (steps w (state_with w s m)).1)
+
+-- after the steps no early message can be delivered
+abbrev pub NoneIsNextAfterSteps : Type 0
+NoneIsNextAfterSteps = (w : ℕ) (s : State) → next_of (steps w s).1 ≡ None
+
+-- each step takes at least one message out of the early ones
+abbrev pub StepsTakeMessagesOut : Type 0
+StepsTakeMessagesOut = (w : ℕ) (s : State) → length (steps w s).0 + length (steps w s).1.early ≤ length s.early
+
+-- the message taken next is that of the lowest member: each other one that can be delivered is of a higher member
+abbrev pub NextIsOfTheLowest : Type 0
+NextIsOfTheLowest = (n w limit me : ℕ) (counted : List ℕ) (early : List Message) (m : Message) → AreEarly n w limit me counted early
+    → next_early n counted early ≡ Some m
+    → Contains early m × IsTrue (is_deliverable n counted m) × All (λ e. IsTrue (is_deliverable n counted e) → (e ≡ m) ⊎ (m.origin < e.origin)) early
+
+-- early messages in their one order are determined by which they are
+abbrev pub EqualSetsAreEqualLists : Type 0
+EqualSetsAreEqualLists = (xs ys : List Message) → AllPairs (λ (a b : Message). IsTrue (stands_before a b)) xs → AllPairs (λ (a b : Message). IsTrue (stands_before a b)) ys
+    → ((m : Message) → (Contains xs m ↔ Contains ys m)) → xs ≡ ys
+
+-- no member has more early messages than the two windows
+abbrev pub EarlyIsBounded : Type 0
+EarlyIsBounded = (n w limit me x : ℕ) (counted : List ℕ) (early : List Message) → AreEarly n w limit me counted early
+    → length (filter (λ m. m.origin == x) early) ≤ w + noop_window n w
+
+abbrev pub AllEarlyIsBounded : Type 0
+AllEarlyIsBounded = (n w limit me : ℕ) (counted : List ℕ) (early : List Message) → AreEarly n w limit me counted early
+    → length early ≤ n * (w + noop_window n w)
+
+-- ---- what calls keep
+
+-- a replica begins in a state
+abbrev pub StartIsState : Type 0
+StartIsState = (n w limit me : ℕ) → n ≤ 16 → me < n → IsState w limit (start n me)
+
+-- a step keeps it
+abbrev pub StepKeepsState : Type 0
+StepKeepsState = (w limit : ℕ) (s : State) (m : Message) → IsState w limit s → next_of s ≡ Some m → IsState w limit (state_with w s m)
+
+-- an accepted message keeps it
+abbrev pub AcceptKeepsState : Type 0
+AcceptKeepsState = (w limit : ℕ) (s : State) (m : Message) → IsState w limit s → IsTrue (fits s.history.present.n m) → IsTrue (is_carried limit m)
+    → is_old s.history.present.me (counted s.history) m ≡ false → is_again s.early m ≡ false
+    → is_far s.history.present.n w s.history.present.me (counted s.history) m ≡ false → IsState w limit (with_early s m)
+
+-- an own message keeps it, and makes no early message deliverable
+abbrev pub OwnKeepsState : Type 0
+OwnKeepsState = (w limit : ℕ) (s : State) (o : Op) (m : Message) → IsState w limit s
+    → m ≡ own_message s.history.present.n s.history.present.me s.history.present.messages o
+    → HasRoom s.history.present.n w s.history.present.me s.history.present.messages o → IsTrue (is_valid o)
+    → count_of s.history.present.messages s.history.present.me < limit
+    → IsState w limit (with_own s m) × (next_of s ≡ None → next_of (with_own s m) ≡ None)
+
+-- the end of an epoch keeps it
+abbrev pub RegroupKeepsState : Type 0
+RegroupKeepsState = (w limit n me : ℕ) (s : State) → IsState w limit s → n ≤ 16 → me < n → epoch_of s.history < 65535
+    → IsTrue (is_all_stable s.history.present) → IsState w limit (regrouped n me s)
+
+-- ---- journals
+
+-- what receiving notes makes of a state the state that it leaves
+abbrev pub ReceivingReplays : Type 0
+ReceivingReplays = (w limit : ℕ) (s : State) (m : Message) (made : List Step) (after : State) → IsState w limit s
+    → IsTrue (fits s.history.present.n m) → IsTrue (is_carried limit m)
+    → receiving w s m ≡ accepts made after → state_after s (receiving_notes m (accepts made after)) ≡ after
+
+-- a group keeps what a state is, and leaves no early message that can be delivered
+abbrev pub GroupKeepsState : Type 0
+GroupKeepsState = (w limit : ℕ) (s : State) (group : List Note) → IsState w limit s → next_of s ≡ None → IsGroup w limit s group
+    → IsState w limit (state_after s group) × (next_of (state_after s group) ≡ None)
+
+-- groups followed by a group are groups
+abbrev pub GroupsGrow : Type 0
+GroupsGrow = (w limit : ℕ) (s : State) (groups : List (List Note)) (group : List Note) → AreGroups w limit s groups
+    → IsGroup w limit (state_after s (notes_of groups)) group → AreGroups w limit s (groups ++ group ∷ [])
