@@ -3,7 +3,7 @@ use Rattle.std.proofs.Common.{◌≡◌, ℕ, ◌+◌, ◌<◌, ◌≤◌, Bool,
 use Rattle.std.specs.List.{list_any, slice_get}
 use Rattle.std.proofs.lemmas.Bool.{and_parts, and_from, and_left, and_right, or_left, or_right, or_from, or_cases, both_ways, eq-eqb, ne_eqb, eqb-true, lt-ltb, le-ltb, ltb-true, false_from_ne_true}
 use Rattle.std.proofs.lemmas.List.{map-append}
-use Rattle.std.proofs.lemmas.List.Elements.{All-nil, All-append, All-map, All-weaker, All-push, All-head, All-tail, All-contains, Contains-get_or, Contains-append_right, Contains-append_cases}
+use Rattle.std.proofs.lemmas.List.Elements.{All-nil, All-append, All-map, All-weaker, All-push, All-head, All-tail, All-contains, Contains-get_or}
 use Rattle.std.proofs.lemmas.List.Folds.{list_any-append, list_any_none}
 use Rattle.std.proofs.lemmas.List.Sums.{AllPass-from_list_all}
 use Rattle.std.proofs.lemmas.Option.{same_Some, slice_get_within, get_or_from_slice_get, slice_get-get_or}
@@ -16,7 +16,7 @@ use Rattle.causal_model.specs.Log.{is_covered_by, is_uncovered}
 use Rattle.causal_model.specs.Order.{happened_before, same_id}
 use Rattle.causal_model.specs.Settled.{is_uncovered_event}
 use Rattle.causal_model.proofs.Apart.{ids_are_apart}
-use Rattle.causal_model.proofs.Elements.{Contains-map, list_any-map, list_any_agree, AllPairs-append, AllPairs-map, before_is_earlier}
+use Rattle.causal_model.proofs.Elements.{list_any-map, list_any_agree, AllPairs-append, AllPairs-map, before_is_earlier}
 use Rattle.causal_model.proofs.Logs.{either_fails, last_is_uncovered}
 use Rattle.causal_model.proofs.Orders.{never_before_itself, order_goes_forward, order_is_transitive}
 
@@ -198,14 +198,3 @@ uncovered_events_of_one_more w h m t =
     ) where
       is_uncovered_by : Event → List Event → Bool
       is_uncovered_by e es = is_uncovered_event es e
-
--- a message of the present epoch is an event, and an event is one of an earlier epoch or such a message
-pub present_is_there : (h : History) (m : Message) → Contains h.present.messages m → Contains (events h) (present_event h m)
-present_is_there h m has = Contains-append_right (events_from 0 h.past) (events_in (epoch_of h) h.present.messages) (present_event h m) (Contains-map (event_of (epoch_of h)) h.present.messages m has)
-
-pub event_cases : (h : History) (e : Event) → Contains (events h) e → ((e.epoch < epoch_of h) × Contains (events_from 0 h.past) e) ⊎ ((e.epoch ≡ epoch_of h) × Contains h.present.messages e.message)
-event_cases h e has = elim (Contains-append_cases (events_from 0 h.past) (events_in (epoch_of h) h.present.messages) e has) [
-  | inl past ↦ inl ((let between = All-contains (λ e. (0 ≤ e.epoch) × (e.epoch < 0 + epoch_of h)) (events_from 0 h.past) e (epochs_are_between 0 h.past) past in omega (arith, between.1)), past)
-  | inr present ↦ inr (All-contains (λ e. (e.epoch ≡ epoch_of h) × Contains h.present.messages e.message) (events_in (epoch_of h) h.present.messages) e
-      (All-map (λ e. (e.epoch ≡ epoch_of h) × Contains h.present.messages e.message) (event_of (epoch_of h)) h.present.messages (λ i d l. (refl, Contains-get_or h.present.messages i d l))) present)
-]
