@@ -33,7 +33,7 @@ impl Model for Tag {
 }
 
 /// The id of a message: its origin and its number. It is printed `origin:number`.
-#[derive(Clone, Copy, Debug, PartialEq, Eq, PartialOrd, Ord, Hash)]
+#[derive(Clone, Copy, Debug, PartialEq, Eq, Hash)]
 pub struct MessageId {
     /// The member that sent it.
     pub origin: u8,
