@@ -47,3 +47,4 @@ pub mod SameEvents
 pub mod Parts
 pub mod PartsOfKinds
 pub mod PartsOfSums
+pub mod EventsOfOneMore

@@ -1,15 +1,18 @@
 -- What holds of the events of a history and of their order, and of the queries that are asked of them. Each statement is
 -- the contract of a function of laws/events.rt.
-use Rattle.std.specs.Prelude.{◌≡◌, ◌⊎◌, ◌↔◌, ℕ, ◌*◌, ◌<◌, ◌≤◌, Bool, true, false, not, ◌&&◌, ◌==◌, List, [], ◌∷◌, ◌++◌, length, slice_get, filter, IsTrue, AllPairs, Contains, Option, Some}
+use Rattle.std.specs.Prelude.{◌≡◌, ◌⊎◌, ◌↔◌, ℕ, ◌*◌, ◌<◌, ◌≤◌, Bool, true, false, not, ◌&&◌, ◌||◌, ◌==◌, ◌+ℤ◌, if◌then◌else◌, List, [], ◌∷◌, ◌++◌, length, slice_get, filter, IsTrue, AllPairs, Contains, Option, Some}
+use Rattle.std.specs.List.{list_any}
 use Rattle.op_base.specs.declared.message.Message.{Message}
 use Rattle.op_base.specs.declared.name.ObjectId.{ObjectId}
 use Rattle.op_base.specs.declared.name.Kind.TheVariants.{RCounter}
+use Rattle.op_base.specs.declared.operation.Act.{Act}
+use Rattle.causal_model.specs.Acts.{is_clear}
 use Rattle.causal_model.specs.Covering.{store_covers}
 use Rattle.causal_model.specs.Log.{is_covered_by, is_uncovered}
 use Rattle.causal_model.specs.Order.{same_id, is_followed}
 use Rattle.causal_model.specs.History.{History, Event, events, epoch_of, with_message, is_before, is_history, is_limited}
-use Rattle.causal_model.specs.Query.{is_live, rcounter_sum, counter_sum, answer}
-use Rattle.causal_model.specs.Settled.{is_uncovered_event}
+use Rattle.causal_model.specs.Query.{is_act_on, is_live, share_of, rcounter_sum, counter_sum, answer}
+use Rattle.causal_model.specs.Settled.{is_stable_event, is_uncovered_event, has_settled, has_pending}
 use Rattle.causal_model.specs.Parts.{has, has_by_uncovered, uncovered_answer}
 
 -- the event of a message in the present epoch
@@ -92,6 +95,33 @@ abbrev pub UncoveredEventsOfOneMore : Type 0
 UncoveredEventsOfOneMore = (w : ℕ) (h : History) (m : Message) → IsTrue (is_history w (with_message h m))
     → ((e : Event) → is_uncovered_event (events (with_message h m)) e ≡ (is_uncovered_event (events h) e && not (is_covered_by store_covers e.message.op m.op && is_before e (present_event h m))))
     × (is_uncovered_event (events (with_message h m)) (present_event h m) ≡ true)
+
+-- A settled event that does such an act: one of before that is stable now, was uncovered and isn't covered by the new one,
+-- or the new one where that is stable at once.
+abbrev pub SettledOfOneMore : Type 0
+SettledOfOneMore = (w : ℕ) (h : History) (m : Message) (object : ObjectId) (passes : Act → Bool) → IsTrue (is_history w (with_message h m))
+    → has_settled (with_message h m) object passes
+    ≡ (list_any (λ e. is_act_on object passes e && (is_stable_event (with_message h m) e && (is_uncovered_event (events h) e && not (is_covered_by store_covers e.message.op m.op && is_before e (present_event h m))))) (events h)
+    || (is_act_on object passes (present_event h m) && is_stable_event (with_message h m) (present_event h m)))
+
+-- a pending event that does such an act: the same of those that aren't stable now
+abbrev pub PendingOfOneMore : Type 0
+PendingOfOneMore = (w : ℕ) (h : History) (m : Message) (object : ObjectId) (passes : Act → Bool) → IsTrue (is_history w (with_message h m))
+    → has_pending (with_message h m) object passes
+    ≡ (list_any (λ e. is_act_on object passes e && (not (is_stable_event (with_message h m) e) && (is_uncovered_event (events h) e && not (is_covered_by store_covers e.message.op m.op && is_before e (present_event h m))))) (events h)
+    || (is_act_on object passes (present_event h m) && not (is_stable_event (with_message h m) (present_event h m))))
+
+-- a counter: the message's share is added
+abbrev pub CounterOfOneMore : Type 0
+CounterOfOneMore = (object : ObjectId) (h : History) (m : Message) → counter_sum object (events (with_message h m)) ≡ counter_sum object (events h) +ℤ share_of object m.op
+
+-- a counter that can be cleared: a clear of it leaves the live events that the clear has not seen, and of any other message
+-- the share is added
+abbrev pub RCounterOfOneMore : Type 0
+RCounterOfOneMore = (w : ℕ) (object : ObjectId) (h : History) (m : Message) → IsTrue (is_history w (with_message h m))
+    → rcounter_sum object (events (with_message h m))
+    ≡ (if is_act_on object is_clear (present_event h m) then counter_sum object (filter (λ e. not (is_before e (present_event h m))) (filter (is_live object (events h)) (events h)))
+    else rcounter_sum object (events h) +ℤ share_of object m.op)
 
 -- a message of the present epoch is covered by events exactly where it is by messages of the epoch
 abbrev pub PresentIsCoveredInPresent : Type 0

@@ -1,6 +1,6 @@
 //! Laws of the events of a history, of their order, and of the queries that are asked of them.
 
-ghost use Rattle.causal_model.specs.Laws.Events.{EventNeverBeforeItself, EventsAreTransitive, EventsAreAsymmetric, EventsGoForward, EventsAreApart, SomeIsMaximal, LiveGoesUp, SameEventsAnswerAlike, HasByUncovered, RCounterByUncovered, AnswersAreOfUncovered, EventsOfOneMore, UncoveredEventsOfOneMore, PresentIsCoveredInPresent, PastIsBeforePresent, HistoryIsBounded};
+ghost use Rattle.causal_model.specs.Laws.Events.{EventNeverBeforeItself, EventsAreTransitive, EventsAreAsymmetric, EventsGoForward, EventsAreApart, SomeIsMaximal, LiveGoesUp, SameEventsAnswerAlike, HasByUncovered, RCounterByUncovered, AnswersAreOfUncovered, EventsOfOneMore, UncoveredEventsOfOneMore, SettledOfOneMore, PendingOfOneMore, CounterOfOneMore, RCounterOfOneMore, PresentIsCoveredInPresent, PastIsBeforePresent, HistoryIsBounded};
 
 /// The order of events is strict, transitive and forward in every history, and no two events are of one epoch and id.
 pub fn events_are_ordered()
@@ -31,9 +31,13 @@ pub fn answers_are_of_uncovered_events()
     ensures answer { AnswersAreOfUncovered }
 {}
 
-/// What one message more makes of the events and of those that are uncovered.
+/// What one message more makes of the events, of those that are uncovered, settled or pending, and of counters.
 pub fn one_event_more()
     ensures events { EventsOfOneMore }
     ensures uncovered { UncoveredEventsOfOneMore }
+    ensures settled { SettledOfOneMore }
+    ensures pending { PendingOfOneMore }
+    ensures counter { CounterOfOneMore }
+    ensures rcounter { RCounterOfOneMore }
     ensures present { PresentIsCoveredInPresent }
 {}
