@@ -7,7 +7,7 @@ use std::process::exit;
 const LIMIT: u32 = 1_000_000;
 const EPOCH: u32 = 0;
 
-#[derive(Clone)]
+#[derive(Clone, PartialEq)]
 struct Key {
     len: u8,
     bytes: [u8; 32],
@@ -31,7 +31,7 @@ impl Key {
     }
 }
 
-#[derive(Clone)]
+#[derive(Clone, PartialEq)]
 struct Value(Vec<u8>);
 
 impl Value {
@@ -57,7 +57,7 @@ enum Kind {
     RCounter,
 }
 
-#[derive(Clone)]
+#[derive(Clone, PartialEq)]
 enum Act {
     Add(Value),
     Rmv(Value),
@@ -69,20 +69,20 @@ enum Act {
     Dec(u32),
 }
 
-#[derive(Clone)]
+#[derive(Clone, PartialEq)]
 struct Update {
     kind: Kind,
     key: Key,
     act: Act,
 }
 
-#[derive(Clone)]
+#[derive(Clone, PartialEq)]
 enum Op {
     NoOp,
     Update(Update),
 }
 
-#[derive(Clone)]
+#[derive(Clone, PartialEq)]
 struct Message {
     origin: u8,
     n: u8,
@@ -293,16 +293,20 @@ fn main() {
         }
         "decode" => {
             let frame = encode(&message, n, EPOCH);
+            let mut last = decode(&frame, n, EPOCH, LIMIT).expect("a frame");
             for _ in 0..number(count) {
-                let message = decode(&frame, n, EPOCH, LIMIT).expect("a frame");
-                assert!(message.n == n && message.origin < n);
+                last = decode(&frame, n, EPOCH, LIMIT).expect("a frame");
                 bytes += frame.len() as u64;
             }
+            assert!(last == message);
         }
         "copy" => {
+            let mut last = message.clone();
             for _ in 0..number(count) {
-                bytes += value_len(&message.clone());
+                last = message.clone();
+                bytes += value_len(&last);
             }
+            assert!(last == message);
         }
         _ => exit(2),
     }
