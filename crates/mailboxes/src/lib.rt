@@ -1,0 +1,16 @@
+//! Bounded mailboxes that threads share, each a queue of items, whose passes tell who posted what.
+//!
+//! The queue is that of `crossbeam_queue`, under a rule of this crate's: there is one list of the items that were ever
+//! posted, each with the number of the pass that posted it, and the queue holds the items of that list from the number
+//! that were taken on.
+#![tactic(auto)]
+
+mod mailbox;
+mod rule;
+mod seen;
+
+pub use mailbox::{MailPass, Mailbox};
+pub use seen::{Line, Posted, Seen};
+
+#[cfg(test)]
+mod tests;
