@@ -1,5 +1,5 @@
 -- Each step keeps the mailbox's rule, and tells what it says.
-use Rattle.std.proofs.Common.{◌≡◌, ◌≢◌, ℕ, zero, suc, ◌+◌, ◌<◌, ◌≤◌, ◌⊎◌, ⊎_elim, Bool, true, false, cond, eqb, eq-eqb, ne_eqb, List, [], ◌∷◌, ◌++◌, length, drop, map, max, set, sym, refl, ap, ◌∙◌, subst, inl, inr, length-append, length-drop, get_or, arith, Some}
+use Rattle.std.proofs.Common.{◌≡◌, ◌≢◌, ℕ, zero, suc, ◌+◌, ◌<◌, ◌≤◌, ◌⊎◌, ⊎_elim, Bool, true, false, cond, eqb, eq-eqb, ne_eqb, List, [], ◌∷◌, ◌++◌, length, drop, map, set, sym, refl, ap, ◌∙◌, subst, inl, inr, length-append, length-drop, get_or, arith, Some}
 use mathlib.Core.Logic.{dite}
 use mathlib.Core.Option.{some, some-injective, some-ne-none}
 use native.Mathlib.Decide.{ℕ_discrete}
@@ -9,12 +9,12 @@ use Rattle.std.proofs.lemmas.List.{map-append, drop-append-le, length-map}
 use Rattle.std.proofs.lemmas.List.Elements.{All-nil, All-cons, All-append, All-push, All-map, All-weaker}
 use Rattle.std.specs.Prelude.{All, Contains, slice_get, MatchResult, Result, Ok, Err}
 use Rattle.crossbeam_queue.specs.Fifo.{Pushes, Pops, Forks, Merges, Learns}
-use Rattle.crossbeam_queue.proofs.Lists.{set_else, at_longer, at_last}
+use Rattle.crossbeam_queue.proofs.Lists.{set_else, at_longer}
 use Rattle.mailboxes.specs.declared.seen.Line.{Line}
 use Rattle.mailboxes.specs.declared.seen.Posted.{Posted}
 use Rattle.mailboxes.specs.declared.seen.Seen.{Seen}
 use Rattle.mailboxes.specs.declared.seen.View.{View}
-use Rattle.mailboxes.specs.Seen.{posted, line, items_of, items_by, numbers, enrolled, BeginsWith, longer, forked, newcomer, joined, HasItsLine, IsExact, IsNumbered, KnowsAll, Posts, Takes}
+use Rattle.mailboxes.specs.Seen.{posted, line, items_of, items_by, numbers, enrolled, BeginsWith, longer, HasItsLine, KnowsAll}
 use Rattle.mailboxes.specs.Rule.{first_view, forking, newcomer_view, joining, spent, Enrolled, Fits, SomePass, Kept, Sound, Posting, Taking, Joined, Holds}
 use Rattle.mailboxes.proofs.Fronts.{begins_itself, begins_along, begins_both, longer_front, longer_left, longer_right}
 use Rattle.mailboxes.proofs.Places.{set_at, all_set, snoc_at}
@@ -61,7 +61,7 @@ module _ {T : Type 0} where
       → (F v.seen → HasItsLine w.seen × G w.seen) → ((s : Seen T) → F s → G s) → SomePass views F → SomePass (set views me w) G
   some_set F G views me v w at mine others t = dite (ℕ_discrete t.0 me)
       (λ is. let same : t.1 ≡ v = some-injective t.1 v (sym t.2 ∙ (ap (λ i. get_elem? views i) is ∙ at)) in
-        let g = mine (subst (λ (y : View T). F y.seen) same t.4) in (me, w, set_at views me v w at, g.0, g.1))
+      let g = mine (subst (λ (y : View T). F y.seen) same t.4) in (me, w, set_at views me v w at, g.0, g.1))
       (λ ne. (t.0, t.1, set_else views me t.0 w ne ∙ t.2, t.3, others t.1.seen t.4))
 
   pub begins : Kept {T = T} [] (first_view ∷ [])
@@ -130,7 +130,7 @@ module _ {T : Type 0} where
         below = old.below;
         roll = All-map E (λ (l : Line T). cond (eqb l.by k) (line k (l.items ++ x ∷ [])) l) v.seen.roll
             (All-weaker (Enrolled r.list v.seen.posted r.forks r.seat pass) (λ (l : Line T). E (cond (eqb l.by k) (line k (l.items ++ x ∷ [])) l))
-                (λ l e. line_posts r.list v.seen.posted r.forks r.seat pass k x l (eqb l.by k) refl e) v.seen.roll old.roll);
+            (λ l e. line_posts r.list v.seen.posted r.forks r.seat pass k x l (eqb l.by k) refl e) v.seen.roll old.roll);
         first = old.first;
       } in
       let inside = r.inside in (
@@ -219,8 +219,8 @@ module _ {T : Type 0} where
       let low : All (λ p. p.by ≤ n) r.list = All-weaker (λ (p : Posted T). p.by ≤ r.forks) (λ (p : Posted T). p.by ≤ n) (λ p le. omega arith) r.list r.numbered in
       let seen_low : All (λ p. p.by ≤ r.forks) v.seen.posted = All-front (λ (p : Posted T). p.by ≤ r.forks) v.seen.posted old.begins.0 (subst (All (λ (p : Posted T). p.by ≤ r.forks)) old.begins.1 r.numbered) in
       let lines : (j : ℕ) (u : View T) → Fits r.list r.taken r.forks r.seat j u → All (Enrolled r.list u.seen.posted n seat j) u.seen.roll
-          = λ j u f. All-weaker (Enrolled r.list u.seen.posted r.forks r.seat j) (Enrolled r.list u.seen.posted n seat j)
-            (λ l e. let le = e.numbered in record { numbered = omega arith; seated = same l.by le ∙ e.seated; whole = e.whole; exact = e.exact }) u.seen.roll f.roll in
+      = λ j u f. All-weaker (Enrolled r.list u.seen.posted r.forks r.seat j) (Enrolled r.list u.seen.posted n seat j)
+      (λ l e. let le = e.numbered in record { numbered = omega arith; seated = same l.by le ∙ e.seated; whole = e.whole; exact = e.exact }) u.seen.roll f.roll in
       let first_seat : seat 0 ≡ r.seat 0 = same 0 (omega arith) in
       let F : ℕ → View T → Type 0 = Fits r.list r.taken n seat in
       let here : F pass w = record { begins = old.begins; mine = old.mine; theirs = old.theirs; below = old.below; roll = lines pass v old; first = λ _. (refl, first_seat ∙ count.1) } in
@@ -306,11 +306,11 @@ module _ {T : Type 0} where
       let has : HasItsLine w.seen = first-append v.seen.roll u.seen.roll v.seen.number own in
       let there : get_elem? (set vs other spent) pass ≡ some w = set_else vs other pass spent apart ∙ set_at views pass v w at in
       let some_join : (G : Seen T → Type 0) → (G v.seen ⊎ G u.seen → G w.seen) → SomePass views G → SomePass (set vs other spent) G = λ G to t.
-          dite (ℕ_discrete t.0 pass)
-          (λ is. (pass, w, there, has, to (inl (subst (λ (y : View T). G y.seen) (some-injective t.1 v (sym t.2 ∙ (ap (λ i. get_elem? views i) is ∙ at))) t.4))))
-          (λ not_me. dite (ℕ_discrete t.0 other)
-          (λ is. (pass, w, there, has, to (inr (subst (λ (y : View T). G y.seen) (some-injective t.1 u (sym t.2 ∙ (ap (λ i. get_elem? views i) is ∙ was))) t.4))))
-          (λ not_it. (t.0, t.1, set_else vs other t.0 spent not_it ∙ (set_else views pass t.0 w not_me ∙ t.2), t.3, t.4))) in
+      dite (ℕ_discrete t.0 pass)
+      (λ is. (pass, w, there, has, to (inl (subst (λ (y : View T). G y.seen) (some-injective t.1 v (sym t.2 ∙ (ap (λ i. get_elem? views i) is ∙ at))) t.4))))
+      (λ not_me. dite (ℕ_discrete t.0 other)
+      (λ is. (pass, w, there, has, to (inr (subst (λ (y : View T). G y.seen) (some-injective t.1 u (sym t.2 ∙ (ap (λ i. get_elem? views i) is ∙ was))) t.4))))
+      (λ not_it. (t.0, t.1, set_else vs other t.0 spent not_it ∙ (set_else views pass t.0 w not_me ∙ t.2), t.3, t.4))) in
       record {
         list = r.list;
         taken = r.taken;

@@ -44,10 +44,7 @@ impl<T> Mailbox<T> {
     ghost use Rattle.mailboxes.specs.Passes.{seen, IsOf, IsOfTheSame, capacity_of};
 
     /// An empty mailbox for `capacity` items, with its first pass.
-    pub fn create(
-        alloc: Global,
-        capacity: usize,
-    ) -> Result<(Mailbox<T>, MailPass<T>), NoMemory>
+    pub fn create(alloc: Global, capacity: usize) -> Result<(Mailbox<T>, MailPass<T>), NoMemory>
         requires some { 1 ≤ capacity }
         requires few { capacity ≤ 65536 }
         ensures capacity { IfOk result (λ r. capacity_of r.0 ≡ capacity) }

@@ -1,4 +1,4 @@
-use Rattle.std.proofs.Common.{◌≡◌, refl, sym, ap, subst}
+use Rattle.std.proofs.Common.{refl, sym, ap, subst}
 use Rattle.crossbeam_queue.specs.Passes.{view}
 use Rattle.mailboxes.specs.Seen.{HasItsLine, IsExact, IsNumbered}
 use Rattle.mailboxes.specs.declared.seen.View.{View}

@@ -1,4 +1,4 @@
-use Rattle.std.proofs.Common.{◌≡◌, sym, ap, subst, ◌∙◌}
+use Rattle.std.proofs.Common.{sym, ap, subst, ◌∙◌}
 use Rattle.mailboxes.specs.Seen.{HasItsLine, IsExact, IsNumbered}
 use Rattle.mailboxes.specs.declared.seen.View.{View}
 use Rattle.mailboxes.proofs.Keeps.{joins, tells}
