@@ -7,7 +7,7 @@ use lib.ListN.{get_elem?}
 use Rattle.std.proofs.lemmas.Bool.Decides.{nat_tests}
 use Rattle.std.proofs.lemmas.List.{map-append, drop-append-le, length-map}
 use Rattle.std.proofs.lemmas.List.Elements.{All-nil, All-cons, All-append, All-push, All-map, All-weaker}
-use Rattle.std.specs.Prelude.{All, Contains, slice_get, MatchResult, Result, Ok, Err}
+use Rattle.std.specs.Prelude.{All, Contains, slice_get, MatchOption, MatchResult, Option, None, Result, Ok, Err}
 use Rattle.crossbeam_queue.specs.Fifo.{Pushes, Pops, Forks, Merges, Learns}
 use Rattle.crossbeam_queue.proofs.Lists.{set_else, at_longer}
 use Rattle.mailboxes.specs.declared.seen.Line.{Line}
@@ -343,3 +343,18 @@ module _ {T : Type 0} where
   pub stays_sound : (v w : View T) (x : T) (full : Type 0) (r : Result (Unit {0}) T) → Sound v.seen → MatchResult r (λ _. Posting v x w) (λ y. (y ≡ x) × (w ≡ v) × full) → Sound w.seen
   stays_sound v w x full (Ok done) before h = h.1
   stays_sound v w x full (Err y) before h = subst (λ (u : View T). Sound u.seen) (sym h.1) before
+
+  -- whatever comes of a post, the list begins with what it was
+  pub posts_grow : (v w : View T) (x : T) (full : Type 0) (r : Result (Unit {0}) T) → MatchResult r (λ _. Posting v x w) (λ y. (y ≡ x) × (w ≡ v) × full) → BeginsWith w.seen.posted v.seen.posted
+  posts_grow v w x full (Ok done) h =
+      let p = h.0 in
+      subst (λ (s : Seen T). BeginsWith s.posted v.seen.posted) (sym p.becomes) (begins_along (p.before ++ posted v.seen.number x ∷ []) p.before v.seen.posted (posted v.seen.number x ∷ [], refl) p.begins)
+  posts_grow v w x full (Err y) h = subst (λ (u : View T). BeginsWith u.seen.posted v.seen.posted) (sym h.1) (begins_itself v.seen.posted)
+
+  -- the same of a take, and the number doesn't fall
+  pub takes_grow : (v w : View T) (empty : Type 0) (r : Option T) → MatchOption r ((w ≡ v) × empty) (λ x. Taking v x w) → BeginsWith w.seen.posted v.seen.posted × (v.seen.taken ≤ w.seen.taken)
+  takes_grow v w empty None h = subst (λ (u : View T). BeginsWith u.seen.posted v.seen.posted × (v.seen.taken ≤ u.seen.taken)) (sym h.0) (begins_itself v.seen.posted, omega arith)
+  takes_grow v w empty (Some x) h =
+      let t = h.0 in
+      let later = t.later in
+      subst (λ (s : Seen T). BeginsWith s.posted v.seen.posted × (v.seen.taken ≤ s.taken)) (sym t.becomes) (t.begins, omega arith)

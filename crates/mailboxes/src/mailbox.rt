@@ -80,6 +80,7 @@ impl<T> Mailbox<T> {
     pub fn post<R: Wait>(&self, rt: &R, pass: &mut MailPass<T>, item: T) -> Result<(), T>
         requires of { IsOf self.now pass.old }
         ensures of { IsOfTheSame pass.old pass.new }
+        ensures grows { BeginsWith (seen pass.new).posted (seen pass.old).posted }
         ensures posted { OnOk result (Posts (seen pass.old) item (seen pass.new)) }
         ensures back { IfErr result (λ x. x ≡ item) }
         ensures kept { OnErr result (seen pass.new ≡ seen pass.old) }
@@ -93,6 +94,8 @@ impl<T> Mailbox<T> {
     pub fn take<R: Wait>(&self, rt: &R, pass: &mut MailPass<T>) -> Option<T>
         requires of { IsOf self.now pass.old }
         ensures of { IsOfTheSame pass.old pass.new }
+        ensures grows { BeginsWith (seen pass.new).posted (seen pass.old).posted }
+        ensures rises { (seen pass.old).taken ≤ (seen pass.new).taken }
         ensures taken { IfSome result (λ x. Takes (seen pass.old) x (seen pass.new)) }
         ensures kept { IfNone result (seen pass.new ≡ seen pass.old) }
         ensures empty { IfNone result (KnowsAll (seen pass.old) → length (seen pass.old).posted ≡ (seen pass.old).taken) }

@@ -1,5 +1,5 @@
 //! What no clause says: that calls succeed, in what order items come, and that threads lose nothing.
-ghost use Rattle.std.specs.Prelude.{◌≡◌, ◌≢◌, ◌<◌, ◌≤◌, ℕ, IfOk, vec_len, slice_index_or};
+ghost use Rattle.std.specs.Prelude.{◌≡◌, ◌≢◌, ◌<◌, ◌≤◌, ℕ, IfOk, length, vec_len, slice_index_or};
 ghost use Rattle.mailboxes.specs.Passes.{seen, IsOf};
 
 use super::*;
@@ -27,6 +27,30 @@ fn a_mailbox_is_a_queue_whose_passes_are_counted(rt: HostRuntime) -> Result<(), 
     assert_eq!(rt; first.forks(), 2);
     assert_eq!(rt; mailbox.take(&rt, &mut first), Some('b'));
     assert_eq!(rt; mailbox.take(&rt, &mut first), None);
+    Ok(())
+}
+
+/// Posts by a pass of a list.
+fn post_by<R: Wait>(
+    rt: &R,
+    mailbox: &Mailbox<u32>,
+    passes: &mut [MailPass<u32>],
+    at: usize,
+    item: u32,
+) -> Result<(), u32>
+    requires within { at < length passes.old }
+    requires of { (d : _) → IsOf mailbox.now (slice_index_or passes.old at d) }
+{
+    mailbox.post(rt, &mut passes[at], item)
+}
+
+#[test]
+fn passes_lie_in_a_list_and_are_lent(rt: HostRuntime) -> Result<(), Fail> {
+    let (mailbox, mut first) = Mailbox::create(rt.alloc(), 1)?;
+    let mut passes = Vec::new(rt.alloc());
+    passes.push(mailbox.fork(&mut first)?)?;
+    assert_eq!(rt; post_by(&rt, &mailbox, passes.as_mut_slice(), 0, 7), Ok(()));
+    assert_eq!(rt; mailbox.take(&rt, &mut first), Some(7));
     Ok(())
 }
 

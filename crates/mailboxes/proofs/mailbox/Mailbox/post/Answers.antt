@@ -1,6 +1,6 @@
 use Rattle.crossbeam_queue.specs.Passes.{view}
 use Rattle.mailboxes.specs.Rule.{Sound}
-use Rattle.mailboxes.proofs.Keeps.{posts, counts, stays_sound}
+use Rattle.mailboxes.proofs.Keeps.{posts, counts, stays_sound, posts_grow}
 use Rattle.mailboxes.proofs.mailbox.Mailbox.post.Given.{Over}
 use Rattle.mailboxes.proofs.mailbox.Mailbox.post.Goals as goal
 
@@ -18,3 +18,6 @@ invariant_of-pass-clause-exact g c = (after g c).exact
 
 pub invariant_of-pass-clause-numbered : goal.invariant_of-pass-clause-numbered
 invariant_of-pass-clause-numbered g c = (after g c).numbered
+
+pub returns-clause-grows : goal.returns-clause-grows
+returns-clause-grows g c = posts_grow _ _ _ _ _ c.push_as.ensures.rule
