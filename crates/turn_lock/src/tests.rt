@@ -1,0 +1,152 @@
+//! What no clause says: that turns come, in threads too, and that the gate is passed where it
+//! should be. The value under the lock is a sum, and a turn records what it adds.
+
+ghost use Rattle.std.specs.Prelude.{◌≡◌, false};
+ghost use Rattle.turn_lock.specs.Turns.{LockState, PassState};
+
+use crate::{Opener, Pass, Story, TurnLock, Visit};
+use op_base::NoMemory;
+use std::sync::Wait;
+use std::sync::atomic::{AtomicU64, Ordering};
+use std::test::Fail;
+use std::thread;
+use store_io::{Gate, OpenGate};
+
+/// The sum is that of what the turns added.
+struct Sums;
+
+impl Story<u64, u64, ()> for Sums {
+    ghost use Rattle.std.specs.Prelude.{◌≡◌, ◌∷◌, [], sum_by};
+    ghost use Rattle.std.proofs.Common.{arith};
+    ghost use Rattle.std.proofs.lemmas.List.Sums.{sum_by-append};
+    ghost use Rattle.turn_lock.specs.Turns.{turn};
+
+    ghost fits = { λ _ turns x. x ≡ sum_by (λ t. t.what) turns };
+
+    ghost shows = { λ key turns by a b x p q. Prim.omega (arith, p, q, sum_by-append (λ t. t.what) turns (turn by a ∷ []), sum_by-append (λ t. t.what) turns (turn by b ∷ [])) };
+
+    ghost any_key = { tt };
+}
+
+type SumLock = TurnLock<u64, u64, (), Sums>;
+
+type SumPass = Pass<u64, u64, ()>;
+
+/// A turn that adds where the sum has room, and else records nothing. The sum then.
+fn add<R: Wait, G: Gate>(
+    rt: &R,
+    lock: &SumLock,
+    pass: &mut SumPass,
+    visit: &Visit<'_, G>,
+    x: u64,
+) -> u64
+    requires lock { pass.old.lock ≡ lock.now }
+    requires idle { pass.old.in_turn ≡ false }
+    ensures lock { pass.new.lock ≡ lock.now }
+    ensures idle { pass.new.in_turn ≡ false }
+{
+    let sum = lock.enter(rt, pass, visit);
+    match sum.checked_add(x) {
+        Some(more) => {
+            lock.act(pass, more);
+            more
+        }
+        None => {
+            lock.leave(pass, sum);
+            sum
+        }
+    }
+}
+
+/// So many turns of one thread, each of which adds the number.
+fn add_often<R: Wait>(rt: &R, lock: &SumLock, mut pass: SumPass, x: u64, turns: u32) -> SumPass
+    requires lock { pass.lock ≡ lock.now }
+    requires idle { pass.in_turn ≡ false }
+    ensures lock { result.lock ≡ lock.now }
+    ensures idle { result.in_turn ≡ false }
+{
+    for call in 0..turns {
+        let visit = Visit {
+            gate: &OpenGate,
+            worker: 0,
+            call,
+        };
+        add(rt, lock, &mut pass, &visit, x);
+    }
+    pass
+}
+
+#[test]
+fn two_threads_take_a_hundred_turns_each(rt: HostRuntime) -> Result<(), Fail> {
+    let (lock, mut opener) = SumLock::create(rt.alloc(), 0, &())?;
+    let first = lock.split(&mut opener);
+    let second = lock.split(&mut opener);
+    let (first, second) = thread::join(
+        &rt,
+        || add_often(&rt, &lock, first, 1, 100),
+        || add_often(&rt, &lock, second, 1000, 100),
+    );
+    lock.join(&mut opener, first);
+    lock.join(&mut opener, second);
+    assert_eq!(rt; opener.out(), 0);
+    assert_eq!(rt; lock.close(opener), 100_100);
+    Ok(())
+}
+
+/// A gate that counts the calls that pass it, and adds up their numbers.
+#[derive(Drop)]
+struct CountingGate {
+    before: AtomicU64,
+    inside: AtomicU64,
+}
+
+impl Gate for CountingGate {
+    fn before(&self, worker: u32, call: u32) {
+        self.before
+            .fetch_add(number_of(worker, call), Ordering::SeqCst);
+    }
+
+    fn inside(&self, worker: u32, call: u32) {
+        self.inside
+            .fetch_add(number_of(worker, call), Ordering::SeqCst);
+    }
+}
+
+/// One number of a worker below 10 and a call below 10.
+fn number_of(worker: u32, call: u32) -> u64 {
+    1000 + u64::from(worker) * 10 + u64::from(call)
+}
+
+#[test]
+fn one_thread_has_two_passes_and_makes_each_call(rt: HostRuntime) -> Result<(), Fail> {
+    let gate = CountingGate {
+        before: AtomicU64::new(0),
+        inside: AtomicU64::new(0),
+    };
+    let (lock, mut opener) = SumLock::create(rt.alloc(), 0, &())?;
+    assert_eq!(rt; opener.out(), 0);
+    let mut first = lock.split(&mut opener);
+    let mut second = lock.split(&mut opener);
+    assert_eq!(rt; opener.out(), 2);
+    let visit = Visit {
+        gate: &gate,
+        worker: 1,
+        call: 3,
+    };
+    assert_eq!(rt; add(&rt, &lock, &mut first, &visit, 5), 5);
+    let visit = Visit {
+        gate: &gate,
+        worker: 2,
+        call: 4,
+    };
+    assert_eq!(rt; add(&rt, &lock, &mut second, &visit, u64::MAX), 5);
+    assert_eq!(rt; add(&rt, &lock, &mut second, &visit, 2), 7);
+    lock.join(&mut opener, first);
+    assert_eq!(rt; opener.out(), 1);
+    lock.join(&mut opener, second);
+    assert_eq!(rt; opener.out(), 0);
+    assert_eq!(rt; lock.close(opener), 7);
+    assert_eq!(rt; gate.before.into_inner(), 3061);
+    assert_eq!(rt; gate.inside.into_inner(), 3061);
+    Ok(())
+}
