@@ -1,6 +1,8 @@
 -- Lists of turns: those of one number, and fronts of a list.
-use Rattle.std.proofs.Common.{◌≡◌, ◌≢◌, ◌⊎◌, ℕ, suc, ◌<◌, ◌≤◌, Bool, true, false, cond, eqb, eq-eqb, ne_eqb, List, [], ◌∷◌, ◌++◌, length, sym, refl, ap, ◌∙◌, ⊎_elim, arith, nat_lt}
+use Rattle.std.proofs.Common.{◌≡◌, ◌≢◌, ◌⊎◌, ℕ, suc, ◌<◌, ◌≤◌, Bool, true, false, cond, eqb, eq-eqb, ne_eqb, List, [], ◌∷◌, ◌++◌, length, sym, refl, ap, ◌∙◌, ⊎_elim, arith, nat_lt, append_assoc, subst}
 use Rattle.std.proofs.lemmas.Bool.Decides.{nat_tests}
+use Rattle.std.specs.List.Sorted.{IsPermutation}
+use Rattle.std.proofs.lemmas.List.Sorted.{IsPermutation-refl, IsPermutation-sym, IsPermutation-trans, IsPermutation-cons, IsPermutation-middle}
 use Rattle.turn_lock.specs.declared.view.TurnEntry.{TurnEntry}
 use Rattle.turn_lock.specs.Turns.{StartsWith, longer, turn, turns_of}
 
@@ -67,3 +69,65 @@ module _ {E : Type 0} where
           ⊎_elim (λ e. let n : length a ≡ length log = ap length e in let y = prefix_le log b q in absurd (omega arith)) (λ e. e) t
       pick false is = let ge : length b ≤ length a = grind (arith, nat_tests) in
           ⊎_elim (λ e. e) (λ e. let n : length b ≡ length log = ap length e in prefix_whole log a p (omega arith)) t
+
+  -- a longer list begins with what the list began with
+  pub fronts : (log seen more : List (TurnEntry E)) → StartsWith log seen → StartsWith (log ++ more) seen
+  fronts log seen more p = (p.0 ++ more, ap (λ l. l ++ more) p.1 ∙ append_assoc seen p.0 more)
+
+  same_head : (a b : TurnEntry E) (xs ys : List (TurnEntry E)) → a ∷ xs ≡ b ∷ ys → a ≡ b
+  same_head a b xs ys e = ap head e
+    where
+      head : List (TurnEntry E) → TurnEntry E
+      head [] = a
+      head (z ∷ zs) = z
+
+  same_tail : (a b : TurnEntry E) (xs ys : List (TurnEntry E)) → a ∷ xs ≡ b ∷ ys → xs ≡ ys
+  same_tail a b xs ys e = ap tail e
+    where
+      tail : List (TurnEntry E) → List (TurnEntry E)
+      tail [] = []
+      tail (z ∷ zs) = zs
+
+  some_turn : (t : TurnEntry E) (ts : List (TurnEntry E)) → t ∷ ts ≢ []
+  some_turn t ts e = let n : suc (length ts) ≡ 0 = ap length e in absurd (omega arith)
+
+  -- the turns of a number in a list with one turn in front, which is of the number or not
+  with_own : (n : ℕ) (t : TurnEntry E) (ts : List (TurnEntry E)) → eqb t.by n ≡ true → turns_of n (t ∷ ts) ≡ t ∷ turns_of n ts
+  with_own n t ts is = ap (λ b. cond b (t ∷ turns_of n ts) (turns_of n ts)) is
+
+  with_other : (n : ℕ) (t : TurnEntry E) (ts : List (TurnEntry E)) → eqb t.by n ≡ false → turns_of n (t ∷ ts) ≡ turns_of n ts
+  with_other n t ts is = ap (λ b. cond b (t ∷ turns_of n ts) (turns_of n ts)) is
+
+  -- where the turns of a turn's number begin with it, the list has it behind turns of other numbers
+  at_first : (t : TurnEntry E) (rest ys : List (TurnEntry E)) → turns_of t.by ys ≡ t ∷ rest → (front back : List (TurnEntry E)) × (ys ≡ front ++ t ∷ back) × (turns_of t.by front ≡ [])
+  at_first t rest [] e = absurd (some_turn t rest (sym e))
+  at_first t rest (y ∷ ys) e = pick (eqb y.by t.by) refl (λ q. at_first t rest ys q)
+    where
+      pick : (b : Bool) → eqb y.by t.by ≡ b → (turns_of t.by ys ≡ t ∷ rest → (front back : List (TurnEntry E)) × (ys ≡ front ++ t ∷ back) × (turns_of t.by front ≡ []))
+          → (front back : List (TurnEntry E)) × (y ∷ ys ≡ front ++ t ∷ back) × (turns_of t.by front ≡ [])
+      pick true is _ = ([], ys, ap (λ z. z ∷ ys) (same_head y t (turns_of t.by ys) rest (sym (with_own t.by y ys is) ∙ e)), refl)
+      pick false is behind = let later = behind (sym (with_other t.by y ys is) ∙ e) in
+          (y ∷ later.0, later.1, ap (λ l. y ∷ l) later.2, with_other t.by y later.0 is ∙ later.3)
+
+  -- two lists with the same turns of each number have them still without a turn that is the first of its number in both
+  without : (t : TurnEntry E) (ts front back : List (TurnEntry E)) → turns_of t.by front ≡ [] → (n : ℕ) → turns_of n (t ∷ ts) ≡ turns_of n (front ++ t ∷ back) → turns_of n ts ≡ turns_of n (front ++ back)
+  without t ts front back none n same = pick (eqb t.by n) refl
+    where
+      pick : (b : Bool) → eqb t.by n ≡ b → turns_of n ts ≡ turns_of n (front ++ back)
+      pick true is = let this : t.by ≡ n = grind (arith, nat_tests) in let nothing : turns_of n front ≡ [] = ap (λ k. turns_of k front) (sym this) ∙ none in
+          same_tail t t (turns_of n ts) (turns_of n back) (sym (with_own n t ts is) ∙ (same ∙ (turns_of-append n front (t ∷ back) ∙ (λ i. nothing i ++ with_own n t back is i))))
+          ∙ sym (turns_of-append n front back ∙ ap (λ l. l ++ turns_of n back) nothing)
+      pick false is = sym (with_other n t ts is) ∙ (same ∙ (turns_of-append n front (t ∷ back) ∙ (ap (λ l. turns_of n front ++ l) (with_other n t back is) ∙ sym (turns_of-append n front back))))
+
+  no_turns : (ys : List (TurnEntry E)) → ((n : ℕ) → turns_of n ys ≡ []) → ys ≡ []
+  no_turns [] h = refl
+  no_turns (y ∷ ys) h = absurd (some_turn y (turns_of y.by ys) (sym (with_own y.by y ys (eq-eqb y.by y.by refl)) ∙ h y.by))
+
+  -- two lists with the same turns of each number have the same turns
+  pub rearranged : (xs ys : List (TurnEntry E)) → ((n : ℕ) → turns_of n xs ≡ turns_of n ys) → IsPermutation xs ys
+  rearranged [] ys same = subst (IsPermutation []) (sym (no_turns ys (λ n. sym (same n)))) (IsPermutation-refl [])
+  rearranged (t ∷ ts) ys same = let there = at_first t (turns_of t.by ts) ys (sym (same t.by) ∙ with_own t.by t ts (eq-eqb t.by t.by refl)) in
+      let front = there.0 in let back = there.1 in
+      let left : (n : ℕ) → turns_of n ts ≡ turns_of n (front ++ back) = λ n. without t ts front back there.3 n (same n ∙ ap (turns_of n) there.2) in
+      subst (IsPermutation (t ∷ ts)) (sym there.2)
+      (IsPermutation-trans (t ∷ ts) (t ∷ (front ++ back)) (front ++ t ∷ back) (IsPermutation-cons t ts (front ++ back) (rearranged ts (front ++ back) left)) (IsPermutation-sym (front ++ t ∷ back) (t ∷ (front ++ back)) (IsPermutation-middle front t back)))

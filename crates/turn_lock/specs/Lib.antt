@@ -1,3 +1,4 @@
+pub mod Laws
 pub mod Rule
 pub mod Steps
 pub mod Tokens

@@ -18,11 +18,9 @@ module _ {X E K : Type 0} where
     own = o.seat.me.0.own;
   }
 
-  -- its number out is its view's, and it holds neither a ticket nor the slot
+  -- it is the opener's seat, and its number out is its view's
   pub record IsOpener (o : opener.Inside X E K) : Type 0 where
     pub opens : o.seat.me.0.opens ≡ true
-    pub draws : o.seat.me.0.draws ≡ false
-    pub serves : o.seat.me.0.serves ≡ false
     pub out : o.seat.me.0.out ≡ o.out
 
   abbrev pub pass_shown : pass.Inside X E K → PassState E K

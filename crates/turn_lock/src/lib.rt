@@ -5,11 +5,13 @@
 //! fits just that front. `specs/Turns.antt` has the words of the contracts.
 #![tactic(auto)]
 
+mod laws;
 mod lock;
 mod rule;
 mod tokens;
 mod view;
 
+pub use laws::{turns_of_numbers, worked_joins};
 pub use lock::TurnLock;
 pub use rule::Story;
 pub use tokens::{Opener, Pass, Visit};

@@ -1,7 +1,7 @@
 //! The lock. Its table has a word of the next ticket, a word of the ticket that is served, both
 //! modulo 2^64, and a slot for the value, which is at home while nobody has a turn.
 
-ghost use Rattle.std.specs.Prelude.{◌≡◌, ℕ, ◌%◌, ◌^◌, ◌<◌, false, true, List, [], ◌∷◌, ◌++◌, Some, IfOk};
+ghost use Rattle.std.specs.Prelude.{◌≡◌, ℕ, ◌%◌, ◌^◌, ◌<◌, false, true, List, [], ◌∷◌, ◌++◌, Some, IfOk, IsPermutation};
 ghost use Rattle.turn_lock.specs.declared.view.TurnEntry.{TurnEntry};
 ghost use Rattle.turn_lock.specs.Turns.{turn, turns_of, StartsWith, opened, after_split, new_pass, after_join, entered, after_turn};
 ghost use Rattle.turn_lock.specs.Steps.{Found};
@@ -89,9 +89,8 @@ impl<X, E, K, P: Story<X, E, K>> TurnLock<X, E, K, P> {
         ensures { opener.new ≡ after_join opener.old pass }
     {
         let Pass { seat, ticket: _ } = pass;
-        self.table
-            .shared
-            .join_seat::<Glue<X, P>>(&mut opener.seat, seat);
+        let shared = &self.table.shared;
+        shared.join_seat::<Glue<X, P>>(&mut opener.seat, seat);
         // It is above 0 while a pass is out, which the rule knows and the code need not.
         opener.out = opener.out.saturating_sub(1);
     }
@@ -171,13 +170,14 @@ impl<X, E, K, P: Story<X, E, K>> TurnLock<X, E, K, P> {
         shared.store::<EndBare>(&mut pass.seat, SERVING, pass.ticket.wrapping_add(1));
     }
 
-    /// The value, once all passes are joined. It fits the list that the opener has then seen, in
-    /// which the turns of each number are those that the opener joined.
+    /// The value, once all passes are joined. It fits the list that the opener has then seen, which
+    /// is of the turns that the opener joined and no others, those of each number in their order.
     pub fn close(self, opener: Opener<X, E, K>) -> X
         requires lock { opener.lock ≡ self }
         requires none { opener.out ≡ 0 }
         ensures fits { P.fits self.key opener.seen result }
-        ensures turns { (number : ℕ) → turns_of number opener.own ≡ turns_of number opener.seen }
+        ensures turns { IsPermutation opener.own opener.seen }
+        ensures order { (number : ℕ) → turns_of number opener.own ≡ turns_of number opener.seen }
     {
         let TurnLock { table } = self;
         let Opener { seat, out: _ } = opener;

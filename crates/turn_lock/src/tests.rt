@@ -93,6 +93,22 @@ fn two_threads_take_a_hundred_turns_each(rt: HostRuntime) -> Result<(), Fail> {
     Ok(())
 }
 
+fn crosses<T: Send>(_value: &T) {}
+
+fn is_shared<T: Sync>(_value: &T) {}
+
+/// A lock, its opener and its passes cross threads wherever the value does.
+fn cross<X: Send, E, K, P: Story<X, E, K>>(
+    lock: &TurnLock<X, E, K, P>,
+    opener: &Opener<X, E, K>,
+    pass: &Pass<X, E, K>,
+) {
+    crosses(lock);
+    is_shared(lock);
+    crosses(opener);
+    crosses(pass);
+}
+
 /// A gate that counts the calls that pass it, and adds up their numbers.
 #[derive(Drop)]
 struct CountingGate {
@@ -128,6 +144,7 @@ fn one_thread_has_two_passes_and_makes_each_call(rt: HostRuntime) -> Result<(), 
     let mut first = lock.split(&mut opener);
     let mut second = lock.split(&mut opener);
     assert_eq!(rt; opener.out(), 2);
+    cross(&lock, &opener, &first);
     let visit = Visit {
         gate: &gate,
         worker: 1,
