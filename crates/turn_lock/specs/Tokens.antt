@@ -1,5 +1,5 @@
 -- What contracts see of an opener and a pass, and what is true of their fields.
-use Rattle.std.specs.Prelude.{◌≡◌, ℕ, ◌%◌, ◌^◌, Bool, true, false, if◌then◌else◌, List, [], ◌∷◌, Option, None}
+use Rattle.std.specs.Prelude.{◌≡◌, ℕ, ◌%◌, ◌^◌, Bool, true, if◌then◌else◌, List, [], ◌∷◌, Option, None}
 use Rattle.turn_lock.specs.Turns.{turns_of, OpenerState, PassState}
 use Rattle.turn_lock.specs.declared.tokens.Opener.TheInside as opener
 use Rattle.turn_lock.specs.declared.tokens.Pass.TheInside as pass
