@@ -3,6 +3,7 @@ use Rattle.std.proofs.Common.{◌≡◌, ◌≢◌, ◌⊎◌, ℕ, zero, suc, �
 use mathlib.Core.Option as maybe
 use mathlib.Core.Option.{none, some, some-injective, some-ne-none}
 use lib.ListN.{get_elem?}
+use Rattle.std.specs.List.{All}
 use Rattle.atomic_table.proofs.Lists.{at_set}
 use Rattle.turn_lock.specs.Rule.{total}
 
@@ -62,3 +63,8 @@ bit_le true true h = omega arith
 bit_le true false h = absurd (true≢false (sym (h refl)))
 bit_le false true h = omega arith
 bit_le false false h = omega arith
+
+-- a fact of each element of a list, with one element more in front
+pub all_more : {A : Type 0} (P : A → Type 0) (x : A) (xs : List A) → P x → All P xs → All P (x ∷ xs)
+all_more P x xs this others zero d below = this
+all_more P x xs this others (suc k) d below = others k d (omega arith)

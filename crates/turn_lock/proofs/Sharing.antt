@@ -5,13 +5,14 @@ use mathlib.Core.Option as maybe
 use mathlib.Core.Option.{none, some, some-injective, some-ne-none}
 use native.Mathlib.Decide.{ℕ_discrete}
 use lib.ListN.{get_elem?}
+use Rattle.std.specs.List.{All}
 use Rattle.atomic_table.specs.Table.{State, Splits, Joins, Final, Seen, opening}
 use Rattle.atomic_table.proofs.Lists.{set_else, at_longer, at_last}
 use Rattle.turn_lock.specs.declared.view.TurnEntry.{TurnEntry}
 use Rattle.turn_lock.specs.declared.view.View.{View}
-use Rattle.turn_lock.specs.Turns.{turns_of}
+use Rattle.turn_lock.specs.Turns.{StartsWith, turns_of}
 use Rattle.turn_lock.specs.Rule.{lives, waits, opening_view, splitting, newcomer, joining, spent, Knows, IsQuiet, Ticketed}
-use Rattle.turn_lock.proofs.Lists.{not_true, not_false, set_at, total-set, term_le, total-append, all_set, snoc_at, some_or_none}
+use Rattle.turn_lock.proofs.Lists.{all_more, not_true, not_false, set_at, total-set, term_le, total-append, all_set, snoc_at, some_or_none}
 use Rattle.turn_lock.proofs.TurnLists.{turns_of-append, turns_of-same, turns_of-other, longer_begins, longer_whole}
 use Rattle.turn_lock.proofs.Changes.{whole_set, seated_set, quiet_back}
 
@@ -47,7 +48,7 @@ module _ {X E K : Type 0} (fits : K → List (TurnEntry E) → X → Type 0) (ke
       first zero v e = subst (Knows key [] 0 0 0 (λ _. 0) (λ _. none) 0) (some-injective (opening_view key) v e) record {
         about = λ _. refl;
         seen = ([], refl);
-        opens = λ _. record { first = refl; apart = refl; out = refl; later = λ _ _. (refl, refl); joined = λ _ _. refl; others = λ _ _ _. refl };
+        opens = λ _. record { first = refl; apart = refl; out = refl; later = λ _ _. (refl, refl); joined = λ _ _. refl; others = λ _ _ _. refl; fronts = λ _ _ below. absurd (omega arith) };
         live = λ h. absurd (true≢false (sym h));
         draws = λ h. absurd (true≢false (sym h));
         serves = λ h. absurd (true≢false (sym h));
@@ -84,6 +85,7 @@ module _ {X E K : Type 0} (fits : K → List (TurnEntry E) → X → Type 0) (ke
             later = λ k le. let q = p.later k (omega arith) in (same k (λ e. absurd (omega arith)) ∙ q.0, q.1);
             joined = λ k h. dite (ℕ_discrete k n) (λ is. absurd (some-ne-none (length vs) (sym hit ∙ (ap seats (sym is) ∙ h)))) (λ ne. p.joined k (sym (same k ne) ∙ h));
             others = λ k i h. dite (ℕ_discrete k n) (λ is. ap (λ (l : ℕ). turns_of l v.own) is ∙ (p.joined n fresh.0 ∙ fresh.1)) (λ ne. p.others k i (sym (same k ne) ∙ h));
+            fronts = p.fronts;
           };
           live = λ h. absurd (not_false v.live p.apart h);
           draws = old.draws;
@@ -142,6 +144,7 @@ module _ {X E K : Type 0} (fits : K → List (TurnEntry E) → X → Type 0) (ke
           others = λ k i h. turns_of-append k v.own u.own ∙ dite (ℕ_discrete k n)
               (λ is. absurd (some-ne-none i (sym h ∙ (ap seats is ∙ gone))))
               (λ ne. ap (λ l. turns_of k v.own ++ l) (own_of k ne) ∙ (append-nil (turns_of k v.own) ∙ p.others k i (sym (same k ne) ∙ h)));
+          fronts = all_more (StartsWith r.log) u.seen v.fronts its.seen p.fronts;
         };
         live = λ h. absurd (not_false v.live p.apart h);
         draws = λ h. absurd (not_false v.live p.apart (old.draws h).0);
@@ -184,9 +187,9 @@ module _ {X E K : Type 0} (fits : K → List (TurnEntry E) → X → Type 0) (ke
         home = λ quiet. r.home (quiet_back s.views id v w at calm (quiet_back vs other u z at' its_calm quiet));
       }
 
-  -- once all passes are joined, the opening_view has seen all turns, and has them all
+  -- once all passes are joined, the opener has seen all turns, and has them all
   pub closes : (id : ℕ) (v : V) (words : List ℕ) (xs : List (Option X)) → v.opens ≡ true → v.out ≡ 0 → Final (Seen Rule id v) words xs
-      → (x : X) × (get_elem? xs 0 ≡ some (Some x)) × fits v.about v.seen x × ((k : ℕ) → turns_of k v.own ≡ turns_of k v.seen)
+      → (x : X) × (get_elem? xs 0 ≡ some (Some x)) × fits v.about v.seen x × ((k : ℕ) → turns_of k v.own ≡ turns_of k v.seen) × All (StartsWith v.seen) v.fronts
   closes id v words xs opens out f = let s = f.0 in let r = f.1.0 in let at = f.1.1 in let old = r.each id v at in let p = old.opens opens in
       let dead : (j : ℕ) (u : V) → get_elem? s.views j ≡ some u → u.live ≡ false = λ j u e. not_true u.live (λ h. let l = term_le lives s.views j u e in let a = r.alive in let o = p.out in
       let one : lives u ≡ 1 = ap (λ b. cond b 1 0) h in absurd (omega arith)) in
@@ -199,4 +202,5 @@ module _ {X E K : Type 0} (fits : K → List (TurnEntry E) → X → Type 0) (ke
         f.4 0 (Some home.0) home.1,
         subst (λ (y : K × List (TurnEntry E)). fits y.0 y.1 home.0) (λ i. (sym (old.about (inl opens)) i, sym seen i)) home.2,
         λ k. p.joined k (seatless k) ∙ ap (turns_of k) (sym seen),
+        subst (λ (l : List (TurnEntry E)). All (StartsWith l) v.fronts) (sym seen) p.fronts,
       )

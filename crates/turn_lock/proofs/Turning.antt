@@ -13,7 +13,7 @@ use Rattle.turn_lock.specs.Turns.{turn, turns_of}
 use Rattle.turn_lock.specs.Rule.{total, lives, waits, Knows, IsQuiet, Ticketed}
 use Rattle.turn_lock.specs.Steps.{Held, ticketed, served, ended, Drew, Found, Looked, Recorded, Passed}
 use Rattle.turn_lock.proofs.Lists.{not_true, not_false, set_at, total-set, total_le, all_set, near, bit_le}
-use Rattle.turn_lock.proofs.TurnLists.{turns_of-append, Mine, one_turn}
+use Rattle.turn_lock.proofs.TurnLists.{fronts, turns_of-append, Mine, one_turn}
 use Rattle.turn_lock.proofs.Changes.{whole_set, seated_set, quiet_back}
 
 module _ {X E K : Type 0} (fits : K → List (TurnEntry E) → X → Type 0) (key : K) where
@@ -178,6 +178,7 @@ module _ {X E K : Type 0} (fits : K → List (TurnEntry E) → X → Type 0) (ke
               later = λ k le. let q = p.later k le in (q.0, no_more k (seatless k q.0) ∙ q.1);
               joined = λ k n. p.joined k n ∙ sym (no_more k (seatless k n));
               others = p.others;
+              fronts = λ i d below. fronts r.log _ turns (p.fronts i d below);
             };
             live = λ h. let l = o.live h in (l.0, no_more u.number (λ q. other (some-injective j id (sym l.0 ∙ (ap r.seats q ∙ here.0)))) ∙ l.1);
             draws = λ h. let d = o.draws h in let apart = other_ticket j u other e h in let low = d.1 in (d.0, (omega arith), d.2, d.3);

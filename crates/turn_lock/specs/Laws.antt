@@ -25,5 +25,5 @@ JoinsAreWorked = (l : LockState ℕ) →
     let second : PassState ℕ ℕ = after_turn (turn 1 7 ∷ []) (entered (turn 0 5 ∷ []) (new_pass one)) in
     (first ≡ record { lock = l; number = 0; in_turn = false; seen = turn 0 5 ∷ []; own = turn 0 5 ∷ [] })
     × (second ≡ record { lock = l; number = 1; in_turn = false; seen = turn 0 5 ∷ turn 1 7 ∷ []; own = turn 1 7 ∷ [] })
-    × (after_join (after_join both first) second ≡ record { lock = l; out = 0; splits = 2; seen = turn 0 5 ∷ turn 1 7 ∷ []; own = turn 0 5 ∷ turn 1 7 ∷ [] })
-    × (after_join (after_join both second) first ≡ record { lock = l; out = 0; splits = 2; seen = turn 0 5 ∷ turn 1 7 ∷ []; own = turn 1 7 ∷ turn 0 5 ∷ [] })
+    × (after_join (after_join both first) second ≡ record { lock = l; out = 0; splits = 2; seen = turn 0 5 ∷ turn 1 7 ∷ []; fronts = second.seen ∷ first.seen ∷ []; own = turn 0 5 ∷ turn 1 7 ∷ [] })
+    × (after_join (after_join both second) first ≡ record { lock = l; out = 0; splits = 2; seen = turn 0 5 ∷ turn 1 7 ∷ []; fronts = first.seen ∷ second.seen ∷ []; own = turn 1 7 ∷ turn 0 5 ∷ [] })

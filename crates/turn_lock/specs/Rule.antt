@@ -1,5 +1,5 @@
 -- The rule of the lock's table. Word 0 is the next ticket and word 1 the one that is served, both modulo 2^64.
-use Rattle.std.specs.Prelude.{◌≡◌, ◌⊎◌, ℕ, ◌+◌, ◌-◌, ◌%◌, ◌^◌, ◌<◌, ◌≤◌, Bool, true, false, if◌then◌else◌, List, [], ◌∷◌, ◌++◌, Option, Some}
+use Rattle.std.specs.Prelude.{◌≡◌, ◌⊎◌, ℕ, ◌+◌, ◌-◌, ◌%◌, ◌^◌, ◌<◌, ◌≤◌, Bool, true, false, if◌then◌else◌, List, [], ◌∷◌, ◌++◌, All, Option, Some}
 use mathlib.Core.Option as maybe
 use mathlib.Core.Option.{none, some}
 use lib.ListN.{get_elem?}
@@ -21,7 +21,7 @@ module _ {E K : Type 0} where
 
   -- the opener of a new table
   abbrev pub opening_view : K → View E K
-  opening_view k = record { opens = true; live = false; out = 0; splits = 0; number = 0; about = k; seen = []; own = []; draws = false; ticket = 0; serves = false }
+  opening_view k = record { opens = true; live = false; out = 0; splits = 0; number = 0; about = k; seen = []; fronts = []; own = []; draws = false; ticket = 0; serves = false }
 
   -- the opener, with one pass more
   abbrev pub splitting : View E K → View E K
@@ -29,26 +29,27 @@ module _ {E K : Type 0} where
 
   -- a new pass, which has seen what the opener had
   abbrev pub newcomer : View E K → View E K
-  newcomer v = record v { opens = false; live = true; out = 0; splits = 0; number = v.splits; own = []; draws = false; ticket = 0; serves = false }
+  newcomer v = record v { opens = false; live = true; out = 0; splits = 0; number = v.splits; fronts = []; own = []; draws = false; ticket = 0; serves = false }
 
   -- the opener, with one pass less
   abbrev pub joining : View E K → View E K → View E K
-  joining v w = record v { out = v.out - 1; seen = longer v.seen w.seen; own = v.own ++ w.own }
+  joining v w = record v { out = v.out - 1; seen = longer v.seen w.seen; fronts = w.seen ∷ v.fronts; own = v.own ++ w.own }
 
   -- what is left of a pass that was joined
   abbrev pub spent : K → View E K
-  spent k = record { opens = false; live = false; out = 0; splits = 0; number = 0; about = k; seen = []; own = []; draws = false; ticket = 0; serves = false }
+  spent k = record { opens = false; live = false; out = 0; splits = 0; number = 0; about = k; seen = []; fronts = []; own = []; draws = false; ticket = 0; serves = false }
 
 -- What the opener knows: it is the first seat, and no pass; how many passes are not joined; no number from its count of splits on has a pass or a turn;
--- of a number whose pass it joined it has all turns, and of the others none.
+-- of a number whose pass it joined it has all turns, and of the others none; what the joined passes had seen are fronts of the list.
 module _ {E : Type 0} (log : List (TurnEntry E)) (living : ℕ) (seats : ℕ → maybe.Option ℕ) (seat : ℕ) where
-  pub record Opens (lives : Bool) (count made : ℕ) (own : List (TurnEntry E)) : Type 0 where
+  pub record Opens (lives : Bool) (count made : ℕ) (own : List (TurnEntry E)) (met : List (List (TurnEntry E))) : Type 0 where
     pub first : seat ≡ 0
     pub apart : lives ≡ false
     pub out : count ≡ living
     pub later : (k : ℕ) → made ≤ k → (seats k ≡ none) × (turns_of k log ≡ [])
     pub joined : (k : ℕ) → seats k ≡ none → turns_of k own ≡ turns_of k log
     pub others : (k j : ℕ) → seats k ≡ some j → turns_of k own ≡ []
+    pub fronts : All (StartsWith log) met
 
 -- What each seat knows: its list is a front of the one list. A pass that was not joined is the one of its number, and has just the turns of it.
 -- A ticket is held by such a pass, is drawn and not yet served, and is held by no other seat. A seat that learnt that its ticket is served holds
@@ -57,7 +58,7 @@ module _ {E K : Type 0} (key : K) (log : List (TurnEntry E)) (drawn serving livi
   pub record Knows (v : View E K) : Type 0 where
     pub about : (v.opens ≡ true) ⊎ (v.live ≡ true) → v.about ≡ key
     pub seen : StartsWith log v.seen
-    pub opens : v.opens ≡ true → Opens log living seats seat v.live v.out v.splits v.own
+    pub opens : v.opens ≡ true → Opens log living seats seat v.live v.out v.splits v.own v.fronts
     pub live : v.live ≡ true → (seats v.number ≡ some seat) × (turns_of v.number log ≡ v.own)
     pub draws : v.draws ≡ true → (v.live ≡ true) × (serving ≤ v.ticket) × (v.ticket < drawn) × (holder v.ticket ≡ seat)
     pub serves : v.serves ≡ true → (v.draws ≡ true) × (v.ticket ≡ serving) × (v.seen ≡ log)

@@ -15,6 +15,7 @@ module _ {X E K : Type 0} where
     out = o.out;
     splits = o.seat.me.0.splits;
     seen = o.seat.me.0.seen;
+    fronts = o.seat.me.0.fronts;
     own = o.seat.me.0.own;
   }
 

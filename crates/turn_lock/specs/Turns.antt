@@ -25,12 +25,13 @@ pub record LockState (K : Type 0) : Type 0 where
   pub table : TableId
   pub key : K
 
--- an opener: its lock, how many passes are out and how many were ever split, what it has seen, and the turns of the passes that it joined
+-- an opener: its lock, how many passes are out and how many were ever split, what it has seen, and of the passes that it joined what they had seen, the last one first, and their turns
 pub record OpenerState (E K : Type 0) : Type 0 where
   pub lock : LockState K
   pub out : ℕ
   pub splits : ℕ
   pub seen : List (TurnEntry E)
+  pub fronts : List (List (TurnEntry E))
   pub own : List (TurnEntry E)
 
 -- a pass: its lock, its number, whether it has a turn, what it has seen, and its own turns
@@ -44,7 +45,7 @@ pub record PassState (E K : Type 0) : Type 0 where
 module _ {E K : Type 0} where
   -- the opener of a new lock
   abbrev pub opened : LockState K → OpenerState E K
-  opened l = record { lock = l; out = 0; splits = 0; seen = []; own = [] }
+  opened l = record { lock = l; out = 0; splits = 0; seen = []; fronts = []; own = [] }
 
   -- the opener, with one pass more
   abbrev pub after_split : OpenerState E K → OpenerState E K
@@ -56,7 +57,7 @@ module _ {E K : Type 0} where
 
   -- the opener, which has joined a pass
   abbrev pub after_join : OpenerState E K → PassState E K → OpenerState E K
-  after_join o p = record o { out = o.out - 1; seen = longer o.seen p.seen; own = o.own ++ p.own }
+  after_join o p = record o { out = o.out - 1; seen = longer o.seen p.seen; fronts = p.seen ∷ o.fronts; own = o.own ++ p.own }
 
   -- the pass in a turn, in which the list is this
   abbrev pub entered : List (TurnEntry E) → PassState E K → PassState E K

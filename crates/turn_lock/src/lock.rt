@@ -1,7 +1,7 @@
 //! The lock. Its table has a word of the next ticket, a word of the ticket that is served, both
 //! modulo 2^64, and a slot for the value, which is at home while nobody has a turn.
 
-ghost use Rattle.std.specs.Prelude.{◌≡◌, ℕ, ◌%◌, ◌^◌, ◌<◌, false, true, List, [], ◌∷◌, ◌++◌, Some, IfOk, IsPermutation};
+ghost use Rattle.std.specs.Prelude.{◌≡◌, ℕ, ◌%◌, ◌^◌, ◌<◌, false, true, List, [], ◌∷◌, ◌++◌, Some, IfOk, All, IsPermutation};
 ghost use Rattle.turn_lock.specs.declared.view.TurnEntry.{TurnEntry};
 ghost use Rattle.turn_lock.specs.Turns.{turn, turns_of, StartsWith, opened, after_split, new_pass, after_join, entered, after_turn};
 ghost use Rattle.turn_lock.specs.Steps.{Found};
@@ -81,7 +81,8 @@ impl<X, E, K, P: Story<X, E, K>> TurnLock<X, E, K, P> {
     }
 
     /// Takes a pass back that has no turn. The opener has then seen the longer of the two lists, and
-    /// its own turns include the pass's. It waits for nobody.
+    /// its own turns include the pass's; it keeps what the pass had seen, for `close` to tell that all
+    /// of it is of one list. It waits for nobody.
     pub fn join(&self, opener: &mut Opener<X, E, K>, pass: Pass<X, E, K>)
         requires opener { opener.old.lock ≡ self.now }
         requires pass { pass.lock ≡ self.now }
@@ -171,12 +172,14 @@ impl<X, E, K, P: Story<X, E, K>> TurnLock<X, E, K, P> {
     }
 
     /// The value, once all passes are joined. It fits the list that the opener has then seen, which
-    /// is of the turns that the opener joined and no others, those of each number in their order.
+    /// is of the turns that the opener joined and no others, those of each number in their order. All
+    /// that a joined pass had seen is a front of it.
     pub fn close(self, opener: Opener<X, E, K>) -> X
         requires lock { opener.lock ≡ self }
         requires none { opener.out ≡ 0 }
         ensures fits { P.fits self.key opener.seen result }
         ensures turns { IsPermutation opener.own opener.seen }
+        ensures fronts { All (StartsWith opener.seen) opener.fronts }
         ensures order { (number : ℕ) → turns_of number opener.own ≡ turns_of number opener.seen }
     {
         let TurnLock { table } = self;

@@ -24,6 +24,8 @@ pub struct View<E, K> {
     pub about: K,
     /// A front of the one list.
     pub seen: LinkedList<TurnEntry<E>>,
+    /// What the passes that the opener joined had seen, the last one first.
+    pub fronts: LinkedList<LinkedList<TurnEntry<E>>>,
     /// A pass's own turns, or those of the passes that the opener joined.
     pub own: LinkedList<TurnEntry<E>>,
     /// Whether it holds a ticket, and which.
