@@ -135,8 +135,9 @@ fn an_epoch_reads_its_own_frames(rt: HostRuntime) -> Result<(), Fail> {
     let alloc = rt.alloc();
     assert_eq!(rt; number(&decode(alloc, &OLD, 2, 1, LIMIT)), 2);
     assert_eq!(rt; number(&decode(alloc, &FIRST, 2, 1, LIMIT)), 10);
-    let frame = encode(alloc, &added(alloc, 1, 0)?, 2, 65535)?;
-    assert_eq!(rt; &frame[4..8], b"\0\0\xFF\xFF".as_slice());
+    let message = decode(alloc, &FIRST, 2, 0, LIMIT)?;
+    let frame = encode(alloc, &message, 2, 65535)?;
+    assert_eq!(rt; frame.get(4..8), Some(b"\0\0\xFF\xFF".as_slice()));
     assert_eq!(rt; number(&decode(alloc, &frame, 2, 0, LIMIT)), 10);
     assert_eq!(rt;
         decode(alloc, &frame, 2, 65535, LIMIT),
@@ -209,11 +210,12 @@ const MOST: Extreme = Extreme {
 
 /// A length as a version writes it.
 fn length(alloc: Global, version: u8, len: usize) -> Result<Vec<u8>, Fail> {
+    let [high, low] = u16::try_from(len)?.to_be_bytes();
     let mut bytes = Vec::new(alloc);
     if version == 2 {
-        bytes.push((len / 256) as u8)?;
+        bytes.push(high)?;
     }
-    bytes.push((len % 256) as u8)?;
+    bytes.push(low)?;
     Ok(bytes)
 }
 
