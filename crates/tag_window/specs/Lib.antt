@@ -1,0 +1,4 @@
+pub mod Window
+pub mod Queue
+pub mod Check
+pub mod History

@@ -1,0 +1,10 @@
+//! The window: the timestamps of the unstable messages of one epoch, each with whether it is a no-op.
+//!
+//! They are what is needed of the messages that were delivered to tell whether one that comes is crooked.
+#![tactic(auto)]
+
+mod held;
+mod queue;
+
+pub use held::Held;
+pub use queue::Queue;
