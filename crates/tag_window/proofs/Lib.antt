@@ -1,3 +1,4 @@
 pub mod Queues
 pub mod Sender
 pub mod Told
+pub mod Kept

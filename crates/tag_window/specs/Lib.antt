@@ -2,3 +2,4 @@ pub mod Window
 pub mod Queue
 pub mod Check
 pub mod History
+pub mod Queues

@@ -5,6 +5,7 @@
 
 mod held;
 mod queue;
+mod window;
 
 pub use held::Held;
-pub use queue::Queue;
+pub use window::{MOST_WINDOW, TagWindow};
