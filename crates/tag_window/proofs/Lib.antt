@@ -2,3 +2,4 @@ pub mod Queues
 pub mod Sender
 pub mod Told
 pub mod Kept
+pub mod Lines

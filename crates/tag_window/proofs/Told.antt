@@ -3,7 +3,7 @@ use Rattle.std.proofs.Common.{◌≡◌, ◌≢◌, ℕ, ◌+◌, ◌<◌, ◌�
 use Rattle.std.specs.Prelude.{is_none}
 use Rattle.std.specs.List.{filter, count_by}
 use Rattle.std.specs.Option.{option_map}
-use Rattle.std.proofs.lemmas.Bool.{cases_eq, cases_lt, cond-true, cond-false, eqb-true, eq-eqb, ne_eqb, le-leb, lt-leb, and_parts, cases_Bool, false≢true, or_left, or_right, both_ways}
+use Rattle.std.proofs.lemmas.Bool.{cases_eq, cases_lt, cond-true, cond-false, eqb-true, ltb-true, eq-eqb, ne_eqb, le-leb, lt-leb, and_parts, cases_Bool, false≢true, or_left, or_right, both_ways}
 use Rattle.std.proofs.lemmas.List.{same_lists}
 use Rattle.std.proofs.lemmas.List.FromFn.{length-map-range_with_len, get_or-map-range_with_len}
 use Rattle.std.proofs.lemmas.List.Elements.{filter_agree, filter-append}
@@ -104,8 +104,18 @@ none_from : {X : Type 0} (o : Option X) → is_none o ≡ true → o ≡ None
 none_from None t = refl
 none_from (Some x) t = absurd (false≢true t)
 
+either_none : (b : Bool) → ◌≡◌ {A = Option Crook} (if b then None else None) None
+either_none true = refl
+either_none false = refl
+
 none_of_zeros : (n : ℕ) (m : Message) (x : ℕ) → unclosed_by n m x (zero_tag n) ≡ None
 none_of_zeros n m x = ap (option_map _) (none_from (first_below n (zero_tag n) m.tag) (from_rises n (zero_tag n) m.tag (λ y l. omega (arith, entry-zero_tag n y))))
+
+-- where its last message of a member is not held, it is closed there
+pub closed_where_none : (n : ℕ) (window : Window) (m : Message) (last : List ℕ) (x : ℕ) → tag_held n x (held_of window x) (entry m.tag x) ≡ zero_tag n → unclosed_in n window m last x ≡ None
+closed_where_none n window m last x zero =
+    let skips : Bool = (x == m.origin) || nat_le (entry m.tag x) (entry last x) in
+    ap (λ (o : Option Crook). if skips then None else o) (ap (unclosed_by n m x) zero ∙ none_of_zeros n m x) ∙ either_none skips
 
 -- a message that is closed at a member after all is closed there after the unstable ones
 closed_among_unstable : (stable : List ℕ) (n x : ℕ) (ms : List Message) (m : Message) → unclosed_at n ms m x ≡ None → unclosed_at n (filter (λ e. not (is_stable stable e)) ms) m x ≡ None
@@ -115,11 +125,8 @@ closed_among_unstable stable n x ms m closed =
     ap (λ tag. if skips then None else unclosed_by n m x tag) (tag_of-unstable stable n x ms s)
     ∙ elim (cases_Bool (not (nat_le s (entry stable x)))) [
       | inl up ↦ ap (λ b. if skips then None else unclosed_by n m x (if b then tag_of n ms x s else zero_tag n)) up ∙ closed
-      | inr low ↦ ap (λ b. if skips then None else unclosed_by n m x (if b then tag_of n ms x s else zero_tag n)) low ∙ ap (λ (o : Option Crook). if skips then None else o) (none_of_zeros n m x) ∙ either skips None
-    ] where
-      either : (b : Bool) (o : Option Crook) → (if b then o else o) ≡ o
-      either true o = refl
-      either false o = refl
+      | inr low ↦ ap (λ b. if skips then None else unclosed_by n m x (if b then tag_of n ms x s else zero_tag n)) low ∙ ap (λ (o : Option Crook). if skips then None else o) (none_of_zeros n m x) ∙ either_none skips
+    ]
 
 module _ (n w me : ℕ) (h : List Message) (m : Message) (window : Window) (t : IsTrue (is_chapter n w me h)) (of : IsWindowOf n w me h window) (none : regress_of n h m ≡ None) where
   -- a window tells of each member what the unstable messages tell
@@ -151,6 +158,9 @@ others_tell (Some x) u u' o o' p p' same = refl
 others_tell None u u' o o' p p' same = let all = same refl in λ i. first_some (all.0 i ∷ all.1 i ∷ all.2 i ∷ [])
 
 -- ---- all four causes
+
+pub fits_member : (n : ℕ) (m : Message) → IsTrue (fits n m) → m.origin < n
+fits_member n m t = ltb-true m.origin n (and_parts (length m.tag == n) (nat_lt m.origin n) (and_parts (length m.tag == n && nat_lt m.origin n) (nat_lt 0 (number m)) t).0).1
 
 module _ (n w me : ℕ) (h : List Message) (m : Message) (window : Window) (k : me < n) (t : IsTrue (is_chapter n w me h)) (of : IsWindowOf n w me h window) (fit : IsTrue (fits n m)) (deliverable : IsTrue (is_deliverable n (counts n h) m)) (other : m.origin ≢ me) (member : m.origin < n) where
   -- how many of a kind are unstable after it

@@ -1,6 +1,6 @@
 //! The window of all members, and the check of a message that comes.
 
-ghost use Rattle.std.specs.Prelude.{◌≡◌, ◌≢◌, ℕ, ◌+◌, ◌<◌, ◌≤◌, Bool, not, ◌&&◌, List, [], ◌∷◌, ◌++◌, length, filter, map, replicate, slice_set, nat_lt, IfOk, IsTrue, option_copied, if◌then◌else◌};
+ghost use Rattle.std.specs.Prelude.{◌≡◌, ◌≢◌, ℕ, ◌+◌, ◌<◌, ◌≤◌, Bool, true, false, not, ◌&&◌, List, [], ◌∷◌, ◌++◌, length, filter, map, replicate, slice_set, nat_lt, IfOk, IfSome, IsTrue, if◌then◌else◌};
 ghost use Rattle.op_base.specs.Message.{fits, number};
 ghost use Rattle.op_base.specs.Timestamp.{entry};
 ghost use Rattle.op_base.specs.declared.message.Message.{Message as AMessage};
@@ -59,7 +59,8 @@ fn most_noops(n: u8, w: u8) -> u32
 /// The least member at which a timestamp is below another of as many members.
 fn first_below(had: &Tag, got: &Tag) -> Option<u8>
     requires { length had.now ≡ length got.now }
-    ensures { result ≡ first_below (length had.now) had.now got.now }
+    ensures least { result ≡ first_below (length had.now) had.now got.now }
+    ensures member { IfSome result (λ x. x < length had.now) }
 {
     for x in 0..had.members() {
         if got.at(x) < had.at(x) {

@@ -1,0 +1,137 @@
+-- The queues of all members, as what a window holds of each.
+use Rattle.std.proofs.Common.{◌≡◌, ℕ, ◌+◌, ◌-◌, ◌*◌, ◌<◌, ◌≤◌, Bool, true, false, nat_lt, List, [], ◌∷◌, ◌++◌, length, map, set, get_or, replicate, zero, suc, refl, sym, ap, subst, ◌∙◌, arith, Option, Some, None}
+use Rattle.std.specs.Prelude.{is_some, is_none}
+use Rattle.std.specs.List.{filter, find, range_with_len}
+use Rattle.std.proofs.lemmas.Bool.{cond-true, cond-false, false≢true}
+use Rattle.std.proofs.lemmas.List.{get_or-map, length-map, map-set, same_lists, get_or-set_same, get_or-set_other, length-set, get_or-replicate, length-replicate, get_or_default}
+use Rattle.op_base.specs.Timestamp.{entry, zero_tag}
+use Rattle.causal_model.specs.Counts.{members}
+use Rattle.causal_model.specs.Crook.{first_some}
+use Rattle.causal_model.specs.Stability.{noop_window}
+use Rattle.tag_window.specs.declared.held.Held.{Held}
+use Rattle.tag_window.specs.Queue.{Line, tag_held}
+use Rattle.tag_window.specs.Queues.{AreQueues}
+
+-- what queues hold
+abbrev pub held_by : List Line → List (List Held)
+held_by lines = map (λ (q : Line). q.held) lines
+
+-- what is held of a member is what its queue holds
+pub held_by-at : (lines : List Line) (x : ℕ) (q : Line) → x < length lines → get_or (held_by lines) x [] ≡ (get_or lines x q).held
+held_by-at lines x q l = get_or-map (λ (p : Line). p.held) lines x q [] l
+
+-- a queue that took one more is the list with it at its end
+pub held_by-push : (lines : List Line) (x : ℕ) (q new : Line) (h : Held) → x < length lines → q ≡ get_or lines x q → new ≡ record q { held = q.held ++ h ∷ [] }
+    → held_by (set lines x new) ≡ set (held_by lines) x (get_or (held_by lines) x [] ++ h ∷ [])
+held_by-push lines x q new h l at is =
+    let same : new.held ≡ get_or (held_by lines) x [] ++ h ∷ [] = ap (λ (p : Line). p.held) is ∙ ap (λ (p : Line). p.held ++ h ∷ []) at ∙ ap (λ hs. hs ++ h ∷ []) (sym (held_by-at lines x q l)) in
+    map-set (λ (p : Line). p.held) lines x new ∙ ap (set (held_by lines) x) same
+
+-- what is not held in a member's queue is not held of the member
+pub not_found : (w z : ℕ) (lines : List Line) (x : ℕ) (q : Line) (seq : ℕ) → AreQueues w z lines → x < length lines → q ≡ get_or lines x q → tag_held q.n q.origin q.held seq ≡ zero_tag q.n
+    → tag_held (length (held_by lines)) x (get_or (held_by lines) x []) seq ≡ zero_tag (length (held_by lines))
+not_found w z lines x q seq are l at none =
+    let each = are.each x q l in
+    let n : q.n ≡ length (held_by lines) = ap (λ (p : Line). p.n) at ∙ each.0 ∙ sym (length-map lines (λ (p : Line). p.held)) in
+    let origin : q.origin ≡ x = ap (λ (p : Line). p.origin) at ∙ each.1 in
+    let held : q.held ≡ get_or (held_by lines) x [] = ap (λ (p : Line). p.held) at ∙ sym (held_by-at lines x q l) in
+    sym (λ i. tag_held (n i) (origin i) (held i) seq) ∙ none ∙ ap zero_tag n
+
+-- what a queue holds where the stable ones went
+abbrev pub left_of : List ℕ → Line → Line
+left_of stable q = record q { held = filter (λ h. nat_lt (entry stable q.origin) (entry h.tag q.origin)) q.held }
+
+-- queues that let go of the stable ones are the queues of a window
+pub left_are_queues : (w z : ℕ) (stable : List ℕ) (old new : List Line) → AreQueues w z old → length new ≡ length old → ((x : ℕ) (q : Line) → x < length old → get_or new x q ≡ left_of stable (get_or old x q)) → AreQueues w z new
+left_are_queues w z stable old new are same each = record {
+  some = omega (arith, same, are.some);
+  few = omega (arith, same, are.few);
+  noops = are.noops ∙ ap (λ n. noop_window n w) (sym same);
+  each = λ x q l.
+    let k : x < length old = omega (arith, l, same) in
+    let was = are.each x q k in
+    let left = each x q k in
+    (ap (λ (p : Line). p.n) left ∙ was.0 ∙ sym same, ap (λ (p : Line). p.origin) left ∙ was.1, ap (λ (p : Line). p.room) left ∙ was.2);
+}
+
+-- what they hold then
+pub held_by-left : (w z : ℕ) (stable : List ℕ) (old new : List Line) → AreQueues w z old → length new ≡ length old → ((x : ℕ) (q : Line) → x < length old → get_or new x q ≡ left_of stable (get_or old x q))
+    → (x : ℕ) → x < length (held_by old) → get_or (held_by new) x [] ≡ filter (λ h. nat_lt (entry stable x) (entry h.tag x)) (get_or (held_by old) x [])
+held_by-left w z stable old new are same each x l =
+    let q : Line = record { n = 0; origin = 0; room = 0; held = [] } in
+    let k : x < length old = omega (arith, l, length-map old (λ (p : Line). p.held)) in
+    held_by-at new x q (omega (arith, k, same)) ∙ ap (λ (p : Line). p.held) (each x q k)
+    ∙ (λ i. filter (λ h. nat_lt (entry stable ((are.each x q k).1 i)) (entry h.tag ((are.each x q k).1 i))) (sym (held_by-at old x q k) i))
+
+-- empty queues, one a member
+pub empty_are_queues : (n w z room : ℕ) (lines : List Line) → 1 ≤ n → n ≤ 16 → z ≡ noop_window n w → room ≡ w + z → length lines ≡ n → ((x : ℕ) (q : Line) → x < n → get_or lines x q ≡ record { n = n; origin = x; room = room; held = [] }) → AreQueues w z lines
+empty_are_queues n w z room lines some few noops is len each = record {
+  some = omega (arith, some, len);
+  few = omega (arith, few, len);
+  noops = noops ∙ ap (λ k. noop_window k w) (sym len);
+  each = λ x q l.
+    let empty = each x q (omega (arith, l, len)) in
+    (ap (λ (p : Line). p.n) empty ∙ sym len, ap (λ (p : Line). p.origin) empty, ap (λ (p : Line). p.room) empty ∙ is);
+}
+
+pub held_by-empty : (n room : ℕ) (lines : List Line) → length lines ≡ n → ((x : ℕ) (q : Line) → x < n → get_or lines x q ≡ record { n = n; origin = x; room = room; held = [] }) → held_by lines ≡ replicate n []
+held_by-empty n room lines len each = same_lists (held_by lines) (replicate n []) (length-map lines (λ (p : Line). p.held) ∙ len ∙ sym (length-replicate n [])) (λ x d l.
+    let q : Line = record { n = 0; origin = 0; room = 0; held = [] } in
+    let k : x < n = omega (arith, l, length-map lines (λ (p : Line). p.held), len) in
+    get_or-map (λ (p : Line). p.held) lines x q d (omega (arith, k, len)) ∙ ap (λ (p : Line). p.held) (each x q k) ∙ sym (get_or-replicate n x [] d k))
+
+-- ---- the first member of whom something is told
+
+module _ {X : Type 0} (f : ℕ → Option X) where
+  first_in_range : (a len k : ℕ) → k < len → ((y : ℕ) → y < k → f (a + y) ≡ None) → is_some (f (a + k)) ≡ true → first_some (map f (range_with_len a len)) ≡ f (a + k)
+  first_in_range a zero k l before here = absurd (omega (arith, l))
+  first_in_range a (suc len) zero l before here =
+      let e : a + 0 ≡ a = omega arith in
+      subst (λ b. first_some (f a ∷ map f (range_with_len (a + 1) len)) ≡ f b) (sym e) (told (f a) (map f (range_with_len (a + 1) len)) (subst (λ b. is_some (f b) ≡ true) e here)) where
+        told : (o : Option X) (os : List (Option X)) → is_some o ≡ true → first_some (o ∷ os) ≡ o
+        told None os t = absurd (false≢true t)
+        told (Some x) os t = refl
+  first_in_range a (suc len) (suc k) l before here =
+      let next : (y : ℕ) → a + 1 + y ≡ a + suc y = λ y. omega arith in
+      let none : f a ≡ None = ap f (omega arith) ∙ before 0 (omega arith) in
+      ap (λ o. first_some (o ∷ map f (range_with_len (a + 1) len))) none
+      ∙ first_in_range (a + 1) len k (omega (arith, l)) (λ y b. ap f (next y) ∙ before (suc y) (omega (arith, b))) (ap (λ b. is_some (f b)) (next k) ∙ here) ∙ ap f (next k)
+
+  none_in_range : (a len : ℕ) → ((y : ℕ) → y < len → f (a + y) ≡ None) → first_some (map f (range_with_len a len)) ≡ None
+  none_in_range a zero each = refl
+  none_in_range a (suc len) each =
+      ap (λ o. first_some (o ∷ map f (range_with_len (a + 1) len))) (ap f (omega arith) ∙ each 0 (omega arith))
+      ∙ none_in_range (a + 1) len (λ y l. ap f (omega arith) ∙ each (suc y) (omega (arith, l)))
+
+  pub first_told : (n k : ℕ) → k < n → ((y : ℕ) → y < k → f y ≡ None) → is_some (f k) ≡ true → first_some (map f (members n)) ≡ f k
+  first_told n k l before here =
+      let e : 0 + k ≡ k = omega arith in
+      first_in_range 0 n k l (λ y b. ap f (omega arith) ∙ before y b) (ap (λ b. is_some (f b)) e ∙ here) ∙ ap f e
+
+  pub none_told : (n : ℕ) → ((y : ℕ) → y < n → f y ≡ None) → first_some (map f (members n)) ≡ None
+  none_told n each = none_in_range 0 n (λ y l. ap f (omega arith) ∙ each y l)
+
+module _ (p : ℕ → Bool) where
+  find_in_range : (a len k : ℕ) → k < len → ((y : ℕ) → y < k → p (a + y) ≡ false) → p (a + k) ≡ true → find p (range_with_len a len) ≡ Some (a + k)
+  find_in_range a zero k l before here = absurd (omega (arith, l))
+  find_in_range a (suc len) zero l before here =
+      let e : a + 0 ≡ a = omega arith in
+      cond-true (p a) (Some a) (find p (range_with_len (a + 1) len)) (ap p (sym e) ∙ here) ∙ ap Some (sym e)
+  find_in_range a (suc len) (suc k) l before here =
+      let next : (y : ℕ) → a + 1 + y ≡ a + suc y = λ y. omega arith in
+      cond-false (p a) (Some a) (find p (range_with_len (a + 1) len)) (ap p (omega arith) ∙ before 0 (omega arith))
+      ∙ find_in_range (a + 1) len k (omega (arith, l)) (λ y b. ap p (next y) ∙ before (suc y) (omega (arith, b))) (ap p (next k) ∙ here) ∙ ap Some (next k)
+
+  find_none_in_range : (a len : ℕ) → ((y : ℕ) → y < len → p (a + y) ≡ false) → find p (range_with_len a len) ≡ None
+  find_none_in_range a zero each = refl
+  find_none_in_range a (suc len) each =
+      cond-false (p a) (Some a) (find p (range_with_len (a + 1) len)) (ap p (omega arith) ∙ each 0 (omega arith))
+      ∙ find_none_in_range (a + 1) len (λ y l. ap p (omega arith) ∙ each (suc y) (omega (arith, l)))
+
+  pub least_found : (n k : ℕ) → k < n → ((y : ℕ) → y < k → p y ≡ false) → p k ≡ true → find p (members n) ≡ Some k
+  least_found n k l before here =
+      let e : 0 + k ≡ k = omega arith in
+      find_in_range 0 n k l (λ y b. ap p (omega arith) ∙ before y b) (ap p e ∙ here) ∙ ap Some e
+
+  pub none_found : (n : ℕ) → ((y : ℕ) → y < n → p y ≡ false) → find p (members n) ≡ None
+  none_found n each = find_none_in_range 0 n (λ y l. ap p (omega arith) ∙ each y l)
