@@ -1,5 +1,5 @@
 -- With a message and without what is stable then, a window of the messages before is one of the messages with it.
-use Rattle.std.proofs.Common.{◌≡◌, ◌≢◌, ℕ, ◌<◌, ◌≤◌, All, Bool, true, false, not, ◌&&◌, ◌||◌, ◌==◌, cond, nat_le, nat_lt, IsTrue, Option, Some, None, List, [], ◌∷◌, ◌++◌, length, map, set, get_or, refl, sym, ap, subst, ◌∙◌, inl, inr, append-nil, arith}
+use Rattle.std.proofs.Common.{◌≡◌, ◌≢◌, ℕ, ◌<◌, All, Bool, true, false, not, ◌&&◌, ◌==◌, cond, nat_le, nat_lt, IsTrue, Option, Some, None, List, [], ◌∷◌, ◌++◌, length, map, set, refl, sym, ap, subst, ◌∙◌, inl, inr, append-nil, arith}
 use mathlib.Core.Bool.{and_comm}
 use Rattle.std.specs.Prelude.{is_none}
 use Rattle.std.specs.List.{filter}

@@ -1,9 +1,9 @@
 -- The queues of all members, as what a window holds of each.
-use Rattle.std.proofs.Common.{◌≡◌, ℕ, ◌+◌, ◌-◌, ◌*◌, ◌<◌, ◌≤◌, Bool, true, false, nat_lt, List, [], ◌∷◌, ◌++◌, length, map, set, get_or, replicate, zero, suc, refl, sym, ap, subst, ◌∙◌, arith, Option, Some, None}
-use Rattle.std.specs.Prelude.{is_some, is_none}
+use Rattle.std.proofs.Common.{◌≡◌, ℕ, ◌+◌, ◌<◌, ◌≤◌, Bool, true, false, nat_lt, List, [], ◌∷◌, ◌++◌, length, take, drop, append-nil, map, set, get_or, replicate, zero, suc, refl, sym, ap, subst, ◌∙◌, arith, Option, Some, None}
+use Rattle.std.specs.Prelude.{is_some}
 use Rattle.std.specs.List.{filter, find, range_with_len}
 use Rattle.std.proofs.lemmas.Bool.{cond-true, cond-false, false≢true}
-use Rattle.std.proofs.lemmas.List.{get_or-map, length-map, map-set, same_lists, get_or-set_same, get_or-set_other, length-set, get_or-replicate, length-replicate, get_or_default}
+use Rattle.std.proofs.lemmas.List.{get_or-map, length-map, map-set, same_lists, get_or-replicate, length-replicate, drop_all, take_all}
 use Rattle.op_base.specs.Timestamp.{entry, zero_tag}
 use Rattle.causal_model.specs.Counts.{members}
 use Rattle.causal_model.specs.Crook.{first_some}
@@ -41,6 +41,11 @@ not_found w z lines x q seq are l at none =
 abbrev pub left_of : List ℕ → Line → Line
 left_of stable q = record q { held = filter (λ h. nat_lt (entry stable q.origin) (entry h.tag q.origin)) q.held }
 
+-- a vector whose items were all written over has what was written
+pub written_over : (n : ℕ) (old new : List Line) → n ≡ length old → length new ≡ length old → take n (new ++ drop (length new) old) ≡ new
+written_over n old new len same =
+    ap (λ rest. take n (new ++ rest)) (drop_all (length new) old (omega (arith, same))) ∙ ap (take n) (append-nil new) ∙ take_all n new (omega (arith, len, same))
+
 -- queues that let go of the stable ones are the queues of a window
 pub left_are_queues : (w z : ℕ) (stable : List ℕ) (old new : List Line) → AreQueues w z old → length new ≡ length old → ((x : ℕ) (q : Line) → x < length old → get_or new x q ≡ left_of stable (get_or old x q)) → AreQueues w z new
 left_are_queues w z stable old new are same each = record {
@@ -48,10 +53,10 @@ left_are_queues w z stable old new are same each = record {
   few = omega (arith, same, are.few);
   noops = are.noops ∙ ap (λ n. noop_window n w) (sym same);
   each = λ x q l.
-    let k : x < length old = omega (arith, l, same) in
-    let was = are.each x q k in
-    let left = each x q k in
-    (ap (λ (p : Line). p.n) left ∙ was.0 ∙ sym same, ap (λ (p : Line). p.origin) left ∙ was.1, ap (λ (p : Line). p.room) left ∙ was.2);
+      let k : x < length old = omega (arith, l, same) in
+      let was = are.each x q k in
+      let left = each x q k in
+      (ap (λ (p : Line). p.n) left ∙ was.0 ∙ sym same, ap (λ (p : Line). p.origin) left ∙ was.1, ap (λ (p : Line). p.room) left ∙ was.2);
 }
 
 -- what they hold then
@@ -70,8 +75,8 @@ empty_are_queues n w z room lines some few noops is len each = record {
   few = omega (arith, few, len);
   noops = noops ∙ ap (λ k. noop_window k w) (sym len);
   each = λ x q l.
-    let empty = each x q (omega (arith, l, len)) in
-    (ap (λ (p : Line). p.n) empty ∙ sym len, ap (λ (p : Line). p.origin) empty, ap (λ (p : Line). p.room) empty ∙ is);
+      let empty = each x q (omega (arith, l, len)) in
+      (ap (λ (p : Line). p.n) empty ∙ sym len, ap (λ (p : Line). p.origin) empty, ap (λ (p : Line). p.room) empty ∙ is);
 }
 
 pub held_by-empty : (n room : ℕ) (lines : List Line) → length lines ≡ n → ((x : ℕ) (q : Line) → x < n → get_or lines x q ≡ record { n = n; origin = x; room = room; held = [] }) → held_by lines ≡ replicate n []

@@ -1,9 +1,9 @@
 -- What a window of a history's unstable messages tells of a message that comes: its cause over the whole history.
-use Rattle.std.proofs.Common.{◌≡◌, ◌≢◌, ℕ, ◌+◌, ◌<◌, ◌≤◌, Bool, true, false, not, ◌&&◌, ◌||◌, ◌==◌, nat_le, nat_lt, IsTrue, Option, Some, None, List, [], ◌∷◌, ◌++◌, length, length-append, map, refl, sym, ap, subst, ◌∙◌, inl, inr, if◌then◌else◌, arith}
+use Rattle.std.proofs.Common.{◌≡◌, ◌≢◌, ℕ, ◌+◌, ◌<◌, Bool, true, false, not, ◌&&◌, ◌||◌, ◌==◌, nat_le, nat_lt, IsTrue, Option, Some, None, List, [], ◌∷◌, ◌++◌, length, length-append, map, refl, sym, ap, ◌∙◌, inl, inr, if◌then◌else◌, arith}
 use Rattle.std.specs.Prelude.{is_none}
 use Rattle.std.specs.List.{filter, count_by}
 use Rattle.std.specs.Option.{option_map}
-use Rattle.std.proofs.lemmas.Bool.{cases_eq, cases_lt, cond-true, cond-false, eqb-true, ltb-true, eq-eqb, ne_eqb, le-leb, lt-leb, and_parts, cases_Bool, false≢true, or_left, or_right, both_ways}
+use Rattle.std.proofs.lemmas.Bool.{cases_eq, cases_lt, cond-true, cond-false, eqb-true, ltb-true, eq-eqb, ne_eqb, le-leb, lt-leb, and_parts, cases_Bool, false≢true, or_right}
 use Rattle.std.proofs.lemmas.List.{same_lists}
 use Rattle.std.proofs.lemmas.List.FromFn.{length-map-range_with_len, get_or-map-range_with_len}
 use Rattle.std.proofs.lemmas.List.Elements.{filter_agree, filter-append}
@@ -23,7 +23,7 @@ use Rattle.causal_model.proofs.Unclosed.{window_tells_unclosed, seen_before_is_c
 use Rattle.tag_window.specs.declared.held.Held.{Held}
 use Rattle.tag_window.specs.Window.{Window, held_of, is_of_kind, held_count}
 use Rattle.tag_window.specs.Queue.{tag_held}
-use Rattle.tag_window.specs.Check.{unclosed_by, unclosed_in, added, count_after, overrun_in, noop_overrun_in, crook_by, crook_in}
+use Rattle.tag_window.specs.Check.{unclosed_by, unclosed_in, count_after, overrun_in, noop_overrun_in, crook_by, crook_in}
 use Rattle.tag_window.specs.History.{held_message, IsWindowOf}
 use Rattle.tag_window.proofs.Sender.{unstable_of_sender}
 
@@ -82,12 +82,12 @@ tag_of-unstable stable n x (m ∷ ms) s =
     let is : Bool = (m.origin == x) && (number m == s) in
     let unstable : Bool = not (is_stable stable m) in
     let alike : is ≡ true → unstable ≡ up = λ t.
-      let both = and_parts (m.origin == x) (number m == s) t in
-      (λ i. not (nat_le (eqb-true (number m) s both.1 i) (entry stable (eqb-true m.origin x both.0 i)))) in
+    let both = and_parts (m.origin == x) (number m == s) t in
+    (λ i. not (nat_le (eqb-true (number m) s both.1 i) (entry stable (eqb-true m.origin x both.0 i)))) in
     let others = tag_of n (filter (λ e. not (is_stable stable e)) ms) x s in
     let kept = filter (λ e. not (is_stable stable e)) ms in
     let first : tag_of n (if unstable then m ∷ kept else kept) x s ≡ (if unstable then (if is then m.tag else others) else others) =
-      elim unstable as (λ b. tag_of n (if b then m ∷ kept else kept) x s ≡ (if b then (if is then m.tag else others) else others)) [ true ↦ refl | false ↦ refl ] in
+    elim unstable as (λ b. tag_of n (if b then m ∷ kept else kept) x s ≡ (if b then (if is then m.tag else others) else others)) [ true ↦ refl | false ↦ refl ] in
     first ∙ moved is unstable up m.tag others (tag_of n ms x s) (zero_tag n) alike rest where
       moved : (is unstable up : Bool) (tag others all none : List ℕ) → (is ≡ true → unstable ≡ up) → others ≡ (if up then all else none)
           → (if unstable then (if is then tag else others) else others) ≡ (if up then (if is then tag else all) else none)

@@ -1,5 +1,5 @@
 -- Of which messages a window is.
-use Rattle.std.specs.Prelude.{◌≡◌, ℕ, ◌<◌, Bool, not, ◌==◌, List, [], ◌∷◌, ◌++◌, length, map, filter}
+use Rattle.std.specs.Prelude.{◌≡◌, ℕ, ◌<◌, not, ◌==◌, List, [], ◌∷◌, ◌++◌, length, map, filter}
 use Rattle.op_base.specs.declared.message.Message.{Message}
 use Rattle.causal_model.specs.Stability.{carries_operation, unstable_messages, unstable_of}
 use Rattle.tag_window.specs.declared.held.Held.{Held}

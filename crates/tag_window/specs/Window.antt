@@ -1,5 +1,5 @@
 -- What a window holds: for each member the timestamps of its unstable messages, in the order of their numbers.
-use Rattle.std.specs.Prelude.{◌≡◌, ℕ, ◌+◌, ◌-◌, ◌<◌, Bool, not, List, [], ◌∷◌, length, count_by, slice_index_or, if◌then◌else◌}
+use Rattle.std.specs.Prelude.{◌≡◌, ℕ, ◌+◌, ◌-◌, ◌<◌, Bool, not, List, [], length, count_by, slice_index_or, if◌then◌else◌}
 use Rattle.op_base.specs.Timestamp.{entry}
 use Rattle.tag_window.specs.declared.held.Held.{Held}
 

@@ -192,7 +192,11 @@ impl TagWindow {
         ensures small { result ≤ 65535 }
     {
         let queue = &self.queues[me as usize];
-        if noop { queue.noops() } else { queue.operations() }
+        if noop {
+            queue.noops()
+        } else {
+            queue.operations()
+        }
     }
 
     /// How many members it is of, 1 to 16.
@@ -268,7 +272,8 @@ impl TagWindow {
         requires stable { length stable_after.now ≡ length self.now.held }
         ensures { result ≡ overrun_in self.now.w self.now message.now stable_after.now }
     {
-        let count = self.own_unstable(message.origin, false) + more_operations(message, stable_after);
+        let count = self.own_unstable(message.origin, false)
+            + more_operations(message, stable_after);
         if count > self.w as u32 {
             Some(Crook::Overrun { count })
         } else {

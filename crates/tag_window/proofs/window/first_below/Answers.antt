@@ -1,4 +1,4 @@
-use Rattle.std.proofs.Common.{◌<◌, length, sym, arith, nat_lt}
+use Rattle.std.proofs.Common.{length, sym, arith, nat_lt}
 use Rattle.std.proofs.lemmas.Bool.{lt-ltb}
 use Rattle.op_base.specs.Timestamp.{entry}
 use Rattle.tag_window.proofs.Lines.{least_found, none_found}

@@ -1,10 +1,10 @@
-use Rattle.std.proofs.Common.{◌≡◌, ℕ, ◌+◌, ◌-◌, refl, ◌<◌, ◌≤◌, length, drop, if◌then◌else◌, deque_capacity, sym, ap, subst, ◌∙◌, arith, get_or}
+use Rattle.std.proofs.Common.{◌≡◌, ℕ, ◌-◌, refl, ◌<◌, ◌≤◌, length, drop, if◌then◌else◌, deque_capacity, sym, ap, subst, ◌∙◌, arith, get_or}
 use Rattle.std.specs.Prelude.{nat_lt}
 use Rattle.std.specs.List.{filter}
 use Rattle.op_base.specs.Timestamp.{entry}
 use Rattle.tag_window.specs.declared.held.Held.{Held}
 use Rattle.tag_window.specs.declared.queue.Queue.TheInside.{Inside}
-use Rattle.tag_window.specs.Queue.{Line, IsSound}
+use Rattle.tag_window.specs.Queue.{Line}
 use Rattle.tag_window.proofs.Queues.{left_after, all_above, first_goes, sound-drop}
 use Rattle.tag_window.proofs.queue.Queue.drop_stable.Goals as goal
 use Rattle.tag_window.proofs.queue.Queue.drop_stable.Goals.{then-first, else-first}
@@ -38,12 +38,12 @@ loop-first-preserved c =
     let items : popped.items ≡ drop 1 now.held.items = c.pop_front.ensures.rest ∙ ap (λ (a : Inside). drop 1 a.held.items) is in
     record {
       sound = sound-drop (record { n = now.n; origin = now.origin; room = now.room; held = now.held.items }) (record { n = after.n; origin = after.origin; room = after.room; held = popped.items }) (deque_capacity now.held) now.noops (deque_capacity popped) after.noops first inv.sound some
-        (λ i. record { n = (is i).n; origin = (is i).origin; room = (is i).room; held = items i })
-        (c.pop_front.ensures.capacity ∙ ap (λ (a : Inside). deque_capacity a.held) is)
-        (ap (λ (a : Inside). a.noops) is ∙ changed.2 ∙ ap (λ (h : Held). now.noops - (if h.noop then 1 else 0)) (sym at_first));
+          (λ i. record { n = (is i).n; origin = (is i).origin; room = (is i).room; held = items i })
+          (c.pop_front.ensures.capacity ∙ ap (λ (a : Inside). deque_capacity a.held) is)
+          (ap (λ (a : Inside). a.noops) is ∙ changed.2 ∙ ap (λ (h : Held). now.noops - (if h.noop then 1 else 0)) (sym at_first));
       members = ap (λ (a : Inside). a.n) is ∙ inv.members;
       origin = ap (λ (a : Inside). a.origin) is ∙ inv.origin;
       room = ap (λ (a : Inside). a.room) is ∙ inv.room;
       kept = subst (λ o. filter (λ h. nat_lt c.at-count.result (entry h.tag o)) popped.items ≡ filter (λ h. nat_lt c.at-count.result (entry h.tag o)) c.self.inside.held.items) (sym (ap (λ (a : Inside). a.origin) is))
-        (ap (filter (λ h. nat_lt c.at-count.result (entry h.tag now.origin))) items ∙ first_goes now.origin c.at-count.result now.held.items first some low ∙ inv.kept);
+          (ap (filter (λ h. nat_lt c.at-count.result (entry h.tag now.origin))) items ∙ first_goes now.origin c.at-count.result now.held.items first some low ∙ inv.kept);
     }

@@ -1,4 +1,4 @@
-use Rattle.std.proofs.Common.{◌≡◌, ℕ, length, deque_capacity}
+use Rattle.std.proofs.Common.{◌≡◌, length, deque_capacity}
 use Rattle.std.specs.Prelude.{nat_lt}
 use Rattle.std.specs.List.{filter}
 use Rattle.op_base.specs.Timestamp.{entry}

@@ -1,4 +1,4 @@
-use Rattle.std.proofs.Common.{◌≡◌, ℕ, ◌-◌, not, sym, subst, arith}
+use Rattle.std.proofs.Common.{◌≡◌, ◌-◌, not, subst, arith}
 use Rattle.std.specs.List.{count_by}
 use Rattle.tag_window.specs.declared.held.Held.{Held}
 use Rattle.tag_window.specs.Queue.{Line}

@@ -1,6 +1,6 @@
 use Rattle.std.proofs.Common.{◌≡◌, ℕ, ◌+◌, ◌<◌, length, if◌then◌else◌, ◌++◌, ◌∷◌, [], deque_capacity, sym, ap, subst, ◌∙◌, arith}
 use Rattle.tag_window.specs.declared.queue.Queue.TheInside.{Inside}
-use Rattle.tag_window.specs.Queue.{Line, IsSound}
+use Rattle.tag_window.specs.Queue.{Line}
 use Rattle.tag_window.specs.Window.{IsNextNumber}
 use Rattle.tag_window.proofs.Queues.{sound-push}
 use Rattle.tag_window.proofs.queue.Queue.push.Goals as goal

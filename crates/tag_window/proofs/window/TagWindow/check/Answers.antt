@@ -1,4 +1,4 @@
-use Rattle.std.proofs.Common.{◌<◌, IsTrue, sym, ap, subst, ◌∙◌}
+use Rattle.std.proofs.Common.{IsTrue, ap, subst, ◌∙◌}
 use Rattle.op_base.specs.Message.{fits}
 use Rattle.tag_window.specs.Check.{verdict, crook_in}
 use Rattle.tag_window.proofs.Told.{crook_told, fits_member}

@@ -1,6 +1,5 @@
-use Rattle.std.proofs.Common.{◌≡◌, ℕ, ◌+◌, ◌<◌, [], length, get_or, refl, ap, ◌∙◌, arith}
+use Rattle.std.proofs.Common.{◌≡◌, ◌+◌, [], length, get_or, refl, ap, ◌∙◌, arith}
 use Rattle.std.proofs.lemmas.List.{length-map, get_or-replicate}
-use Rattle.tag_window.specs.declared.held.Held.{Held}
 use Rattle.tag_window.specs.Queue.{Line}
 use Rattle.tag_window.proofs.Lines.{empty_are_queues, held_by-empty}
 use Rattle.tag_window.proofs.window.TagWindow.create.Goals as goal
