@@ -5,6 +5,8 @@
 
 mod held;
 mod queue;
+#[cfg(test)]
+mod tests;
 mod window;
 
 pub use held::Held;
