@@ -1,0 +1,4 @@
+pub mod Minimums
+pub mod Entries
+pub mod Renewals
+pub mod Standing

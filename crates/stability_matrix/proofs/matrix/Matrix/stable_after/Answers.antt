@@ -1,0 +1,5 @@
+use Rattle.stability_matrix.proofs.Standing.{stable_noted}
+use Rattle.stability_matrix.proofs.matrix.Matrix.stable_after.Goals as goal
+
+pub returns-clause-known : goal.returns-clause-known
+returns-clause-known c = stable_noted c.args.origin c.args.tag c.args.self.now _ c.requires.origin c.requires.other c.renewed.ensures

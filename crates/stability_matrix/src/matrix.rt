@@ -1,0 +1,144 @@
+//! A matrix of timestamps: what a replica knows that each member has.
+
+ghost use Rattle.std.specs.Prelude.{◌≡◌, ◌≢◌, ℕ, ◌<◌, ◌≤◌, List, [], length, slice_set, replicate};
+ghost use Rattle.op_base.specs.Message.{id_of};
+ghost use Rattle.op_base.specs.Timestamp.{zero_tag, covers};
+ghost use Rattle.op_base.specs.declared.message.Message.{Message};
+ghost use Rattle.causal_model.specs.Stability.{known_vector, stable_vector, is_stable};
+
+use crate::columns::least_after;
+use op_base::{MOST_MEMBERS, MessageId, Tag};
+use std::marker::Model;
+
+/// What member `me` of a store knows that each member has: a row for each. Contracts see `me` and the rows.
+#[derive(Debug, Drop)]
+pub struct Matrix {
+    n: u8,
+    me: u8,
+    rows: [Tag; MOST_MEMBERS],
+    stable: Tag,
+}
+
+impl Model for Matrix {
+    ghost use Rattle.stability_matrix.specs.Rows.{Known};
+
+    ghost Value = { Known };
+
+    ghost use Rattle.stability_matrix.specs.Fields.{known_of, IsKept};
+
+    ghost view = { known_of };
+
+    ghost invariant = { IsKept };
+}
+
+impl Matrix {
+    ghost use Rattle.stability_matrix.specs.Rows.{row_of, stable_of, noted};
+    ghost use Rattle.stability_matrix.specs.Standing.{IsMatrixOf, KeepsKnown, KeepsKnownOfOwn, StableAfter};
+
+    /// The matrix of a member of `n` before anything was delivered: all zeros.
+    pub fn new(n: u8, me: u8) -> Matrix
+        requires some { 1 ≤ n }
+        requires few { n ≤ 16 }
+        requires member { me < n }
+        ensures zeros { result ≡ record { me = me; rows = replicate n (zero_tag n) } }
+        ensures known { IsMatrixOf n me [] result }
+    {
+        let zero = Tag::zero(n);
+        Matrix {
+            n,
+            me,
+            rows: [zero; MOST_MEMBERS],
+            stable: zero,
+        }
+    }
+
+    /// What a member is known to have.
+    pub fn row(&self, y: u8) -> Tag
+        requires { y < length self.now.rows }
+        ensures row { result ≡ row_of self.now.rows y }
+        ensures entries { length result ≡ length self.now.rows }
+        ensures known { (n me : ℕ) (messages : List Message) → IsMatrixOf n me messages self.now → result ≡ known_vector n me messages y }
+    {
+        self.rows[y as usize]
+    }
+
+    /// Notes a message of another member: its row becomes the timestamp, and the own row's entry at it the message's number.
+    pub fn note(&mut self, origin: u8, tag: Tag)
+        requires origin { origin < length self.old.rows }
+        requires other { origin ≢ self.old.me }
+        requires entries { length tag ≡ length self.old.rows }
+        ensures noted { self.new ≡ record { me = self.old.me; rows = noted self.old.me origin tag self.old.rows } }
+        ensures known { KeepsKnown origin tag self.old self.new }
+    {
+        self.renew(origin, &tag);
+    }
+
+    /// Notes an own message: the own row becomes the timestamp.
+    pub fn note_own(&mut self, tag: Tag)
+        requires { length tag ≡ length self.old.rows }
+        ensures noted { self.new ≡ record { me = self.old.me; rows = slice_set self.old.rows self.old.me tag } }
+        ensures known { KeepsKnownOfOwn tag self.old self.new }
+    {
+        self.renew(self.me, &tag);
+    }
+
+    /// The least entry of each column: how many messages of each member every member is known to have.
+    pub fn stable(&self) -> Tag
+        ensures least { result ≡ stable_of self.now.rows }
+        ensures known { (n me : ℕ) (messages : List Message) → IsMatrixOf n me messages self.now → result ≡ stable_vector n me messages }
+    {
+        self.stable
+    }
+
+    /// What `stable` gives after `note` with the same arguments.
+    pub fn stable_after(&self, origin: u8, tag: Tag) -> Tag
+        requires origin { origin < length self.now.rows }
+        requires other { origin ≢ self.now.me }
+        requires entries { length tag ≡ length self.now.rows }
+        ensures least { result ≡ stable_of (noted self.now.me origin tag self.now.rows) }
+        ensures known { StableAfter origin tag self.now result }
+    {
+        self.renewed(origin, &tag)
+    }
+
+    /// Whether every member is known to have a message.
+    pub fn is_stable(&self, id: MessageId) -> bool
+        requires { id.origin < length self.now.rows }
+        ensures least { result ≡ covers (stable_of self.now.rows) id }
+        ensures known { (n me : ℕ) (messages : List Message) (m : Message) → IsMatrixOf n me messages self.now → id_of m ≡ id → result ≡ is_stable (stable_vector n me messages) m }
+    {
+        self.stable.covers_id(id)
+    }
+
+    /// Puts the timestamp of a message of `origin` into its row, and its number into the own row.
+    fn renew(&mut self, origin: u8, tag: &Tag)
+        requires origin { origin < length self.old.rows }
+        requires entries { length tag.now ≡ length self.old.rows }
+        ensures { self.new ≡ record { me = self.old.me; rows = noted self.old.me origin tag.now self.old.rows } }
+    {
+        self.stable = self.renewed(origin, tag);
+        self.rows[origin as usize] = *tag;
+        let mut own = self.rows[self.me as usize];
+        own.set(origin, tag.at(origin));
+        self.rows[self.me as usize] = own;
+    }
+
+    /// The least entry of each column, as it is after a message of `origin` with this timestamp.
+    fn renewed(&self, origin: u8, tag: &Tag) -> Tag
+        requires origin { origin < length self.now.rows }
+        requires entries { length tag.now ≡ length self.now.rows }
+        ensures { result ≡ stable_of (noted self.now.me origin tag.now self.now.rows) }
+    {
+        let rows = &self.rows[..self.n as usize];
+        let row = &rows[origin as usize];
+        let mut stable = self.stable;
+        for x in 0..self.n {
+            let (was, now, least) = (row.at(x), tag.at(x), stable.at(x));
+            let stays = was == now || least < was && least < now;
+            if x == origin || !stays {
+                stable.set(x, least_after(rows, self.me, origin, tag, x));
+            }
+        }
+        stable
+    }
+}
