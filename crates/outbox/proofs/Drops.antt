@@ -1,0 +1,47 @@
+-- What is left of an outbox's messages, and what it stands for.
+use Rattle.std.proofs.Common.{◌≡◌, ℕ, zero, suc, ◌==◌, ◌+◌, ◌-◌, ◌<◌, ◌≤◌, List, [], ◌∷◌, ◌++◌, length, take, drop, get_or, refl, sym, ap, subst, ◌∙◌, inl, inr, if◌then◌else◌, append-nil, length-drop, zero-add, arith}
+use Rattle.std.specs.Prelude.{AllPairs, IsTrue}
+use Rattle.std.proofs.lemmas.Bool.{cases_eq, cond-true, cond-false, eq-eqb, ne_eqb}
+use Rattle.std.proofs.Math.Nat.{suc-add}
+use Rattle.std.proofs.lemmas.List.{get_or-drop, take_all}
+use Rattle.op_base.specs.declared.message.Message.{Message}
+use Rattle.causal_model.specs.Chapter.{is_chapter}
+use Rattle.causal_model.specs.Sending.{outbox_of}
+use Rattle.causal_model.specs.Stability.{stable_vector}
+use Rattle.causal_model.proofs.Logs.{outbox_of-push}
+use Rattle.outbox.specs.Sent.{Sent, unstable_in}
+use Rattle.outbox.specs.Standing.{IsBeforeDrop, SendsNext, DropsAfter}
+
+pub sends_next : (m : Message) (old new : List Message) → new ≡ old ++ m ∷ [] → SendsNext m old new
+sends_next m old new is n me ms stands own = (λ _. is ∙ ap (λ held. held ++ m ∷ []) stands, λ other. absurd (other own))
+
+pub drops_after : (stable : List ℕ) (old new : Sent) → new.messages ≡ unstable_in stable old.messages → DropsAfter stable old new
+drops_after stable old new is w me ms m l chapter before vector =
+    let held : old.messages ≡ outbox_of old.n me ms ++ (if m.origin == me then m ∷ [] else []) = elim (cases_eq m.origin me) [
+      | inl e ↦ before.0 e ∙ ap (λ last. outbox_of old.n me ms ++ last) (sym (cond-true (m.origin == me) (m ∷ []) [] (eq-eqb m.origin me e)))
+      | inr ne ↦ before.1 ne ∙ sym (ap (λ last. outbox_of old.n me ms ++ last) (cond-false (m.origin == me) (m ∷ []) [] (ne_eqb m.origin me ne)) ∙ append-nil (outbox_of old.n me ms))
+    ] in
+    is ∙ ap (λ tag. unstable_in tag old.messages) vector ∙ ap (unstable_in (stable_vector old.n me (ms ++ m ∷ []))) held ∙ sym (outbox_of-push old.n w me ms m l chapter)
+
+pub drop-drop : {X : Type 0} (xs : List X) (i j : ℕ) → drop j (drop i xs) ≡ drop (i + j) xs
+drop-drop [] zero j = ap (λ k. drop k []) (sym (zero-add j))
+drop-drop [] (suc i) zero = ap (λ k. drop k []) (sym (suc-add i zero))
+drop-drop [] (suc i) (suc j) = ap (λ k. drop k []) (sym (suc-add i (suc j)))
+drop-drop (x ∷ xs) zero j = ap (λ k. drop k (x ∷ xs)) (sym (zero-add j))
+drop-drop (x ∷ xs) (suc i) j = drop-drop xs i j ∙ ap (λ k. drop k (x ∷ xs)) (sym (suc-add i j))
+
+pub AllPairs-drop : {X : Type 0} (R : X → X → Type 0) (i : ℕ) (xs : List X) → AllPairs R xs → AllPairs R (drop i xs)
+AllPairs-drop R i xs pairs k j d less within =
+    let both = pairs (i + k) (i + j) d (omega (arith, less)) (omega (arith, within, length-drop i xs)) in
+    subst (λ y. R y (get_or (drop i xs) j d)) (sym (get_or-drop i xs k d)) (subst (λ y. R (get_or xs (i + k) d) y) (sym (get_or-drop i xs j d)) both)
+
+-- the slice from a place on is the list without what is before it
+pub looked_at : {X : Type 0} (xs ys : List X) (i : ℕ) → ys ≡ xs → take (length ys - i) (drop i ys) ≡ drop i xs
+looked_at xs ys i is = ap (λ zs. take (length zs - i) (drop i zs)) is ∙ take_all (length xs - i) (drop i xs) (omega (arith, length-drop i xs))
+
+-- where the slice without its first messages is its unstable ones, so is the list without both parts
+pub unstable_left : (stable : List ℕ) (xs ys : List Message) (i k : ℕ) → ys ≡ xs → drop k (take (length ys - i) (drop i ys)) ≡ unstable_in stable (take (length ys - i) (drop i ys))
+    → drop (i + k) xs ≡ unstable_in stable (drop i xs)
+unstable_left stable xs ys i k is rest =
+    let looked = looked_at xs ys i is in
+    sym (drop-drop xs i k) ∙ ap (drop k) (sym looked) ∙ rest ∙ ap (unstable_in stable) looked

@@ -1,0 +1,46 @@
+-- Messages of one origin with rising numbers, of which the stable ones stand in front.
+use Rattle.std.proofs.Common.{◌≡◌, ℕ, zero, suc, ◌<◌, ◌≤◌, Bool, true, false, not, All, List, [], ◌∷◌, length, drop, get_or, refl, sym, ap, ◌∙◌, inl, inr, arith}
+use Rattle.std.specs.Prelude.{AllPairs}
+use Rattle.std.proofs.lemmas.List.{get_or_default}
+use Rattle.std.specs.List.{filter}
+use Rattle.std.proofs.lemmas.Bool.{cond-true, cond-false, cases_lt, le-leb, leb-true, false_from_ne_true}
+use Rattle.op_base.specs.Message.{number}
+use Rattle.op_base.specs.Timestamp.{entry}
+use Rattle.op_base.specs.declared.message.Message.{Message}
+use Rattle.causal_model.specs.Stability.{is_stable}
+use Rattle.causal_model.proofs.ItemMaps.{filter_all_of}
+use Rattle.outbox.specs.Sent.{ComesAfter, unstable_in}
+
+-- a list of which the first ones fail a test, and the others pass, passes it without the first ones
+drop-is-filter : {X : Type 0} (p : X → Bool) (xs : List X) (i : ℕ) → ((k : ℕ) (d : X) → k < i → k < length xs → p (get_or xs k d) ≡ false)
+    → ((k : ℕ) (d : X) → i ≤ k → k < length xs → p (get_or xs k d) ≡ true) → drop i xs ≡ filter p xs
+drop-is-filter p [] zero first others = refl
+drop-is-filter p [] (suc i) first others = refl
+drop-is-filter p (x ∷ xs) zero first others = sym (filter_all_of p (x ∷ xs) (λ k d l. others k d (omega arith) l))
+drop-is-filter p (x ∷ xs) (suc i) first others =
+    drop-is-filter p xs i (λ k d l within. first (suc k) d (omega (arith, l)) (omega (arith, within))) (λ k d past within. others (suc k) d (omega (arith, past)) (omega (arith, within)))
+    ∙ sym (cond-false (p x) (x ∷ filter p xs) (filter p xs) (first zero x (omega arith) (omega arith)))
+
+-- what comes after a message that isn't stable isn't either
+after_unstable : (stable : List ℕ) (a b : Message) → ComesAfter a b → is_stable stable a ≡ false → is_stable stable b ≡ false
+after_unstable stable a b comes unstable = false_from_ne_true (is_stable stable b) (λ t.
+    let below : number b ≤ entry stable b.origin = leb-true (number b) (entry stable b.origin) t in
+    let at : entry stable a.origin ≡ entry stable b.origin = ap (entry stable) comes.of_origin in
+    let stands : is_stable stable a ≡ true = le-leb (number a) (entry stable a.origin) (omega (arith, below, at, comes.rises)) in
+    absurd (differ stands unstable)) where
+      differ : is_stable stable a ≡ true → is_stable stable a ≡ false → ⊥
+      differ t f = cc
+
+module _ (stable : List ℕ) (ms : List Message) where
+  -- without the stable ones in front, up to the first that isn't stable
+  pub unstable_from : (i : ℕ) (d : Message) → AllPairs ComesAfter ms → i < length ms → ((k : ℕ) (e : Message) → k < i → is_stable stable (get_or ms k e) ≡ true)
+      → is_stable stable (get_or ms i d) ≡ false → drop i ms ≡ unstable_in stable ms
+  unstable_from i d rise l before here =
+      drop-is-filter (λ m. not (is_stable stable m)) ms i (λ k e less within. ap not (before k e less)) (λ k e past within. elim (cases_lt i k) [
+        | inl later ↦ ap not (after_unstable stable (get_or ms i e) (get_or ms k e) (rise i k e later within) (ap (is_stable stable) (get_or_default ms i e d l) ∙ here))
+        | inr not_later ↦ let same : k ≡ i = omega (arith, past, not_later) in ap not (ap (λ j. is_stable stable (get_or ms j e)) same ∙ ap (is_stable stable) (get_or_default ms i e d l) ∙ here)
+      ])
+
+  -- where all are stable, none is left
+  pub none_unstable : (i : ℕ) → length ms ≤ i → ((k : ℕ) (e : Message) → k < i → is_stable stable (get_or ms k e) ≡ true) → drop i ms ≡ unstable_in stable ms
+  none_unstable i past before = drop-is-filter (λ m. not (is_stable stable m)) ms i (λ k e less within. ap not (before k e less)) (λ k e past' within. absurd (omega (arith, past, past', within)))

@@ -1,0 +1,9 @@
+//! A member's own messages that aren't stable: what it sends again.
+//!
+//! That a message is kept until it is stable is as in Baquero, Almeida and Shoker (arXiv 1710.04469); how many are is this
+//! project's own profile.
+#![tactic(auto)]
+
+mod outbox;
+
+pub use outbox::Outbox;
