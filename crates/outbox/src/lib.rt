@@ -5,5 +5,7 @@
 #![tactic(auto)]
 
 mod outbox;
+#[cfg(test)]
+mod tests;
 
 pub use outbox::Outbox;

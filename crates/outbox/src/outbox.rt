@@ -85,7 +85,7 @@ impl Outbox {
     pub fn messages(&self) -> &[Message]
         ensures { result.now ≡ self.now.messages }
     {
-        &self.kept[self.gone..]
+        &self.kept.as_slice()[self.gone..]
     }
 }
 
