@@ -6,5 +6,7 @@
 
 mod columns;
 mod matrix;
+#[cfg(test)]
+mod tests;
 
 pub use matrix::Matrix;
