@@ -68,6 +68,7 @@ impl Matrix {
         requires other { origin ≢ self.old.me }
         requires entries { length tag ≡ length self.old.rows }
         ensures noted { self.new ≡ record { me = self.old.me; rows = noted self.old.me origin tag self.old.rows } }
+        ensures members { length self.new.rows ≡ length self.old.rows }
         ensures known { KeepsKnown origin tag self.old self.new }
     {
         self.renew(origin, &tag);
@@ -77,6 +78,7 @@ impl Matrix {
     pub fn note_own(&mut self, tag: Tag)
         requires { length tag ≡ length self.old.rows }
         ensures noted { self.new ≡ record { me = self.old.me; rows = slice_set self.old.rows self.old.me tag } }
+        ensures members { length self.new.rows ≡ length self.old.rows }
         ensures known { KeepsKnownOfOwn tag self.old self.new }
     {
         self.renew(self.me, &tag);
