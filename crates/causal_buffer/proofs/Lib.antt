@@ -1,0 +1,3 @@
+pub mod OneQueue
+pub mod AllQueues
+pub mod Kept

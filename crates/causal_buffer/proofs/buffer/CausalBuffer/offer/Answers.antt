@@ -1,0 +1,104 @@
+use Rattle.std.proofs.Common.{◌≡◌, ◌<◌, false, IsTrue, length, sym, ap, subst, ◌∙◌, arith}
+use Rattle.std.specs.List.{flat_map}
+use Rattle.std.specs.Result.{is_ok}
+use Rattle.std.specs.VecDeque.{deque_items}
+use Rattle.std.proofs.lemmas.List.{length-set}
+use Rattle.op_base.specs.Message.{id_of, fits}
+use Rattle.causal_model.specs.Receiving.{is_again, is_far, put_early}
+use Rattle.causal_model.proofs.Early.{fits_member}
+use Rattle.causal_buffer.specs.Buffer.{Buffer, with_messages, AreAhead, AreNear}
+use Rattle.causal_buffer.proofs.Kept.{any_is_ok, has_room, kept_after_put, put_in_queue, offer_again, offer_far, offer_kept}
+use Rattle.causal_buffer.proofs.buffer.CausalBuffer.offer.Goals as goal
+
+pub returns-in-Ok-clause-answer : goal.returns-in-Ok-clause-answer
+returns-in-Ok-clause-answer c =
+    let b = c.args.self.now in
+    let n = c.self.inside.n in
+    let w = c.self.inside.w in
+    let m = c.args.message in
+    let qs = c.self.inside.queues.items in
+    let counts = c.args.counts.now in
+    let member = fits_member b.n m c.requires.fits in
+    let inside : m.origin < length qs = omega (arith, ap (λ (b : Buffer). b.n) c.self.view_is, c.self.invariant.count, member) in
+    let again : is_again (flat_map deque_items qs) m ≡ is_ok c.search.result = any_is_ok n w qs c.self.invariant.kept (id_of m) c.index.result.now c.number.result c.search.result inside c.index.ensures c.number.ensures c.search.ensures.found c.search.ensures.absent in
+    sym (offer_again b c.args.me counts m (ap (λ (b : Buffer). is_again b.early m) (sym c.self.view_is) ∙ again ∙ ap is_ok c.in-Ok.is))
+
+pub returns-then-is_far-clause-answer : goal.returns-then-is_far-clause-answer
+returns-then-is_far-clause-answer c =
+    let b = c.args.self.now in
+    let n = c.self.inside.n in
+    let w = c.self.inside.w in
+    let m = c.args.message in
+    let qs = c.self.inside.queues.items in
+    let counts = c.args.counts.now in
+    let member = fits_member b.n m c.requires.fits in
+    let inside : m.origin < length qs = omega (arith, ap (λ (b : Buffer). b.n) c.self.view_is, c.self.invariant.count, member) in
+    let again : is_again (flat_map deque_items qs) m ≡ is_ok c.search.result = any_is_ok n w qs c.self.invariant.kept (id_of m) c.index.result.now c.number.result c.search.result inside c.index.ensures c.number.ensures c.search.ensures.found c.search.ensures.absent in
+    sym (offer_far b c.args.me counts m (ap (λ (b : Buffer). is_again b.early m) (sym c.self.view_is) ∙ again ∙ ap is_ok c.in-Err.is) (sym c.is_far.ensures ∙ c.if-is_far.true))
+
+pub put-requires-clause-room : goal.put-requires-clause-room
+put-requires-clause-room c =
+    let b = c.args.self.now in
+    let n = c.self.inside.n in
+    let w = c.self.inside.w in
+    let m = c.args.message in
+    let qs = c.self.inside.queues.items in
+    let counts = c.args.counts.now in
+    let member = fits_member b.n m c.requires.fits in
+    let inside : m.origin < length qs = omega (arith, ap (λ (b : Buffer). b.n) c.self.view_is, c.self.invariant.count, member) in
+    let again : is_again (flat_map deque_items qs) m ≡ is_ok c.search.result = any_is_ok n w qs c.self.invariant.kept (id_of m) c.index.result.now c.number.result c.search.result inside c.index.ensures c.number.ensures c.search.ensures.found c.search.ensures.absent in
+    let q = c.index_mut.result.now in
+    let fresh = again ∙ ap is_ok c.in-Err.is in
+    let far : is_far n w c.args.me counts m ≡ false = ap (λ (b : Buffer). is_far b.n b.w c.args.me counts m) c.self.view_is ∙ sym c.is_far.ensures ∙ c.if-is_far.false in
+    let held_ahead : AreAhead counts (flat_map deque_items qs) = subst (λ (b : Buffer). AreAhead counts b.early) (sym c.self.view_is) c.requires.held_ahead in
+    let held_near : AreNear n w counts (flat_map deque_items qs) = subst (λ (b : Buffer). AreNear b.n b.w counts b.early) (sym c.self.view_is) c.requires.held_near in
+    has_room n w qs c.self.invariant.kept c.args.me counts m q inside c.index_mut.ensures.value fresh c.requires.ahead far held_ahead held_near
+
+pub invariant_of-self : goal.invariant_of-self
+invariant_of-self c =
+    let b = c.args.self.now in
+    let n = c.self.inside.n in
+    let w = c.self.inside.w in
+    let m = c.args.message in
+    let qs = c.self.inside.queues.items in
+    let counts = c.args.counts.now in
+    let member = fits_member b.n m c.requires.fits in
+    let inside : m.origin < length qs = omega (arith, ap (λ (b : Buffer). b.n) c.self.view_is, c.self.invariant.count, member) in
+    let again : is_again (flat_map deque_items qs) m ≡ is_ok c.search.result = any_is_ok n w qs c.self.invariant.kept (id_of m) c.index.result.now c.number.result c.search.result inside c.index.ensures c.number.ensures c.search.ensures.found c.search.ensures.absent in
+    let q = c.index_mut.result.now in
+    let fresh = again ∙ ap is_ok c.in-Err.is in
+    let far : is_far n w c.args.me counts m ≡ false = ap (λ (b : Buffer). is_far b.n b.w c.args.me counts m) c.self.view_is ∙ sym c.is_far.ensures ∙ c.if-is_far.false in
+    let held_ahead : AreAhead counts (flat_map deque_items qs) = subst (λ (b : Buffer). AreAhead counts b.early) (sym c.self.view_is) c.requires.held_ahead in
+    let held_near : AreNear n w counts (flat_map deque_items qs) = subst (λ (b : Buffer). AreNear b.n b.w counts b.early) (sym c.self.view_is) c.requires.held_near in
+    let fit : IsTrue (fits n m) = subst (λ (b : Buffer). IsTrue (fits b.n m)) (sym c.self.view_is) c.requires.fits in
+    record {
+      some = c.self.invariant.some;
+      few = c.self.invariant.few;
+      narrow = c.self.invariant.narrow;
+      count = length-set qs m.origin c.put.new.queue ∙ c.self.invariant.count;
+      kept = kept_after_put n w qs c.self.invariant.kept c.args.me counts m q inside c.index_mut.ensures.value fresh c.requires.ahead far held_ahead held_near c.put.new.queue fit c.put.ensures.put c.put.ensures.room;
+    }
+
+pub returns-clause-answer : goal.returns-clause-answer
+returns-clause-answer c =
+    let b = c.args.self.now in
+    let n = c.self.inside.n in
+    let w = c.self.inside.w in
+    let m = c.args.message in
+    let qs = c.self.inside.queues.items in
+    let counts = c.args.counts.now in
+    let member = fits_member b.n m c.requires.fits in
+    let inside : m.origin < length qs = omega (arith, ap (λ (b : Buffer). b.n) c.self.view_is, c.self.invariant.count, member) in
+    let again : is_again (flat_map deque_items qs) m ≡ is_ok c.search.result = any_is_ok n w qs c.self.invariant.kept (id_of m) c.index.result.now c.number.result c.search.result inside c.index.ensures c.number.ensures c.search.ensures.found c.search.ensures.absent in
+    sym (offer_kept b c.args.me counts m (ap (λ (b : Buffer). is_again b.early m) (sym c.self.view_is) ∙ again ∙ ap is_ok c.in-Err.is) (sym c.is_far.ensures ∙ c.if-is_far.false))
+
+pub returns-clause-early : goal.returns-clause-early
+returns-clause-early c =
+    let m = c.args.message in
+    let qs = c.self.inside.queues.items in
+    let q = c.index_mut.result.now in
+    let member = fits_member c.args.self.now.n m c.requires.fits in
+    let inside : m.origin < length qs = omega (arith, ap (λ (b : Buffer). b.n) c.self.view_is, c.self.invariant.count, member) in
+    ap (λ early. record { n = c.self.inside.n; w = c.self.inside.w; early = early })
+    (put_in_queue c.self.inside.n c.self.inside.w qs q c.self.invariant.kept m c.put.new.queue inside (c.put.ensures.put ∙ ap (λ z. put_early m (deque_items z)) c.index_mut.ensures.value))
+    ∙ ap (λ (b : Buffer). with_messages b (put_early m b.early)) c.self.view_is

@@ -1,0 +1,43 @@
+use Rattle.std.proofs.Common.{◌<◌, length, sym, ap, ◌∙◌, arith}
+use Rattle.std.specs.List.{find}
+use Rattle.std.specs.VecDeque.{deque_items}
+use Rattle.std.proofs.lemmas.List.{length-set}
+use Rattle.causal_model.specs.Receiving.{has_id, without}
+use Rattle.causal_buffer.specs.Buffer.{Buffer, with_messages}
+use Rattle.causal_buffer.proofs.Kept.{kept_at, kept_set, kept_without, find_in_queue, without_in_queue}
+use Rattle.causal_buffer.proofs.buffer.CausalBuffer.remove.Goals as goal
+
+pub invariant_of-self : goal.invariant_of-self
+invariant_of-self c =
+    let n = c.self.inside.n in
+    let w = c.self.inside.w in
+    let qs = c.self.inside.queues.items in
+    let q = c.index_mut.result.now in
+    let inside : c.args.id.origin < length qs = omega (arith, ap (λ (b : Buffer). b.n) c.self.view_is, c.self.invariant.count, c.requires) in
+    let kept = kept_at n w qs c.self.invariant.kept c.args.id.origin q inside c.index_mut.ensures.value in
+    record {
+      some = c.self.invariant.some;
+      few = c.self.invariant.few;
+      narrow = c.self.invariant.narrow;
+      count = length-set qs c.args.id.origin c.take.new.queue ∙ c.self.invariant.count;
+      kept = kept_set n w qs c.args.id.origin c.take.new.queue c.self.invariant.kept (kept_without n w c.args.id q c.take.new.queue kept c.take.ensures.others c.take.ensures.room);
+    }
+
+pub returns-clause-taken : goal.returns-clause-taken
+returns-clause-taken c =
+    let qs = c.self.inside.queues.items in
+    let q = c.index_mut.result.now in
+    let inside : c.args.id.origin < length qs = omega (arith, ap (λ (b : Buffer). b.n) c.self.view_is, c.self.invariant.count, c.requires) in
+    c.take.ensures.taken
+    ∙ ap (λ z. find (has_id c.args.id) (deque_items z)) c.index_mut.ensures.value
+    ∙ sym (find_in_queue c.self.inside.n c.self.inside.w qs q c.self.invariant.kept c.args.id inside)
+    ∙ ap (λ (b : Buffer). find (has_id c.args.id) b.early) c.self.view_is
+
+pub returns-clause-others : goal.returns-clause-others
+returns-clause-others c =
+    let qs = c.self.inside.queues.items in
+    let q = c.index_mut.result.now in
+    let inside : c.args.id.origin < length qs = omega (arith, ap (λ (b : Buffer). b.n) c.self.view_is, c.self.invariant.count, c.requires) in
+    ap (λ early. record { n = c.self.inside.n; w = c.self.inside.w; early = early })
+    (without_in_queue c.self.inside.n c.self.inside.w qs q c.self.invariant.kept c.args.id c.take.new.queue inside (c.take.ensures.others ∙ ap (λ z. without c.args.id (deque_items z)) c.index_mut.ensures.value))
+    ∙ ap (λ (b : Buffer). with_messages b (without c.args.id b.early)) c.self.view_is

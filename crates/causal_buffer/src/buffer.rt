@@ -1,0 +1,172 @@
+//! The buffer of early messages.
+
+ghost use Rattle.std.specs.Prelude.{◌≡◌, ◌≢◌, ℕ, ◌+◌, ◌<◌, ◌≤◌, [], length, IsTrue, IfOk};
+ghost use Rattle.std.specs.List.{find, list_any, flat_map};
+ghost use Rattle.std.specs.Option.{option_map};
+ghost use Rattle.op_base.specs.Timestamp.{entry};
+ghost use Rattle.op_base.specs.Message.{number, id_of, fits};
+ghost use Rattle.op_base.specs.declared.tag.TheConstants.{MOST_MEMBERS};
+ghost use Rattle.causal_model.specs.Counts.{is_deliverable};
+ghost use Rattle.causal_model.specs.Receiving.{is_far, has_id, without, next_early};
+ghost use Rattle.causal_buffer.specs.Buffer.{with_messages, offer_of, after_offer, AreAhead, AreNear};
+
+use crate::queue::{most_early, number, put, search, take};
+use op_base::{Message, MessageId, NoMemory, Tag};
+use std::alloc::Global;
+use std::collections::VecDeque;
+use std::marker::Model;
+
+/// What comes of an offer: the message is kept, or it comes back.
+#[derive(Debug, PartialEq, Eq, Drop)]
+pub enum Offer {
+    /// It is early now.
+    Kept,
+    /// A message of its id is early already.
+    Again(Message),
+    /// It is too far ahead: by its number, or by own messages that it has seen and that aren't sent.
+    Far(Message),
+}
+
+/// The early messages of a store of 1 to 16 members with a window of 1 to 64, with room for all that can be early at once.
+///
+/// It is a queue by number for each member. Keeping, finding and removing a message cost a search by halving, and a move of
+/// what stands on the shorter side of its place in its member's queue: none at either end. What is next is the first of a
+/// queue, so it is found by a look at each member. Contracts see the early messages as one list, by origin and then by
+/// number.
+#[derive(Debug, Drop)]
+pub struct CausalBuffer {
+    n: u8,
+    w: u8,
+    queues: Vec<VecDeque<Message>>,
+}
+
+impl Model for CausalBuffer {
+    ghost use Rattle.std.specs.List.{flat_map};
+    ghost use Rattle.std.specs.VecDeque.{deque_items};
+    ghost use Rattle.causal_buffer.specs.Buffer.{Buffer};
+    ghost use Rattle.causal_buffer.specs.Queue.{AreQueues};
+
+    ghost Value = { Buffer };
+
+    ghost view = { λ b. record { n = b.n; w = b.w; early = flat_map deque_items b.queues.items } };
+
+    ghost invariant = { λ b. AreQueues b.n b.w b.queues.items };
+}
+
+/// Whether a message is its origin's next and has seen only what was delivered, where so many of each member were. The
+/// message's number is above its origin's count.
+fn is_deliverable(message: &Message, counts: &Tag) -> bool
+    requires fits { IsTrue (fits (length counts.now) message.now) }
+    requires ahead { entry counts.now message.now.origin < number message.now }
+    ensures { result ≡ is_deliverable (length counts.now) counts.now message.now }
+{
+    if number(message) - counts.at(message.origin) != 1 {
+        return false;
+    }
+    for x in 0..counts.members() {
+        if x != message.origin && message.tag.at(x) > counts.at(x) {
+            return false;
+        }
+    }
+    true
+}
+
+impl CausalBuffer {
+    /// The buffer of a store of `n` members with a window `w`, with no message. It takes all the room that it will ever need,
+    /// and doesn't fill it.
+    pub fn create(alloc: Global, n: u8, w: u8) -> Result<CausalBuffer, NoMemory>
+        requires some { 1 ≤ n }
+        requires few { n ≤ MOST_MEMBERS }
+        requires narrow { w ≤ 64 }
+        ensures { IfOk result (λ buffer. buffer ≡ record { n = n; w = w; early = [] }) }
+    {
+        let room = most_early(n, w) as usize;
+        let mut queues = Vec::with_capacity(alloc, n as usize)?;
+        for _ in 0..n {
+            queues.push(VecDeque::with_capacity(alloc, room)?)?;
+        }
+        Ok(CausalBuffer { n, w, queues })
+    }
+
+    /// Keeps a message of another member that wasn't delivered, unless one of its id is early already or it is too far ahead:
+    /// then it comes back, and nothing changes. `me` is the member itself, and `counts` how many of each were delivered.
+    pub fn offer(&mut self, message: Message, me: u8, counts: &Tag) -> Offer
+        requires fits { IsTrue (fits self.old.n message) }
+        requires me { me < self.old.n }
+        requires counts { length counts.now ≡ self.old.n }
+        requires other { message.origin ≢ me }
+        requires ahead { entry counts.now message.origin < number message }
+        requires held_ahead { AreAhead counts.now self.old.early }
+        requires held_near { AreNear self.old.n self.old.w counts.now self.old.early }
+        ensures answer { result ≡ offer_of self.old me counts.now message }
+        ensures early { self.new ≡ with_messages self.old (after_offer self.old.early message result) }
+    {
+        let member = message.origin as usize;
+        let place = match search(&self.queues[member], message.origin, number(&message)) {
+            Ok(_) => return Offer::Again(message),
+            Err(place) => place,
+        };
+        if self.is_far(&message, me, counts) {
+            return Offer::Far(message);
+        }
+        put(&mut self.queues[member], place, message);
+        Offer::Kept
+    }
+
+    /// Whether a message is too far ahead. Its number is above its origin's count.
+    fn is_far(&self, message: &Message, me: u8, counts: &Tag) -> bool
+        requires fits { IsTrue (fits self.now.n message.now) }
+        requires me { me < self.now.n }
+        requires counts { length counts.now ≡ self.now.n }
+        requires ahead { entry counts.now message.now.origin < number message.now }
+        ensures { result ≡ is_far self.now.n self.now.w me counts.now message.now }
+    {
+        number(message) - counts.at(message.origin) > most_early(self.n, self.w)
+            || message.tag.at(me) > counts.at(me)
+    }
+
+    /// The id of the message that is taken next: of those that can be delivered, that of the lowest member. `None` exactly
+    /// where no message can be delivered.
+    pub fn next(&self, counts: &Tag) -> Option<MessageId>
+        requires counts { length counts.now ≡ self.now.n }
+        requires held_ahead { AreAhead counts.now self.now.early }
+        ensures { result ≡ option_map id_of (next_early self.now.n counts.now self.now.early) }
+    {
+        for queue in &self.queues {
+            if let Some(message) = queue.front() {
+                if is_deliverable(message, counts) {
+                    return Some(message.id());
+                }
+            }
+        }
+        None
+    }
+
+    /// Takes out the message of an id. `None` exactly where none has it, and then nothing changes.
+    pub fn remove(&mut self, id: MessageId) -> Option<Message>
+        requires { id.origin < self.old.n }
+        ensures taken { result ≡ find (has_id id) self.old.early }
+        ensures others { self.new ≡ with_messages self.old (without id self.old.early) }
+    {
+        take(&mut self.queues[id.origin as usize], id)
+    }
+
+    /// Whether a message of an id is early.
+    pub fn holds(&self, id: MessageId) -> bool
+        requires { id.origin < self.now.n }
+        ensures { result ≡ list_any (has_id id) self.now.early }
+    {
+        search(&self.queues[id.origin as usize], id.origin, id.seq).is_ok()
+    }
+
+    /// How many messages are early.
+    pub fn len(&self) -> usize
+        ensures { result ≡ length self.now.early }
+    {
+        let mut len = 0;
+        for queue in &self.queues {
+            len += queue.len();
+        }
+        len
+    }
+}

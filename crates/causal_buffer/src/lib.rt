@@ -1,0 +1,10 @@
+//! Early messages: those that a member has accepted and that it can't deliver yet.
+//!
+//! That a message waits until it can be delivered is causal delivery, as in Baquero, Almeida and Shoker
+//! (arXiv 1710.04469); how far ahead a message may be is this project's own profile.
+#![tactic(auto)]
+
+mod buffer;
+mod queue;
+
+pub use buffer::{CausalBuffer, Offer};
