@@ -5,10 +5,10 @@ use Rattle.std.specs.List.{find, list_all, list_any, flat_map}
 use Rattle.std.specs.Option.{is_some}
 use Rattle.std.specs.Result.{is_ok}
 use Rattle.std.specs.VecDeque.{deque_items, deque_len, deque_capacity}
-use Rattle.std.proofs.lemmas.Bool.{cases_eq, and_left, cond-true, cond-false, ne_eqb}
+use Rattle.std.proofs.lemmas.Bool.{and_left, cases_eq, cond-false, cond-true, false≢true, ne_eqb, not-true}
 use Rattle.std.proofs.lemmas.List.{get_or-set_same, get_or-set_other, length-set, length-append, get_or_append_left}
 use Rattle.std.proofs.Math.Seq.{get_or-append_seam}
-use Rattle.std.proofs.lemmas.List.Elements.{All-nil, All-cons, All-filter}
+use Rattle.std.proofs.lemmas.List.Elements.{All-nil, All-cons, All-filter, filter_passes}
 use Rattle.std.proofs.lemmas.List.Filters.{length-filter_both}
 use Rattle.std.proofs.lemmas.List.Kept.{AllPairs-filter}
 use Rattle.op_base.specs.Timestamp.{entry}
@@ -24,7 +24,7 @@ use Rattle.causal_model.proofs.Risings.{AllPairs-nil, rising_numbers}
 use Rattle.causal_buffer.specs.Buffer.{Buffer, offer_of, AreAhead, AreNear}
 use Rattle.causal_buffer.specs.declared.buffer.Offer.TheVariants.{Kept, Again, Far}
 use Rattle.causal_buffer.specs.Queue.{IsQueue, IsAt, IsGapFor, IsKept, AreKept}
-use Rattle.causal_buffer.proofs.OneQueue.{StandsBefore, numbers_rise, find_in_gap, search_finds}
+use Rattle.causal_buffer.proofs.OneQueue.{StandsBefore, numbers_rise, has, find_in_gap, search_finds}
 use Rattle.causal_buffer.proofs.AllQueues.{AreOwn, All-part, any_is_found, find_flat, without_flat, put_flat}
 
 -- ---- one queue
@@ -209,3 +209,27 @@ offer_kept b me counted m e f =
 -- all that can be early at once of one member
 pub most_is_small : (n w : ℕ) → 1 ≤ n → n ≤ 16 → w ≤ 64 → w + noop_window n w ≤ 1985
 most_is_small n w some few narrow = grind arith
+
+-- ---- what is held of the counts once the next message of an origin is taken out and delivered
+
+module _ (id : MessageId) (counted : List ℕ) (early : List Message) (l : id.origin < length counted) (next : id.seq ≡ entry counted id.origin + 1) where
+  pub step_keeps_ahead : AreAhead counted early → AreAhead (set counted id.origin id.seq) (without id early)
+  step_keeps_ahead ahead k d i =
+      let m = get_or (without id early) k d in
+      let above : entry counted m.origin < number m = All-filter (λ e. not (has_id id e)) (λ e. entry counted e.origin < number e) early ahead k d i in
+      let other : has_id id m ≡ false = not-true (has_id id m) (filter_passes (λ e. not (has_id id e)) early k d i) in
+      elim (cases_eq m.origin id.origin) [
+        | inl same ↦
+            let apart : number m ≢ id.seq = λ e. false≢true (sym other ∙ has id m same e) in
+            omega (arith, apart, above, next, ap (entry counted) same, ap (entry (set counted id.origin id.seq)) same, get_or-set_same counted id.origin id.seq 0 l)
+        | inr ne ↦ omega (arith, above, get_or-set_other counted id.origin m.origin id.seq 0 ne)
+      ]
+
+  pub step_keeps_near : (n w : ℕ) → AreNear n w counted early → AreNear n w (set counted id.origin id.seq) (without id early)
+  step_keeps_near n w near k d i =
+      let m = get_or (without id early) k d in
+      let below : number m ≤ entry counted m.origin + (w + noop_window n w) = All-filter (λ e. not (has_id id e)) (λ e. number e ≤ entry counted e.origin + (w + noop_window n w)) early near k d i in
+      elim (cases_eq m.origin id.origin) [
+        | inl same ↦ omega (arith, below, next, ap (entry counted) same, ap (entry (set counted id.origin id.seq)) same, get_or-set_same counted id.origin id.seq 0 l)
+        | inr ne ↦ omega (arith, below, get_or-set_other counted id.origin m.origin id.seq 0 ne)
+      ]

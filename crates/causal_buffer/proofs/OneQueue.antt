@@ -74,7 +74,7 @@ put_is_insert m (e ∷ q) (suc place) own gap =
 
 -- ---- a message that is found by its id
 
-has : (id : MessageId) (m : Message) → m.origin ≡ id.origin → number m ≡ id.seq → has_id id m ≡ true
+pub has : (id : MessageId) (m : Message) → m.origin ≡ id.origin → number m ≡ id.seq → has_id id m ≡ true
 has id m o s = and_from (id.origin == m.origin) (id.seq == number m) (eq-eqb id.origin m.origin (sym o)) (eq-eqb id.seq (number m) (sym s))
 
 has_not : (id : MessageId) (m : Message) → number m ≢ id.seq → has_id id m ≡ false

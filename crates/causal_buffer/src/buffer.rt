@@ -1,6 +1,6 @@
 //! The buffer of early messages.
 
-ghost use Rattle.std.specs.Prelude.{◌≡◌, ◌≢◌, ℕ, ◌+◌, ◌<◌, ◌≤◌, [], length, IsTrue, IfOk};
+ghost use Rattle.std.specs.Prelude.{◌≡◌, ◌≢◌, ℕ, ◌+◌, ◌<◌, ◌≤◌, List, [], length, slice_set, IsTrue, IfOk};
 ghost use Rattle.std.specs.List.{find, list_any, flat_map};
 ghost use Rattle.std.specs.Option.{option_map};
 ghost use Rattle.op_base.specs.Timestamp.{entry};
@@ -100,6 +100,10 @@ impl CausalBuffer {
         requires held_near { AreNear self.old.n self.old.w counts.now self.old.early }
         ensures answer { result ≡ offer_of self.old me counts.now message }
         ensures early { self.new ≡ with_messages self.old (after_offer self.old.early message result) }
+
+        // What was asked of the messages that are held holds of them again.
+        ensures held_ahead { AreAhead counts.now self.new.early }
+        ensures held_near { AreNear self.new.n self.new.w counts.now self.new.early }
     {
         let member = message.origin as usize;
         let place = match search(&self.queues[member], message.origin, number(&message)) {
@@ -147,6 +151,12 @@ impl CausalBuffer {
         requires { id.origin < self.old.n }
         ensures taken { result ≡ find (has_id id) self.old.early }
         ensures others { self.new ≡ with_messages self.old (without id self.old.early) }
+
+        // Where its origin's next message is taken out and delivered, what was held of the counts holds with it.
+        ensures held_ahead { (counted : List ℕ) → id.origin < length counted → id.seq ≡ entry counted id.origin + 1 → AreAhead counted self.old.early
+            → AreAhead (slice_set counted id.origin id.seq) self.new.early }
+        ensures held_near { (counted : List ℕ) → id.origin < length counted → id.seq ≡ entry counted id.origin + 1 → AreNear self.old.n self.old.w counted self.old.early
+            → AreNear self.new.n self.new.w (slice_set counted id.origin id.seq) self.new.early }
     {
         take(&mut self.queues[id.origin as usize], id)
     }

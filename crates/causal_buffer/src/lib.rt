@@ -6,5 +6,7 @@
 
 mod buffer;
 mod queue;
+#[cfg(test)]
+mod tests;
 
 pub use buffer::{CausalBuffer, Offer};

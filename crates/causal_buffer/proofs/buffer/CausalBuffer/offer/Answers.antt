@@ -1,11 +1,13 @@
-use Rattle.std.proofs.Common.{◌≡◌, ◌<◌, false, IsTrue, length, sym, ap, subst, ◌∙◌, arith}
+use Rattle.std.proofs.Common.{◌≡◌, ◌+◌, ◌<◌, ◌≤◌, false, IsTrue, length, sym, ap, subst, ◌∙◌, arith}
 use Rattle.std.specs.List.{flat_map}
 use Rattle.std.specs.Result.{is_ok}
 use Rattle.std.specs.VecDeque.{deque_items}
 use Rattle.std.proofs.lemmas.List.{length-set}
-use Rattle.op_base.specs.Message.{id_of, fits}
+use Rattle.op_base.specs.Timestamp.{entry}
+use Rattle.op_base.specs.Message.{number, id_of, fits}
 use Rattle.causal_model.specs.Receiving.{is_again, is_far, put_early}
-use Rattle.causal_model.proofs.Early.{fits_member}
+use Rattle.causal_model.specs.Stability.{noop_window}
+use Rattle.causal_model.proofs.Early.{All-put_early, IsNear-from_test, fits_member}
 use Rattle.causal_buffer.specs.Buffer.{Buffer, with_messages, AreAhead, AreNear}
 use Rattle.causal_buffer.proofs.Kept.{any_is_ok, has_room, kept_after_put, put_in_queue, offer_again, offer_far, offer_kept}
 use Rattle.causal_buffer.proofs.buffer.CausalBuffer.offer.Goals as goal
@@ -102,3 +104,16 @@ returns-clause-early c =
     ap (λ early. record { n = c.self.inside.n; w = c.self.inside.w; early = early })
     (put_in_queue c.self.inside.n c.self.inside.w qs q c.self.invariant.kept m c.put.new.queue inside (c.put.ensures.put ∙ ap (λ z. put_early m (deque_items z)) c.index_mut.ensures.value))
     ∙ ap (λ (b : Buffer). with_messages b (put_early m b.early)) c.self.view_is
+
+pub returns-clause-held_ahead : goal.returns-clause-held_ahead
+returns-clause-held_ahead c =
+    let counts = c.args.counts.now in
+    subst (λ (b : Buffer). AreAhead counts b.early) (sym (returns-clause-early c)) (All-put_early (λ e. entry counts e.origin < number e) c.args.message c.args.self.now.early c.requires.ahead c.requires.held_ahead)
+
+pub returns-clause-held_near : goal.returns-clause-held_near
+returns-clause-held_near c =
+    let b = c.args.self.now in
+    let m = c.args.message in
+    let counts = c.args.counts.now in
+    let near = IsNear-from_test b.n b.w c.args.me counts m (sym c.is_far.ensures ∙ c.if-is_far.false) in
+    subst (λ (b : Buffer). AreNear b.n b.w counts b.early) (sym (returns-clause-early c)) (All-put_early (λ e. number e ≤ entry counts e.origin + (b.w + noop_window b.n b.w)) m b.early near.within c.requires.held_near)

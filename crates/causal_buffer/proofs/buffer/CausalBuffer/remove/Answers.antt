@@ -1,10 +1,10 @@
-use Rattle.std.proofs.Common.{◌<◌, length, sym, ap, ◌∙◌, arith}
+use Rattle.std.proofs.Common.{◌<◌, length, set, sym, ap, subst, ◌∙◌, arith}
 use Rattle.std.specs.List.{find}
 use Rattle.std.specs.VecDeque.{deque_items}
 use Rattle.std.proofs.lemmas.List.{length-set}
 use Rattle.causal_model.specs.Receiving.{has_id, without}
-use Rattle.causal_buffer.specs.Buffer.{Buffer, with_messages}
-use Rattle.causal_buffer.proofs.Kept.{kept_at, kept_set, kept_without, find_in_queue, without_in_queue}
+use Rattle.causal_buffer.specs.Buffer.{Buffer, with_messages, AreAhead, AreNear}
+use Rattle.causal_buffer.proofs.Kept.{kept_at, kept_set, kept_without, find_in_queue, without_in_queue, step_keeps_ahead, step_keeps_near}
 use Rattle.causal_buffer.proofs.buffer.CausalBuffer.remove.Goals as goal
 
 pub invariant_of-self : goal.invariant_of-self
@@ -41,3 +41,13 @@ returns-clause-others c =
     ap (λ early. record { n = c.self.inside.n; w = c.self.inside.w; early = early })
     (without_in_queue c.self.inside.n c.self.inside.w qs q c.self.invariant.kept c.args.id c.take.new.queue inside (c.take.ensures.others ∙ ap (λ z. without c.args.id (deque_items z)) c.index_mut.ensures.value))
     ∙ ap (λ (b : Buffer). with_messages b (without c.args.id b.early)) c.self.view_is
+
+pub returns-clause-held_ahead : goal.returns-clause-held_ahead
+returns-clause-held_ahead c counted l next ahead =
+    subst (λ (b : Buffer). AreAhead (set counted c.args.id.origin c.args.id.seq) b.early) (sym (returns-clause-others c)) (step_keeps_ahead c.args.id counted c.args.self.now.early l next ahead)
+
+pub returns-clause-held_near : goal.returns-clause-held_near
+returns-clause-held_near c counted l next near =
+    let n = c.args.self.now.n in
+    let w = c.args.self.now.w in
+    subst (λ (b : Buffer). AreNear b.n b.w (set counted c.args.id.origin c.args.id.seq) b.early) (sym (returns-clause-others c)) (step_keeps_near c.args.id counted c.args.self.now.early l next n w near)
