@@ -23,25 +23,7 @@ drops_after stable old new is w me ms m l chapter before vector =
     ] in
     is ∙ ap (λ tag. unstable_in tag old.messages) vector ∙ ap (unstable_in (stable_vector old.n me (ms ++ m ∷ []))) held ∙ sym (outbox_of-push old.n w me ms m l chapter)
 
-pub drop-drop : {X : Type 0} (xs : List X) (i j : ℕ) → drop j (drop i xs) ≡ drop (i + j) xs
-drop-drop [] zero j = ap (λ k. drop k []) (sym (zero-add j))
-drop-drop [] (suc i) zero = ap (λ k. drop k []) (sym (suc-add i zero))
-drop-drop [] (suc i) (suc j) = ap (λ k. drop k []) (sym (suc-add i (suc j)))
-drop-drop (x ∷ xs) zero j = ap (λ k. drop k (x ∷ xs)) (sym (zero-add j))
-drop-drop (x ∷ xs) (suc i) j = drop-drop xs i j ∙ ap (λ k. drop k (x ∷ xs)) (sym (suc-add i j))
-
 pub AllPairs-drop : {X : Type 0} (R : X → X → Type 0) (i : ℕ) (xs : List X) → AllPairs R xs → AllPairs R (drop i xs)
 AllPairs-drop R i xs pairs k j d less within =
     let both = pairs (i + k) (i + j) d (omega (arith, less)) (omega (arith, within, length-drop i xs)) in
     subst (λ y. R y (get_or (drop i xs) j d)) (sym (get_or-drop i xs k d)) (subst (λ y. R (get_or xs (i + k) d) y) (sym (get_or-drop i xs j d)) both)
-
--- the slice from a place on is the list without what is before it
-pub looked_at : {X : Type 0} (xs ys : List X) (i : ℕ) → ys ≡ xs → take (length ys - i) (drop i ys) ≡ drop i xs
-looked_at xs ys i is = ap (λ zs. take (length zs - i) (drop i zs)) is ∙ take_all (length xs - i) (drop i xs) (omega (arith, length-drop i xs))
-
--- where the slice without its first messages is its unstable ones, so is the list without both parts
-pub unstable_left : (stable : List ℕ) (xs ys : List Message) (i k : ℕ) → ys ≡ xs → drop k (take (length ys - i) (drop i ys)) ≡ unstable_in stable (take (length ys - i) (drop i ys))
-    → drop (i + k) xs ≡ unstable_in stable (drop i xs)
-unstable_left stable xs ys i k is rest =
-    let looked = looked_at xs ys i is in
-    sym (drop-drop xs i k) ∙ ap (drop k) (sym looked) ∙ rest ∙ ap (unstable_in stable) looked

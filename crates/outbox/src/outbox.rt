@@ -18,9 +18,7 @@ use std::marker::Model;
 pub struct Outbox {
     n: u8,
     w: u8,
-    /// Messages that are stable stand in front until there are as many as others, so that each is moved once.
     kept: Vec<Message>,
-    gone: usize,
 }
 
 impl Model for Outbox {
@@ -51,8 +49,7 @@ impl Outbox {
         Ok(Outbox {
             n,
             w,
-            kept: Vec::with_capacity(alloc, 2 * room)?,
-            gone: 0,
+            kept: Vec::with_capacity(alloc, room)?,
         })
     }
 
@@ -68,16 +65,16 @@ impl Outbox {
         self.kept.push(message).unwrap();
     }
 
-    /// Lets the messages go that are stable where these are the stable counts.
+    /// Lets the messages go that are stable where these are the stable counts. It looks no further than the first that
+    /// stays; where any go, the others are moved once.
     pub fn drop_stable(&mut self, stable: &Tag)
         requires { length stable.now ≡ self.old.n }
         ensures dropped { self.new ≡ record { n = self.old.n; w = self.old.w; messages = unstable_in stable.now self.old.messages } }
         ensures sent { DropsAfter stable.now self.old self.new }
     {
-        self.gone += stable_len(&self.kept[self.gone..], stable);
-        if 2 * self.gone > self.kept.len() {
-            drop(self.kept.drain(..self.gone));
-            self.gone = 0;
+        let gone = stable_len(self.kept.as_slice(), stable);
+        if gone > 0 {
+            drop(self.kept.drain(..gone));
         }
     }
 
@@ -85,7 +82,7 @@ impl Outbox {
     pub fn messages(&self) -> &[Message]
         ensures { result.now ≡ self.now.messages }
     {
-        &self.kept.as_slice()[self.gone..]
+        self.kept.as_slice()
     }
 }
 

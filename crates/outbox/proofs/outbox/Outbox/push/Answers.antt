@@ -10,20 +10,15 @@ use Rattle.outbox.proofs.outbox.Outbox.push.Goals as goal
 pub invariant_of-self : goal.invariant_of-self
 invariant_of-self c =
     let xs = c.self.inside.kept.items in
-    let held = drop c.self.inside.gone xs in
     let last = c.args.message ∷ [] in
     let pushed : c.push.new.self.items ≡ xs ++ last = c.push.ensures.items ∙ ap (λ r. if is_ok r then xs ++ last else xs) c.unwrap.ensures in
-    let is : drop c.self.inside.gone c.push.new.self.items ≡ held ++ last = ap (drop c.self.inside.gone) pushed ∙ drop-append-le c.self.inside.gone xs last c.self.invariant.within in
-    let more : length c.push.new.self.items ≡ length xs + 1 = ap length pushed ∙ length-append xs last in
     record {
       some = c.self.invariant.some;
       few = c.self.invariant.few;
       window = c.self.invariant.window;
       narrow = c.self.invariant.narrow;
       room = omega (arith, c.self.invariant.room, c.push.ensures.capacity);
-      within = omega (arith, more, c.self.invariant.within);
-      balanced = omega (arith, more, c.self.invariant.balanced);
-      held = omega (arith, ap length is, length-append held last, c.requires.room, ap (λ sent. length sent.messages) c.self.view_is, ap (λ sent. room_of sent.n sent.w) c.self.view_is);
-      fit = subst (All (λ m. IsTrue (fits c.self.inside.n m))) (sym is) (All-push (λ m. IsTrue (fits c.self.inside.n m)) held c.args.message c.self.invariant.fit (subst (λ n. IsTrue (fits n c.args.message)) (sym (ap (λ sent. sent.n) c.self.view_is)) c.requires.fits));
-      rise = subst (AllPairs ComesAfter) (sym is) (all_pairs_push ComesAfter held c.args.message c.self.invariant.rise (subst (All (λ m. ComesAfter m c.args.message)) (sym (ap (λ sent. sent.messages) c.self.view_is)) c.requires.next));
+      held = omega (arith, ap length pushed, length-append xs last, c.requires.room, ap (λ sent. length sent.messages) c.self.view_is, ap (λ sent. room_of sent.n sent.w) c.self.view_is);
+      fit = subst (All (λ m. IsTrue (fits c.self.inside.n m))) (sym pushed) (All-push (λ m. IsTrue (fits c.self.inside.n m)) xs c.args.message c.self.invariant.fit (subst (λ n. IsTrue (fits n c.args.message)) (sym (ap (λ sent. sent.n) c.self.view_is)) c.requires.fits));
+      rise = subst (AllPairs ComesAfter) (sym pushed) (all_pairs_push ComesAfter xs c.args.message c.self.invariant.rise (subst (All (λ m. ComesAfter m c.args.message)) (sym (ap (λ sent. sent.messages) c.self.view_is)) c.requires.next));
     }
