@@ -1,27 +1,19 @@
 -- The ten tests of bytes, parted as the readers make them.
 use Rattle.std.proofs.Common.{◌≡◌, ℕ, zero, suc, ◌+◌, ◌*◌, ◌≤◌, Bool, true, false, not, ◌&&◌, ◌||◌, List, [], ◌∷◌, length, drop, refl, sym, ap, ◌∙◌, arith}
 use Rattle.std.specs.List.{list_any}
-use Rattle.std.specs.Prelude.{◌-◌, take, slice_index, Option, Some, None, nat_lt, nat_le, ◌==◌, if◌then◌else◌}
+use Rattle.std.specs.Prelude.{◌-◌, take, slice_index, Option, Some, None, Result, Ok, Err, MatchResult, nat_lt, nat_le, ◌==◌, if◌then◌else◌}
 use Rattle.std.proofs.lemmas.Bool.{ltb-false, lt-ltb, ne_eqb}
-use Rattle.std.proofs.lemmas.Bool.Decides.{nat_tests}
 use Rattle.std.proofs.lemmas.List.{take_rest}
 use Rattle.std.proofs.lemmas.Option.{none-some}
 use Rattle.op_base.specs.Name.{is_key}
 use Rattle.frame_codec.specs.declared.version.Version.{Version}
 use Rattle.frame_codec.specs.Grammar.{version_byte, is_sent}
+use Rattle.frame_codec.specs.declared.fault.DecodeFault.{DecodeFault}
 use Rattle.frame_codec.specs.declared.fault.FrameFault.{FrameFault}
 use Rattle.frame_codec.specs.declared.fault.FrameFault.TheVariants.{Short, Version as OfVersion, Epoch, Members, Origin, Code, Number, BadKey, Argument, Rest}
-use Rattle.frame_codec.specs.Fault.{byte_at, code_byte, head_len, is_read_in, is_bad_epoch, takes_value, takes_amount, numbers, timestamp_of, behind_timestamp, is_text_field, behind_text, is_bad_number, is_bad_key, is_bad_argument, behind_argument, first_fault, fault_by}
-use Rattle.frame_codec.specs.Reading.{head_fault, operation_fault, behind_operation}
+use Rattle.frame_codec.specs.Fault.{byte_at, code_byte, head_len, is_read_in, is_bad_epoch, takes_value, takes_amount, numbers, timestamp_of, behind_timestamp, is_text_field, behind_text, is_bad_number, is_bad_key, is_bad_argument, behind_argument, first_fault, fault_by, Refuses}
+use Rattle.frame_codec.specs.Reading.{head_fault, or_else, rest_fault, operation_fault, behind_operation, IsWhy}
 use Rattle.frame_codec.proofs.Codes.{argument_fails, behind_alike}
-
-abbrev pub or_else : Option FrameFault → Option FrameFault → Option FrameFault
-or_else None second = second
-or_else (Some fault) second = Some fault
-
--- bytes are left
-abbrev pub rest_fault : List ℕ → Option FrameFault
-rest_fault bytes = if nat_lt 0 (length bytes) then Some Rest else None
 
 six_first : (a b c d e f : Bool) (others : Option FrameFault)
     → (if a then Some Short else if b then Some OfVersion else if c then Some Epoch else if d then Some Members else if e then Some Origin else if f then Some Code else others)
@@ -142,8 +134,11 @@ body_read v version n epoch limit begin bytes tag origin code none version_is be
     ∙ sym (λ i. if (slice_index (numbers_are i) (origin_is i) == 0) || list_any (λ e. nat_lt limit e) (numbers_are i) then Some Number
     else or_else (operation_fault (version_is i) (code_is i) (fields_are i)) (rest_fault (behind_operation (version_is i) (code_is i) (fields_are i))))
 
-pub some_left : (len : ℕ) → (len == 0) ≡ false → nat_lt 0 len ≡ true
-some_left len h = grind (arith, nat_tests)
+-- ---- why bytes are not decoded
 
-pub none_left : (len : ℕ) → (len == 0) ≡ true → nat_lt 0 len ≡ false
-none_left len h = grind (arith, nat_tests)
+-- what a decoder answers for such a reason
+pub refused : {T : Type 0} (fault : Option FrameFault) (result : Result T DecodeFault) → MatchResult result (λ _. fault ≡ None) (IsWhy fault) → Refuses fault result
+refused None (Ok x) h = tt
+refused None (Err e) h = h
+refused (Some f) (Ok x) h = absurd cc
+refused (Some f) (Err e) h = ap Err h

@@ -2,7 +2,7 @@
 use Rattle.std.proofs.Common.{◌≡◌, ℕ, zero, suc, ◌+◌, ◌*◌, ◌^◌, ◌<◌, ◌≤◌, Bool, true, false, not, ◌||◌, ◌&&◌, List, [], ◌∷◌, ◌++◌, length, drop, refl, sym, ap, subst, ◌∙◌, append_assoc, arith, inl, inr}
 use Rattle.std.proofs.Math.Bool.{Bool-set}
 use mathlib.Core.HLevel.{is_prop→PathP}
-use Rattle.std.specs.Prelude.{Some, None, IsTrue, All, nat_lt, nat_le, ◌==◌, slice_index, if◌then◌else◌}
+use Rattle.std.specs.Prelude.{Some, None, Result, Ok, Err, MatchResult, IfOk, IsTrue, All, nat_lt, nat_le, ◌==◌, slice_index, if◌then◌else◌}
 use Rattle.std.specs.List.{flat_map, list_any, AllByRecursion}
 use Rattle.std.proofs.lemmas.Bool.{and_parts, or_parts, and_from, or_from, eqb-true, eqb-false, ltb-true, ltb-false, leb-false, lt-ltb, le-ltb, lt-leb, eq-eqb, cases_lt, not-false, ne_eqb, cases_eq}
 use Rattle.std.proofs.lemmas.List.{append-nil, drop_at, drop-drop, length-append, length-drop, get_or_past}
@@ -18,13 +18,14 @@ use Rattle.op_base.specs.declared.operation.Update.{Update}
 use Rattle.op_base.specs.declared.name.Kind.{Kind}
 use Rattle.op_base.specs.declared.name.ObjectId.{ObjectId}
 use Rattle.frame_codec.specs.declared.fields.Verb.{Verb}
+use Rattle.frame_codec.specs.declared.fault.DecodeFault.{DecodeFault}
 use Rattle.frame_codec.specs.declared.fault.FrameFault.TheVariants.{Short, Version as OfVersion, Epoch, Members, Origin, Code, BadKey, Argument}
 use Rattle.frame_codec.specs.declared.version.Version.{Version}
 use Rattle.frame_codec.specs.declared.version.Version.TheVariants.{One, Two}
 use Rattle.frame_codec.specs.Grammar.{version_byte, IsReadIn, epoch_field, number_field, text_field, argument_field, operation_fields, frame_of, IsOperation, IsSpelling, IsFrame}
 use Rattle.frame_codec.specs.Laws.{SomeSpelling, OneSpelling, OneMessage, NoFrameBegins, FramesHaveNoFault, WithoutFaultIsAFrame}
-use Rattle.frame_codec.specs.Fault.{byte_at, code_byte, version_at, head_len, is_read_in, is_bad_epoch, numbers, timestamp_of, behind_timestamp, text_of, behind_text, is_text_field, is_bad_number}
-use Rattle.frame_codec.specs.Reading.{row_of, act_at, behind_act, operation_fault, behind_operation, SaysOperation, head_fault, Says}
+use Rattle.frame_codec.specs.Fault.{byte_at, code_byte, version_at, head_len, is_read_in, is_bad_epoch, numbers, timestamp_of, behind_timestamp, text_of, behind_text, is_text_field, is_bad_number, frame_fault, Gives}
+use Rattle.frame_codec.specs.Reading.{row_of, act_at, behind_act, operation_fault, behind_operation, SaysOperation, head_fault, IsWhy, Says}
 use Rattle.frame_codec.proofs.Codes.{verb_of, row_code, row_has, code_row}
 use Rattle.frame_codec.proofs.Spelled.{IsBytes, IsBytes-drop, IsBytes-behind, epoch_spelled, epoch_again, behind_head, length-head, short_key, numbers_spelled, numbers_again, length-number_fields, text_spelled, text_whole, text_again, behind_again, argument_spelled, argument_again}
 use Rattle.frame_codec.proofs.Faults.{six_pass, HasNoFault, no_fault, without_fault, head_code}
@@ -307,3 +308,17 @@ some_frame n epoch limit bytes each none =
     let operation = says_some version (code_byte bytes) (behind_timestamp version n bytes) (head_code version n epoch bytes parts.head) in
     let m : Message = record { origin = byte_at bytes 1; tag = timestamp_of version n bytes; op = operation.0 } in
     (m, (version, spelled version n epoch limit bytes m (bytes_of bytes each) parts (record { origin = refl; tag = refl; operation = operation.1 })))
+
+-- ---- what a decoder answers that reads what the bytes say, or tells why not
+
+pub found : (n epoch limit : ℕ) (bytes : List ℕ) (result : Result Message DecodeFault) → IsBytes bytes
+    → MatchResult result (λ _. frame_fault n epoch limit bytes ≡ None) (IsWhy (frame_fault n epoch limit bytes)) → IfOk result (λ m. Says (version_at bytes) n bytes m)
+    → IfOk result (λ m. IsFrame n epoch limit bytes m)
+found n epoch limit bytes (Ok m) fits none says = (version_at bytes, spelled (version_at bytes) n epoch limit bytes m fits (no_fault (version_at bytes) n epoch limit bytes none) says)
+found n epoch limit bytes (Err e) fits why says = tt
+
+pub gives : (n epoch limit : ℕ) (bytes : List ℕ) (result : Result Message DecodeFault) → epoch < 2 ^ 32 → limit < 2 ^ 32
+    → MatchResult result (λ _. frame_fault n epoch limit bytes ≡ None) (IsWhy (frame_fault n epoch limit bytes)) → IfOk result (λ m. Says (version_at bytes) n bytes m)
+    → (m : Message) → IsFrame n epoch limit bytes m → Gives m result
+gives n epoch limit bytes (Ok x) epoch_small small none says m frame = says_one_message (version_at bytes) n bytes x m says (frame_said n epoch limit bytes m epoch_small small frame).says
+gives n epoch limit bytes (Err e) epoch_small small why says m frame = subst (λ fault. IsWhy fault e) (frames_pass n epoch limit epoch_small small bytes m frame) why

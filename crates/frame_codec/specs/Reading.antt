@@ -12,7 +12,10 @@ use Rattle.op_base.specs.declared.operation.Act.TheVariants as acts
 use Rattle.op_base.specs.declared.operation.Op.{Op}
 use Rattle.op_base.specs.declared.operation.Op.TheVariants as op
 use Rattle.frame_codec.specs.declared.fault.FrameFault.{FrameFault}
-use Rattle.frame_codec.specs.declared.fault.FrameFault.TheVariants.{Short, Version as OfVersion, Epoch, Members, Origin, Code, BadKey, Argument}
+use Rattle.frame_codec.specs.declared.fault.FrameFault.TheVariants.{Short, Version as OfVersion, Epoch, Members, Origin, Code, BadKey, Argument, Rest}
+use Rattle.frame_codec.specs.declared.fault.DecodeFault.{DecodeFault}
+use Rattle.frame_codec.specs.declared.fault.DecodeFault.TheVariants.{Frame}
+use Rattle.frame_codec.specs.declared.fault.DecodeFault.TheVariants as faults
 use Rattle.frame_codec.specs.declared.fields.Verb.{Verb}
 use Rattle.frame_codec.specs.declared.fields.Verb.TheVariants.{Add, Rmv, Clear, Enable, Disable, Write, Inc, Dec}
 use Rattle.frame_codec.specs.declared.version.Version.{Version}
@@ -79,6 +82,36 @@ operation_fault version code bytes =
 -- what stands behind them
 abbrev pub behind_operation : Version → ℕ → List ℕ → List ℕ
 behind_operation version code bytes = if code == 0 then bytes else behind_act version (row_of code).1 (behind_text version bytes)
+
+-- the fault of bytes behind the last field
+abbrev pub rest_fault : List ℕ → Option FrameFault
+rest_fault rest = if nat_lt 0 (length rest) then Some Rest else None
+
+-- a fault, and where there is none another
+abbrev pub or_else : Option FrameFault → Option FrameFault → Option FrameFault
+or_else None second = second
+or_else (Some fault) second = Some fault
+
+-- the first fault of a value with nothing behind it
+abbrev pub value_fault : Version → List ℕ → Option FrameFault
+value_fault version bytes = or_else (if not (is_text_field version (is_sent version) bytes) then Some Argument else None) (rest_fault (behind_text version bytes))
+
+-- the first fault of an amount with nothing behind it
+abbrev pub amount_fault : List ℕ → Option FrameFault
+amount_fault bytes = or_else (if not (nat_le 4 (length bytes)) then Some Argument else None) (rest_fault (drop 4 bytes))
+
+-- the first fault of a verb's argument with nothing behind it
+abbrev pub act_fault : Version → Verb → List ℕ → Option FrameFault
+act_fault version verb bytes = or_else (if not (is_argument version verb bytes) then Some Argument else None) (rest_fault (behind_act version verb bytes))
+
+-- the first fault of a key and an argument of this code with nothing behind them
+abbrev pub fields_fault : Version → ℕ → List ℕ → Option FrameFault
+fields_fault version code bytes = or_else (operation_fault version code bytes) (rest_fault (behind_operation version code bytes))
+
+-- why bytes with this fault are not decoded: for the fault, and where there is none for want of memory
+abbrev pub IsWhy : Option FrameFault → DecodeFault → Type 0
+IsWhy (Some fault) e = e ≡ Frame fault
+IsWhy None e = e ≡ faults.NoMemory
 
 -- the operation is the one of this code with the key and the argument at the front
 abbrev pub SaysOperation : Version → ℕ → List ℕ → Op → Type 0

@@ -4,13 +4,13 @@ ghost use Rattle.std.specs.Prelude.{◌≡◌, ◌≤◌, length, IfOk, MatchRes
 ghost use Rattle.op_base.specs.declared.message.Message.{Message};
 ghost use Rattle.frame_codec.specs.Grammar.{IsFrame};
 ghost use Rattle.frame_codec.specs.Fault.{byte_at, code_byte, version_at, head_len, is_bad_epoch, frame_fault, Gives, Refuses};
-ghost use Rattle.frame_codec.specs.Reading.{head_fault, Says};
+ghost use Rattle.frame_codec.specs.Reading.{head_fault, IsWhy, Says};
 
 use crate::fault::{DecodeFault, FrameFault};
 use crate::fields::{is_bad_number, operation, timestamp};
 use crate::version::Version;
 use byteorder::{BigEndian, ByteOrder};
-use op_base::{Message, NoMemory, Op, Tag};
+use op_base::Message;
 use std::alloc::Global;
 
 /// The greatest code of an operation.
@@ -71,44 +71,32 @@ fn read_head(bytes: &[u8], n: u8, epoch: u32) -> Result<Head, FrameFault>
     })
 }
 
-/// What a member sent with an operation, unless there is no memory for the operation.
-fn sent(origin: u8, tag: Tag, op: Result<Op, NoMemory>) -> Result<Message, NoMemory>
-    ensures origin { IfOk result (λ m. m.origin ≡ origin) }
-    ensures tag { IfOk result (λ m. m.tag ≡ tag) }
-    ensures op { IfOk result (λ m. op ≡ Ok m.op) }
-{
-    Ok(Message {
-        origin,
-        tag,
-        op: op?,
-    })
-}
-
-/// The message of the bytes, unless there is no memory for it.
+/// The message of the bytes.
 fn message(
     alloc: Global,
     bytes: &[u8],
     n: u8,
     epoch: u32,
     limit: u32,
-) -> Result<Result<Message, NoMemory>, FrameFault>
+) -> Result<Message, DecodeFault>
     requires some { 1 ≤ n }
     requires few { n ≤ 16 }
-    ensures fault { MatchResult result (λ _. frame_fault n epoch limit bytes.now ≡ None) (λ fault. frame_fault n epoch limit bytes.now ≡ Some fault) }
-    ensures says { IfOk result (λ read. IfOk read (λ m. Says (version_at bytes.now) n bytes.now m)) }
+    ensures fault { MatchResult result (λ _. frame_fault n epoch limit bytes.now ≡ None) (IsWhy (frame_fault n epoch limit bytes.now)) }
+    ensures says { IfOk result (λ m. Says (version_at bytes.now) n bytes.now m) }
 {
     let head = read_head(bytes, n, epoch)?;
     let begin = head.version.head_len();
     let tag = timestamp(&bytes[begin..], n);
     if is_bad_number(&tag, head.origin, limit) {
-        return Err(FrameFault::Number);
+        return Err(DecodeFault::Frame(FrameFault::Number));
     }
     let fields = &bytes[begin + 4 * n as usize..];
-    let (op, rest) = operation(alloc, head.version, head.code, fields)?;
-    if !rest.is_empty() {
-        return Err(FrameFault::Rest);
-    }
-    Ok(sent(head.origin, tag, op))
+    let op = operation(alloc, head.version, head.code, fields)?;
+    Ok(Message {
+        origin: head.origin,
+        tag,
+        op,
+    })
 }
 
 /// The message that bytes spell in a store of n members, in an epoch, where no entry of a timestamp is above the limit.
@@ -129,5 +117,5 @@ pub fn decode(
     ensures only { (m : Message) → IsFrame n epoch limit bytes.now m → Gives m result }
     ensures refused { Refuses (frame_fault n epoch limit bytes.now) result }
 {
-    Ok(message(alloc, bytes, n, epoch, limit)??)
+    message(alloc, bytes, n, epoch, limit)
 }

@@ -1,18 +1,17 @@
 //! The fields of a frame, each read from the front of the bytes that are left.
 //!
-//! A reader answers a value and the bytes behind it, or the field's fault. Want of memory is no fault of the bytes,
-//! so it stands beside the rest: a fault of a later field comes before it.
+//! A reader answers a value and the bytes behind it, or the field's fault. Want of memory is no fault of the bytes: a
+//! fault of a later field comes before it. So the reader of the last field also tells whether bytes are left behind it,
+//! and the operation is made once, when nothing but memory can be wanting.
 
-ghost use Rattle.std.specs.Prelude.{◌≡◌, ◌+◌, ◌*◌, ◌≤◌, ◌<◌, ◌||◌, ◌==◌, nat_lt, nat_le, length, take, drop, slice_index, is_ok, IfOk, IfErr, IfSome, is_some, IsTrue, MatchResult, true, Ok, Some, None};
-ghost use Rattle.op_base.specs.Operation.{has_act};
+ghost use Rattle.std.specs.Prelude.{◌≡◌, ◌*◌, ◌≤◌, ◌<◌, ◌||◌, ◌==◌, nat_lt, nat_le, length, take, drop, slice_index, is_ok, IfOk, IfErr, IfSome, is_some, MatchResult, true, Ok, Some, None};
 ghost use Rattle.std.specs.List.{list_any};
 ghost use Rattle.std.specs.Int.{w32, from_be_bytes};
 ghost use Rattle.op_base.specs.Name.{is_key};
-ghost use Rattle.frame_codec.specs.Grammar.{is_sent};
 ghost use Rattle.frame_codec.specs.Fault.{numbers, length_len, length_at, text_of, behind_text, is_text_field};
-ghost use Rattle.frame_codec.specs.Reading.{is_name, is_argument, act_at, behind_act, row_of, operation_fault, SaysOperation, behind_operation};
+ghost use Rattle.frame_codec.specs.Reading.{is_name, act_at, row_of, rest_fault, value_fault, amount_fault, act_fault, fields_fault, IsWhy, SaysOperation};
 
-use crate::fault::FrameFault;
+use crate::fault::{DecodeFault, FrameFault};
 use crate::version::Version;
 use byteorder::{BigEndian, ByteOrder};
 use op_base::{Act, Key, Kind, NameFault, NoMemory, ObjectId, Op, Tag, Update, Value};
@@ -30,9 +29,6 @@ enum Verb {
     Inc,
     Dec,
 }
-
-/// What stands at the front, unless there is no memory for it, and the bytes behind it.
-type Field<'a, T> = Result<(Result<T, NoMemory>, &'a [u8]), FrameFault>;
 
 /// The timestamp of n members, 1 to 16, whose numbers stand at the front.
 pub fn timestamp(bytes: &[u8], n: u8) -> Tag
@@ -110,8 +106,12 @@ fn name_or<T>(
     }
 }
 
-/// A key behind its length.
-fn key_field<'a>(alloc: Global, version: Version, bytes: &'a [u8]) -> Field<'a, Key>
+/// A key behind its length, or want of memory for it, and what stands behind it.
+fn key_field(
+    alloc: Global,
+    version: Version,
+    bytes: &[u8],
+) -> Result<(Result<Key, NoMemory>, &[u8]), FrameFault>
     ensures tested { is_ok result ≡ is_text_field version is_key bytes.now }
     ensures fault { IfErr result (λ fault. fault ≡ FrameFault.BadKey) }
     ensures key { IfOk result (λ x. IfOk x.0 (λ key. key ≡ text_of version bytes.now)) }
@@ -123,31 +123,41 @@ fn key_field<'a>(alloc: Global, version: Version, bytes: &'a [u8]) -> Field<'a, 
     name_or(Key::read(alloc, text), FrameFault::BadKey).map(|key| (key, rest))
 }
 
-/// A value behind its length.
-fn value_field<'a>(alloc: Global, version: Version, bytes: &'a [u8]) -> Field<'a, Value>
-    ensures tested { is_ok result ≡ is_text_field version (is_sent version) bytes.now }
-    ensures fault { IfErr result (λ fault. fault ≡ FrameFault.Argument) }
-    ensures value { IfOk result (λ x. IfOk x.0 (λ value. value ≡ text_of version bytes.now)) }
-    ensures rest { IfOk result (λ x. x.1.now ≡ behind_text version bytes.now) }
+/// Nothing is left behind the last field.
+fn no_rest(rest: &[u8]) -> Result<(), FrameFault>
+    ensures { MatchResult result (λ _. rest_fault rest.now ≡ None) (λ fault. rest_fault rest.now ≡ Some fault) }
 {
-    let Some((text, rest)) = text_field(version, bytes) else {
-        return Err(FrameFault::Argument);
-    };
-    if !version.carries(text.len()) {
-        return Err(FrameFault::Argument);
+    if rest.is_empty() {
+        Ok(())
+    } else {
+        Err(FrameFault::Rest)
     }
-    name_or(Value::read(alloc, text), FrameFault::Argument).map(|value| (value, rest))
 }
 
-/// An amount, and what stands behind it.
-fn amount_field(bytes: &[u8]) -> Result<(u32, &[u8]), FrameFault>
-    ensures tested { is_ok result ≡ nat_le 4 (length bytes.now) }
-    ensures fault { IfErr result (λ fault. fault ≡ FrameFault.Argument) }
-    ensures amount { IfOk result (λ x. x.0 ≡ from_be_bytes w32 (take 4 bytes.now)) }
-    ensures rest { IfOk result (λ x. x.1.now ≡ drop 4 bytes.now) }
+/// A value behind its length, with nothing behind it.
+fn last_value(alloc: Global, version: Version, bytes: &[u8]) -> Result<Value, DecodeFault>
+    ensures fault { MatchResult result (λ _. value_fault version bytes.now ≡ None) (IsWhy (value_fault version bytes.now)) }
+    ensures value { IfOk result (λ value. value ≡ text_of version bytes.now) }
+{
+    let Some((text, rest)) = text_field(version, bytes) else {
+        return Err(DecodeFault::Frame(FrameFault::Argument));
+    };
+    if !version.carries(text.len()) {
+        return Err(DecodeFault::Frame(FrameFault::Argument));
+    }
+    let value = name_or(Value::read(alloc, text), FrameFault::Argument)?;
+    no_rest(rest)?;
+    Ok(value?)
+}
+
+/// An amount, with nothing behind it.
+fn last_amount(bytes: &[u8]) -> Result<u32, FrameFault>
+    ensures fault { MatchResult result (λ _. amount_fault bytes.now ≡ None) (λ fault. amount_fault bytes.now ≡ Some fault) }
+    ensures amount { IfOk result (λ amount. amount ≡ from_be_bytes w32 (take 4 bytes.now)) }
 {
     let (front, rest) = bytes.split_at_checked(4).ok_or(FrameFault::Argument)?;
-    Ok((BigEndian::read_u32(front), rest))
+    no_rest(rest)?;
+    Ok(BigEndian::read_u32(front))
 }
 
 /// The kind and the verb of an update's code. For a number that is none they are those of 19.
@@ -177,67 +187,45 @@ fn kind_and_verb(code: u8) -> (Kind, Verb)
     }
 }
 
-/// The act of a verb, with its argument.
-fn act_field<'a>(alloc: Global, version: Version, verb: Verb, bytes: &'a [u8]) -> Field<'a, Act>
-    ensures tested { is_ok result ≡ is_argument version verb bytes.now }
-    ensures fault { IfErr result (λ fault. fault ≡ FrameFault.Argument) }
-    ensures act { IfOk result (λ x. IfOk x.0 (λ act. act ≡ act_at version verb bytes.now)) }
-    ensures rest { IfOk result (λ x. x.1.now ≡ behind_act version verb bytes.now) }
+/// The act of a verb, with its argument and nothing behind it.
+fn last_act(alloc: Global, version: Version, verb: Verb, bytes: &[u8]) -> Result<Act, DecodeFault>
+    ensures fault { MatchResult result (λ _. act_fault version verb bytes.now ≡ None) (IsWhy (act_fault version verb bytes.now)) }
+    ensures act { IfOk result (λ act. act ≡ act_at version verb bytes.now) }
 {
     match verb {
-        Verb::Add => {
-            let (value, rest) = value_field(alloc, version, bytes)?;
-            Ok((value.map(Act::Add), rest))
+        Verb::Add => Ok(Act::Add(last_value(alloc, version, bytes)?)),
+        Verb::Rmv => Ok(Act::Rmv(last_value(alloc, version, bytes)?)),
+        Verb::Write => Ok(Act::Write(last_value(alloc, version, bytes)?)),
+        Verb::Inc => Ok(Act::Inc(last_amount(bytes)?)),
+        Verb::Dec => Ok(Act::Dec(last_amount(bytes)?)),
+        Verb::Clear => {
+            no_rest(bytes)?;
+            Ok(Act::Clear)
         }
-        Verb::Rmv => {
-            let (value, rest) = value_field(alloc, version, bytes)?;
-            Ok((value.map(Act::Rmv), rest))
+        Verb::Enable => {
+            no_rest(bytes)?;
+            Ok(Act::Enable)
         }
-        Verb::Clear => Ok((Ok(Act::Clear), bytes)),
-        Verb::Enable => Ok((Ok(Act::Enable), bytes)),
-        Verb::Disable => Ok((Ok(Act::Disable), bytes)),
-        Verb::Write => {
-            let (value, rest) = value_field(alloc, version, bytes)?;
-            Ok((value.map(Act::Write), rest))
-        }
-        Verb::Inc => {
-            let (amount, rest) = amount_field(bytes)?;
-            Ok((Ok(Act::Inc(amount)), rest))
-        }
-        Verb::Dec => {
-            let (amount, rest) = amount_field(bytes)?;
-            Ok((Ok(Act::Dec(amount)), rest))
+        Verb::Disable => {
+            no_rest(bytes)?;
+            Ok(Act::Disable)
         }
     }
 }
 
-/// The update of a kind, with what was read of it.
-fn update(
-    kind: Kind,
-    key: Result<Key, NoMemory>,
-    act: Result<Act, NoMemory>,
-) -> Result<Update, NoMemory>
-    requires { IfOk act (λ act. IsTrue (has_act kind act)) }
-    ensures object { IfOk result (λ update. update.object.kind ≡ kind) }
-    ensures key { IfOk result (λ update. key ≡ Ok update.object.key) }
-    ensures act { IfOk result (λ update. act ≡ Ok update.act) }
-{
-    let object = ObjectId { kind, key: key? };
-    Ok(Update { object, act: act? })
-}
-
-/// The operation of a code, with its key and its argument.
-pub fn operation<'a>(alloc: Global, version: Version, code: u8, bytes: &'a [u8]) -> Field<'a, Op>
+/// The operation of a code, with its key and its argument and nothing behind them.
+pub fn operation(alloc: Global, version: Version, code: u8, bytes: &[u8]) -> Result<Op, DecodeFault>
     requires { code ≤ 19 }
-    ensures fault { MatchResult result (λ _. operation_fault version code bytes.now ≡ None) (λ fault. operation_fault version code bytes.now ≡ Some fault) }
-    ensures operation { IfOk result (λ x. IfOk x.0 (λ op. SaysOperation version code bytes.now op)) }
-    ensures rest { IfOk result (λ x. x.1.now ≡ behind_operation version code bytes.now) }
+    ensures fault { MatchResult result (λ _. fields_fault version code bytes.now ≡ None) (IsWhy (fields_fault version code bytes.now)) }
+    ensures operation { IfOk result (λ op. SaysOperation version code bytes.now op) }
 {
     if code == 0 {
-        return Ok((Ok(Op::NoOp), bytes));
+        no_rest(bytes)?;
+        return Ok(Op::NoOp);
     }
     let (kind, verb) = kind_and_verb(code);
     let (key, rest) = key_field(alloc, version, bytes)?;
-    let (act, rest) = act_field(alloc, version, verb, rest)?;
-    Ok((update(kind, key, act).map(Op::Update), rest))
+    let act = last_act(alloc, version, verb, rest)?;
+    let object = ObjectId { kind, key: key? };
+    Ok(Op::Update(Update { object, act }))
 }
