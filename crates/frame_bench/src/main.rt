@@ -69,17 +69,21 @@ fn encode_often(alloc: Global, message: &Message, n: u8, count: u32) -> Result<u
     Ok(bytes)
 }
 
-/// Decodes a frame so often. The number of bytes of all the frames, modulo 2^64.
-fn decode_often(alloc: Global, frame: &[u8], n: u8, count: u32) -> Result<u64>
+/// Decodes a message's frame so often, and tells that the last is equal to it. The number of bytes of all the frames,
+/// modulo 2^64.
+fn decode_often(alloc: Global, message: &Message, n: u8, count: u32) -> Result<u64>
+    requires message { IsTrue (fits n message.now) }
     requires some { 1 ≤ n }
     requires few { n ≤ 16 }
 {
+    let frame = encode(alloc, message, n, EPOCH)?;
+    let mut last = decode(alloc, &frame, n, EPOCH, LIMIT)?;
     let mut bytes = 0u64;
     for _ in 0..count {
-        let message = decode(alloc, frame, n, EPOCH, LIMIT)?;
-        ensure!(message.tag.members() == n, "a timestamp of other members");
+        last = decode(alloc, &frame, n, EPOCH, LIMIT)?;
         bytes = bytes.wrapping_add(frame.len() as u64);
     }
+    ensure!(last == *message, "another message");
     Ok(bytes)
 }
 
@@ -111,10 +115,7 @@ fn measure(alloc: Global, call: &str, message: &Message, count: u32) -> Result<u
     );
     match call {
         "encode" => encode_often(alloc, message, n, count),
-        "decode" => {
-            let frame = encode(alloc, message, n, EPOCH)?;
-            decode_often(alloc, &frame, n, count)
-        }
+        "decode" => decode_often(alloc, message, n, count),
         "copy" => copy_often(alloc, message, count),
         _ => bail!("no call: {call}"),
     }
