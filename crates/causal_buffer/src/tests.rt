@@ -37,6 +37,11 @@ impl Receiver {
         }
     }
 
+    /// Whether a message of an id is early.
+    fn holds(&self, id: MessageId) -> bool {
+        id.origin < self.counts.members() && self.buffer.holds(id)
+    }
+
     /// Takes out what is next, as delivered. `None` where there is none.
     fn deliver(&mut self) -> Option<MessageId> {
         let id = self.buffer.next(&self.counts)?;
@@ -171,14 +176,14 @@ fn a_chain_comes_in_reverse(rt: HostRuntime) -> Result<(), Fail> {
     }
     assert_eq!(rt; receiver.buffer.len(), 945);
     assert_eq!(rt;
-        receiver.buffer.holds(MessageId {
+        receiver.holds(MessageId {
             origin: 14,
             seq: 63
         }),
         true
     );
     assert_eq!(rt;
-        receiver.buffer.holds(MessageId {
+        receiver.holds(MessageId {
             origin: 15,
             seq: 63
         }),
