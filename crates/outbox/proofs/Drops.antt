@@ -1,16 +1,14 @@
 -- What is left of an outbox's messages, and what it stands for.
-use Rattle.std.proofs.Common.{◌≡◌, ℕ, zero, suc, ◌==◌, ◌+◌, ◌-◌, ◌<◌, ◌≤◌, List, [], ◌∷◌, ◌++◌, length, take, drop, get_or, refl, sym, ap, subst, ◌∙◌, inl, inr, if◌then◌else◌, append-nil, length-drop, zero-add, arith}
-use Rattle.std.specs.Prelude.{AllPairs, IsTrue}
+use Rattle.std.proofs.Common.{◌≡◌, ℕ, ◌==◌, ◌+◌, List, [], ◌∷◌, ◌++◌, drop, get_or, sym, ap, subst, ◌∙◌, inl, inr, if◌then◌else◌, append-nil, length-drop, arith}
+use Rattle.std.specs.Prelude.{AllPairs}
 use Rattle.std.proofs.lemmas.Bool.{cases_eq, cond-true, cond-false, eq-eqb, ne_eqb}
-use Rattle.std.proofs.Math.Nat.{suc-add}
-use Rattle.std.proofs.lemmas.List.{get_or-drop, take_all}
+use Rattle.std.proofs.lemmas.List.{get_or-drop}
 use Rattle.op_base.specs.declared.message.Message.{Message}
-use Rattle.causal_model.specs.Chapter.{is_chapter}
 use Rattle.causal_model.specs.Sending.{outbox_of}
 use Rattle.causal_model.specs.Stability.{stable_vector}
 use Rattle.causal_model.proofs.Logs.{outbox_of-push}
 use Rattle.outbox.specs.Sent.{Sent, unstable_in}
-use Rattle.outbox.specs.Standing.{IsBeforeDrop, SendsNext, DropsAfter}
+use Rattle.outbox.specs.Standing.{SendsNext, DropsAfter}
 
 pub sends_next : (m : Message) (old new : List Message) → new ≡ old ++ m ∷ [] → SendsNext m old new
 sends_next m old new is n me ms stands own = (λ _. is ∙ ap (λ held. held ++ m ∷ []) stands, λ other. absurd (other own))

@@ -1,9 +1,9 @@
 -- Messages of one origin with rising numbers, of which the stable ones stand in front.
-use Rattle.std.proofs.Common.{◌≡◌, ℕ, zero, suc, ◌<◌, ◌≤◌, Bool, true, false, not, All, List, [], ◌∷◌, length, drop, get_or, refl, sym, ap, ◌∙◌, inl, inr, arith}
+use Rattle.std.proofs.Common.{◌≡◌, ℕ, zero, suc, ◌<◌, ◌≤◌, Bool, true, false, not, List, [], ◌∷◌, length, drop, get_or, refl, sym, ap, ◌∙◌, inl, inr, arith}
 use Rattle.std.specs.Prelude.{AllPairs}
 use Rattle.std.proofs.lemmas.List.{get_or_default}
 use Rattle.std.specs.List.{filter}
-use Rattle.std.proofs.lemmas.Bool.{cond-true, cond-false, cases_lt, le-leb, leb-true, false_from_ne_true}
+use Rattle.std.proofs.lemmas.Bool.{cond-false, cases_lt, le-leb, leb-true, false_from_ne_true}
 use Rattle.op_base.specs.Message.{number}
 use Rattle.op_base.specs.Timestamp.{entry}
 use Rattle.op_base.specs.declared.message.Message.{Message}

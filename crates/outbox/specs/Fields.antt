@@ -1,7 +1,6 @@
 -- An outbox's fields.
-use Rattle.std.specs.Prelude.{ℕ, ◌≤◌, length, vec_capacity, IsTrue, All, AllPairs}
+use Rattle.std.specs.Prelude.{◌≤◌, length, vec_capacity, IsTrue, All, AllPairs}
 use Rattle.op_base.specs.Message.{fits}
-use Rattle.op_base.specs.declared.message.Message.{Message}
 use Rattle.outbox.specs.Sent.{Sent, ComesAfter, room_of}
 use Rattle.outbox.specs.declared.outbox.Outbox.TheInside.{Inside}
 

@@ -1,4 +1,4 @@
-use Rattle.std.proofs.Common.{◌≡◌, ◌≤◌, List, length, length-drop, drop, All, ap, sym, subst, ◌∙◌, arith}
+use Rattle.std.proofs.Common.{◌≡◌, List, length, length-drop, drop, All, ap, sym, subst, ◌∙◌, arith}
 use Rattle.std.specs.Prelude.{IsTrue, AllPairs}
 use Rattle.std.proofs.lemmas.List.Elements.{All-drop}
 use Rattle.op_base.specs.Message.{fits}
