@@ -18,8 +18,7 @@ pub fn most_early(n: u8, w: u8) -> u32
     requires some { 1 ≤ n }
     requires few { n ≤ MOST_MEMBERS }
     requires narrow { w ≤ 64 }
-    ensures most { result ≡ w + noop_window n w }
-    ensures bound { result ≤ 1985 }
+    ensures { result ≡ w + noop_window n w }
 {
     let w = u32::from(w);
     w + 2 * (u32::from(n) - 1) * w + 1
