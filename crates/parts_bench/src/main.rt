@@ -1,10 +1,16 @@
-//! Fills a part of a replica to its room and empties it many times, for `bench/run` to measure.
+//! Fills a part of a replica and empties it, many times, for `bench/run` to measure.
 //!
-//! Its words are the part; how many members the store has, 1 to 16; its window, 1 to 64; how many entries a member has in
-//! the part, which is filled no further than its room; and how many turns there are. It prints how many entries all the
-//! turns had together.
+//! Its words are the part (`window`, `buffer`, `matrix` or `outbox`); how many members the store has, 1 to 16; its window,
+//! 1 to 64; how much of the room is filled, in hundredths; `order`, or at the buffer `reverse` too; and how many turns there
+//! are. It prints how many messages went through the part.
 #![tactic(auto)]
 
+ghost use Rattle.std.specs.Prelude.{◌≡◌, ◌+◌, ◌≤◌};
+ghost use Rattle.causal_model.specs.Stability.{noop_window};
+
+mod buffer;
+mod matrix;
+mod sending;
 mod window;
 
 use anyhow::{Context, Result, bail, ensure};
@@ -21,25 +27,47 @@ fn small(word: &str) -> Result<u8> {
     Ok(word.parse::<u8>().context("reading a small number")?)
 }
 
+/// How many messages of one member a part has room for.
+fn room(n: u8, w: u8) -> u32
+    requires some { 1 ≤ n }
+    requires few { n ≤ MOST_MEMBERS }
+    requires narrow { w ≤ MOST_WINDOW }
+    ensures room { result ≡ w + noop_window n w }
+    ensures bound { result ≤ 1985 }
+{
+    let window = u32::from(w);
+    window + 2 * (u32::from(n) - 1) * window + 1
+}
+
 fn main(rt: HostRuntime) -> Result<()> {
     let alloc = rt.alloc();
     let words: Vec<String> = env::args(&rt)?.collect(alloc)?;
-    let [_, part, members, window, entries, turns] = words.as_slice() else {
-        bail!("the words are a part, members, a window, entries a member, and turns");
+    let [_, part, members, window, filled, order, turns] = words.as_slice() else {
+        bail!("the words are a part, members, a window, how much is filled, an order, and turns");
     };
     let n = small(members.as_str())?;
     let w = small(window.as_str())?;
+    let filled = number(filled.as_str())?;
+    let turns = number(turns.as_str())?;
     ensure!(
         n >= 1 && n as usize <= MOST_MEMBERS,
         "no store has {n} members"
     );
     ensure!(w >= 1 && w <= MOST_WINDOW, "no store has a window of {w}");
-    let entries = number(entries.as_str())?;
-    let turns = number(turns.as_str())?;
-    let count = match part.as_str() {
-        "window" => window::turn_often(alloc, n, w, entries, turns)?,
+    ensure!(filled <= 100, "more than the room");
+    let reverse = match order.as_str() {
+        "order" => false,
+        "reverse" => true,
+        _ => bail!("no order: {order}"),
+    };
+    let messages = match part.as_str() {
+        "buffer" => buffer::measure(alloc, n, w, filled, reverse, turns)?,
+        _ if reverse => bail!("{part} has one order"),
+        "window" => window::measure(alloc, n, w, filled, turns)?,
+        "matrix" => matrix::measure(n, filled, turns)?,
+        "outbox" => sending::measure(alloc, n, w, filled, turns)?,
         _ => bail!("no part: {part}"),
     };
-    println!(rt; "{count}")?;
+    println!(rt; "{messages}")?;
     Ok(())
 }

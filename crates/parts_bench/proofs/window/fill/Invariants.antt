@@ -8,7 +8,8 @@ abbrev pub invariant-loop-done : goal.invariant-loop-done
 invariant-loop-done l = record {
   members : length l.window.held ≡ l.n;
   bound : l.window.w ≡ l.initial.window.w;
-  count : length (held_of l.window 0) ≡ l.done;
-  next : (last : Held) → 0 < length (held_of l.window 0) → entry (get_or (held_of l.window 0) (length (held_of l.window 0) - 1) last).tag 0 ≡ l.done;
-  crooked : l.crooked ≤ l.done;
+  count : length (held_of l.window l.origin) ≡ l.done;
+  next : (last : Held) → 0 < length (held_of l.window l.origin) → entry (get_or (held_of l.window l.origin) (length (held_of l.window l.origin) - 1) last).tag l.origin ≡ l.done;
+  last : length l.last ≡ l.n;
+  held : l.held ≤ l.done;
 }
