@@ -244,7 +244,7 @@ fn an_input_has_at_most_4194304_bytes(rt: HostRuntime) -> Result<(), Fail> {
 }
 
 #[test]
-fn a_command_line_has_at_most_16384_bytes(rt: HostRuntime) -> Result<(), Fail> {
+fn a_header_has_at_most_16384_bytes(rt: HostRuntime) -> Result<(), Fail> {
     for (spaces, status) in [(16375, Status::Fine), (16376, Status::BadHeader)] {
         let mut input = Vec::from_slice(rt.alloc(), b"store 1 1")?;
         for _ in 0..spaces {
@@ -276,11 +276,11 @@ fn the_program_ends_with_0_to_6(rt: HostRuntime) -> Result<(), Fail> {
 }
 
 #[test]
-fn a_line_has_at_most_512_bytes(rt: HostRuntime) -> Result<(), Fail> {
+fn a_command_has_at_most_16384_bytes(rt: HostRuntime) -> Result<(), Fail> {
     let alloc = rt.alloc();
     for (blanks, reply) in [
-        (492usize, b"ok 1\n".as_slice()),
-        (493, b"bad 9\n".as_slice()),
+        (16364usize, b"ok 1\n".as_slice()),
+        (16365, b"bad 9\n".as_slice()),
     ] {
         let mut input = Vec::from_slice(alloc, b"store 1 1\ndo 0 counter:a inc 5")?;
         for _ in 0..blanks {
