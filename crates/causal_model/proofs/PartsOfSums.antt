@@ -16,7 +16,7 @@ use Rattle.causal_model.specs.Log.{is_kept, is_uncovered}
 use Rattle.causal_model.specs.Query.{rcounter_sum, share_of, total_of, counter_sum}
 use Rattle.causal_model.specs.Settled.{is_stable_event, is_uncovered_event, is_settled, is_pending, object_cell, settled_cell}
 use Rattle.causal_model.specs.Stability.{stable_vector, is_stable}
-use Rattle.causal_model.specs.Laws.Cells.{log_of}
+use Rattle.causal_model.specs.CellSteps.{log_of}
 use Rattle.causal_model.specs.Laws.Events.{present_event}
 use Rattle.causal_model.proofs.Covers.{is_amount, rcounter_keeps, share_none}
 use Rattle.causal_model.proofs.Parts.{past_is_not_pending, present_is_pending, kept_is_logged, is_kept_act}

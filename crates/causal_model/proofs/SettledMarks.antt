@@ -16,11 +16,10 @@ use Rattle.op_base.specs.declared.operation.Op.{Op}
 use Rattle.op_base.specs.declared.operation.Op.TheVariants as op
 use Rattle.op_base.specs.declared.outcome.Cell.{Cell}
 use Rattle.causal_model.specs.Acts.{acts_on}
-use Rattle.causal_model.specs.CellSteps.{covers_value, covers_place, cell_uncovered, cell_with, marks_settled, cell_settled, puts_in, is_put_in, pruned_log}
+use Rattle.causal_model.specs.CellSteps.{covers_value, covers_place, cell_uncovered, cell_with, marks_settled, cell_settled, puts_in, is_put_in, pruned_log, log_of, stripped_of}
 use Rattle.causal_model.specs.Covering.{store_keeps, store_covers}
 use Rattle.causal_model.specs.History.{History, with_message, is_history}
 use Rattle.causal_model.specs.Items.{zero_cell}
-use Rattle.causal_model.specs.Laws.Cells.{log_of, stripped_of}
 use Rattle.causal_model.specs.Log.{is_kept, is_covered_by, is_uncovered}
 use Rattle.causal_model.specs.Order.{happened_before}
 use Rattle.causal_model.specs.Settled.{settled_cell}

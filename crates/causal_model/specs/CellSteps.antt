@@ -1,7 +1,7 @@
 -- What one message more does to settled cells, step by step: what it covers goes, the entries of the log that are stable
 -- now are absorbed, and the marks of the kinds in which a remove wins are settled. The cells are this project's own
 -- profile.
-use Rattle.std.specs.Prelude.{ℕ, Bool, true, false, not, ◌&&◌, ◌||◌, ◌+ℤ◌, List, [], ◌∷◌, ◌++◌, filter, Option, Some, None, if◌then◌else◌}
+use Rattle.std.specs.Prelude.{ℕ, Bool, true, false, not, ◌&&◌, ◌||◌, ◌+ℤ◌, List, [], ◌∷◌, ◌++◌, filter, fold, take, length, Option, Some, None, if◌then◌else◌}
 use Rattle.std.specs.List.{list_any}
 use Rattle.std.specs.Ordering.{is_eq}
 use Rattle.op_base.specs.Object.{same_object}
@@ -17,12 +17,19 @@ use Rattle.op_base.specs.declared.operation.Op.TheVariants as op
 use Rattle.op_base.specs.declared.operation.Update.{Update}
 use Rattle.op_base.specs.declared.outcome.Cell.{Cell}
 use Rattle.causal_model.specs.Acts.{acts_on, value_of, is_clear, is_enable, is_add_of}
-use Rattle.causal_model.specs.Covering.{same_value}
+use Rattle.causal_model.specs.Covering.{same_value, store_keeps, store_covers}
+use Rattle.causal_model.specs.History.{History}
 use Rattle.causal_model.specs.Items.{zero_cell}
 use Rattle.causal_model.specs.Log.{is_kept, is_covered_by, kept_log}
 use Rattle.causal_model.specs.Order.{happened_before}
 use Rattle.causal_model.specs.Query.{amount_of}
+use Rattle.causal_model.specs.Settled.{settled_cell}
 use Rattle.causal_model.specs.Stability.{stable_vector, is_stable}
+
+-- whether a kind is that of counters that can't be cleared
+abbrev pub is_counter : Kind → Bool
+is_counter Counter = true
+is_counter kind = false
 
 -- whether an act of a kind covers what is settled of a value, or of an object without one
 abbrev pub covers_value : Kind → Act → Option (List ℕ) → Bool
@@ -94,3 +101,28 @@ stripped_log keeps covers n me messages m =
 -- whether a message of a log puts in what an object's value says, or turns it on
 abbrev pub is_put_in : List Message → ObjectId → Option (List ℕ) → Bool
 is_put_in log object value = list_any (λ m. acts_on object (puts_in value) m.op) log
+
+-- ---- by the store's rules
+
+-- the log of a history's present epoch
+abbrev pub log_of : History → List Message
+log_of h = kept_log store_keeps store_covers h.present.n h.present.me h.present.messages
+
+-- the entries that go from that log as settled, when a message has come
+abbrev pub stripped_of : History → Message → List Message
+stripped_of h m = stripped_log store_keeps store_covers h.present.n h.present.me h.present.messages m
+
+-- a cell of a history when a message has come: without what the message covers, and with the first k of the entries that go
+-- from the log
+abbrev pub cell_absorbed : History → Message → ℕ → ObjectId → Option (List ℕ) → Cell
+cell_absorbed h m k object value =
+    fold (λ cell e. cell_with object value cell e.op) (cell_uncovered object value m.op (settled_cell h object value)) (take k (stripped_of h m))
+
+-- an operation that is applied at once, since it is one of a counter that can't be cleared; no other is
+abbrev pub cell_applied : ObjectId → Option (List ℕ) → Op → Cell → Cell
+cell_applied object value op.NoOp cell = cell
+cell_applied object value (op.Update u) cell = if is_counter u.object.kind then cell_with object value cell (op.Update u) else cell
+
+-- the same with all of them, and with the message where it is applied at once
+abbrev pub cell_moved : History → Message → ObjectId → Option (List ℕ) → Cell
+cell_moved h m object value = cell_applied object value m.op (cell_absorbed h m (length (stripped_of h m)) object value)

@@ -1,6 +1,7 @@
 -- A finite map of items, as a list of them. The cells are this project's own profile.
 use Rattle.std.specs.Prelude.{◌≡◌, ℕ, Bool, false, not, ◌||◌, pos, List, [], ◌∷◌, Option, Some, None, if◌then◌else◌, AllPairs}
 use Rattle.std.specs.Ordering.{is_eq, int_eq}
+use Rattle.std.specs.declared.cmp.Ordering.TheVariants.{Less}
 use Rattle.op_base.specs.Order.{item_cmp}
 use Rattle.op_base.specs.declared.name.ObjectId.{ObjectId}
 use Rattle.op_base.specs.declared.outcome.Cell.{Cell}
@@ -26,6 +27,10 @@ cell_in (item ∷ items) object value = if is_at object value item then item.cel
 -- no two items are of one object and value
 abbrev pub AreApart : List Item → Type 0
 AreApart items = AllPairs (λ (a b : Item). is_at b.object b.value a ≡ false) items
+
+-- items rise in their one order
+abbrev pub Rise : List Item → Type 0
+Rise items = AllPairs (λ (a b : Item). item_cmp a.object a.value b.object b.value ≡ Less) items
 
 -- an item is there, and has this object, value and cell
 abbrev pub IsItem : Option Item → ObjectId → Option (List ℕ) → Cell → Type 0

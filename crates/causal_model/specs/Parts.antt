@@ -1,6 +1,6 @@
 -- Answers from parts: what an object is, told from the events that nothing covers, and from its settled cells and the
 -- entries of the log. The kinds are this project's own profile.
-use Rattle.std.specs.Prelude.{ℕ, Bool, false, not, ◌&&◌, ◌||◌, List, filter, Option, Some, None}
+use Rattle.std.specs.Prelude.{◌≡◌, ℕ, Bool, true, false, not, ◌&&◌, ◌||◌, List, filter, Option, Some, None}
 use Rattle.std.specs.List.{list_any}
 use Rattle.op_base.specs.declared.name.ObjectId.{ObjectId}
 use Rattle.op_base.specs.declared.name.Kind.{Kind}
@@ -10,10 +10,13 @@ use Rattle.op_base.specs.declared.operation.Act.{Act}
 use Rattle.op_base.specs.declared.outcome.Answer.{Answer}
 use Rattle.op_base.specs.declared.outcome.Answer.TheVariants.{Values, Flag, Sum}
 use Rattle.op_base.specs.declared.outcome.Cell.{Cell}
+use Rattle.op_base.specs.declared.outcome.Item.{Item}
 use Rattle.causal_model.specs.Acts.{acts_on, is_add_of, is_rmv_of, is_write_of, is_enable, is_disable}
-use Rattle.causal_model.specs.History.{Event}
+use Rattle.causal_model.specs.CellSteps.{log_of}
+use Rattle.causal_model.specs.History.{History, Event}
+use Rattle.causal_model.specs.Items.{cell_in}
 use Rattle.causal_model.specs.Query.{is_act_on, awset_has, rwset_has, mvreg_has, ewflag_on, dwflag_on, counter_sum, values_that}
-use Rattle.causal_model.specs.Settled.{is_uncovered_event}
+use Rattle.causal_model.specs.Settled.{is_uncovered_event, settled_cell}
 
 -- whether an act puts in a value, or turns on a flag
 abbrev pub puts : Option (List ℕ) → Act → Bool
@@ -64,3 +67,13 @@ uncovered_answer DwFlag object events = Flag (has_by_uncovered DwFlag object eve
 uncovered_answer Counter object events = Sum (counter_sum object events)
 uncovered_answer RCounter object events = Sum (counter_sum object (filter (is_uncovered_event events) events))
 uncovered_answer kind object events = Values (values_that (λ value. has_by_uncovered kind object events (Some value)) object events)
+
+-- whether a message's operation is of an object
+abbrev pub is_on : ObjectId → Message → Bool
+is_on object m = acts_on object (λ act. true) m.op
+
+-- Entries and items are an object's part of a history: its entries of the log, and its settled cells. The items may have
+-- cells of other objects too.
+pub record ArePartsOf (h : History) (object : ObjectId) (entries : List Message) (items : List Item) : Type 0 where
+  pub logged : entries ≡ filter (is_on object) (log_of h)
+  pub settled : (value : Option (List ℕ)) → cell_in items object value ≡ settled_cell h object value

@@ -1,6 +1,6 @@
 -- Queries: what an object is, over all events of a history and their order. They name no order of delivery, no log and
 -- no stability. The kinds are the usual ones, in this project's wording.
-use Rattle.std.specs.Prelude.{ℕ, Bool, not, ◌||◌, ◌&&◌, ℤ, pos, ◌+ℤ◌, neg_ℤ, List, [], ◌∷◌, map, filter, fold, Option, Some, None, if◌then◌else◌}
+use Rattle.std.specs.Prelude.{ℕ, Bool, not, ◌||◌, ◌&&◌, ℤ, pos, ◌+ℤ◌, ◌<ℤ◌, neg_ℤ, List, [], ◌∷◌, map, filter, fold, Option, Some, None, if◌then◌else◌}
 use Rattle.std.specs.List.{list_any, list_all}
 use Rattle.std.specs.Ordering.{is_lt, is_eq}
 use Rattle.op_base.specs.Object.{same_object}
@@ -79,6 +79,10 @@ counter_sum object events = total_of object (map (λ e. e.message.op) events)
 -- a counter that can be cleared: the same over the live operations
 abbrev pub rcounter_sum : ObjectId → List Event → ℤ
 rcounter_sum object events = counter_sum object (filter (is_live object events) events)
+
+-- a sum lies strictly between a bound's negative and the bound
+abbrev pub IsWithin : ℕ → ℤ → Type 0
+IsWithin bound sum = (neg_ℤ (pos bound) <ℤ sum) × (sum <ℤ pos bound)
 
 -- a value put into a list in byte order, once
 abbrev pub put_value : List ℕ → List (List ℕ) → List (List ℕ)

@@ -4,7 +4,7 @@ ghost use Rattle.std.specs.Prelude.{◌≡◌, ◌<◌, ℕ, List, All, IsTrue, 
 ghost use Rattle.op_base.specs.declared.name.ObjectId.{ObjectId};
 ghost use Rattle.op_base.specs.declared.outcome.Cell.{Cell};
 ghost use Rattle.op_base.specs.declared.outcome.Item.{Item};
-ghost use Rattle.causal_model.specs.Items.{cell_in, is_filled, AreApart, IsItem};
+ghost use Rattle.causal_model.specs.Items.{cell_in, is_filled, Rise, IsItem};
 
 use op_base::{Cell, ObjectId, Value};
 
@@ -26,8 +26,8 @@ pub trait ItemView {
         requires { place < length (items self.now) }
         ensures { IsItem (slice_get (items self.now) place) result.0.now (option_copied result.1) result.2 };
 
-    /// No two items are of one object and value.
-    ghost apart: { (v : Self) → AreApart (items v) };
+    /// The items stand in their one order, so no two are of one object and value.
+    ghost rise: { (v : Self) → Rise (items v) };
 
     /// Each item's cell has a mark or a sum.
     ghost filled: { (v : Self) → All (λ item. IsTrue (is_filled item.cell)) (items v) };

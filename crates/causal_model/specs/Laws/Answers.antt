@@ -1,21 +1,24 @@
 -- How answers come from settled cells and the log, and how large they are. Each statement is the contract of a function of
 -- laws/answers.rt.
-use Rattle.std.specs.Prelude.{◌≡◌, ◌↔◌, ℕ, ◌≤◌, ◌^◌, Bool, ◌||◌, List, map, filter, IsTrue, AllPairs, Contains, Option, Some, None, pos, neg_ℤ, ◌+ℤ◌, ◌<ℤ◌}
+use Rattle.std.specs.Prelude.{◌≡◌, ◌↔◌, ℕ, ◌≤◌, ◌^◌, Bool, ◌||◌, List, map, filter, IsTrue, AllPairs, Contains, Option, Some, None, ◌+ℤ◌}
 use Rattle.std.specs.List.{list_any}
 use Rattle.std.specs.declared.cmp.Ordering.TheVariants.{Less}
 use Rattle.op_base.specs.Object.{same_object}
 use Rattle.op_base.specs.Order.{text_cmp}
 use Rattle.op_base.specs.declared.name.ObjectId.{ObjectId}
-use Rattle.op_base.specs.declared.name.Kind.TheVariants.{RCounter}
+use Rattle.op_base.specs.declared.name.Kind.TheVariants.{Counter, RCounter}
+use Rattle.op_base.specs.declared.message.Message.{Message}
 use Rattle.op_base.specs.declared.operation.Act.{Act}
 use Rattle.op_base.specs.declared.operation.Update.{Update}
+use Rattle.op_base.specs.declared.outcome.Item.{Item}
 use Rattle.causal_model.specs.Acts.{value_of}
 use Rattle.causal_model.specs.Covering.{store_keeps, same_value}
+use Rattle.causal_model.specs.Items.{cell_in}
 use Rattle.causal_model.specs.History.{History, Event, events, is_history, is_limited}
-use Rattle.causal_model.specs.Query.{is_act_on, counter_sum, rcounter_sum, total_of, values_that}
+use Rattle.causal_model.specs.Query.{is_act_on, counter_sum, rcounter_sum, total_of, values_that, IsWithin}
 use Rattle.causal_model.specs.Settled.{has_settled, has_pending, settled_cell}
-use Rattle.causal_model.specs.Parts.{has, has_by_parts, has_uncovered, has_logged}
-use Rattle.causal_model.specs.Laws.Cells.{log_of}
+use Rattle.causal_model.specs.Parts.{has, has_by_parts, has_uncovered, has_logged, ArePartsOf}
+use Rattle.causal_model.specs.CellSteps.{log_of}
 
 -- ---- from the log and the settled cells
 
@@ -39,6 +42,19 @@ HasByParts = (w : ℕ) (h : History) (object : ObjectId) (value : Option (List �
 abbrev pub RCounterByParts : Type 0
 RCounterByParts = (w : ℕ) (h : History) (object : ObjectId) → IsTrue (is_history w h) → object.kind ≡ RCounter
     → rcounter_sum object (events h) ≡ (settled_cell h object None).sum +ℤ total_of object (map (λ m. m.op) (log_of h))
+
+-- so the query of each kind is one of an object's part of a history
+abbrev pub HasFromParts : Type 0
+HasFromParts = (w : ℕ) (h : History) (object : ObjectId) (value : Option (List ℕ)) (entries : List Message) (items : List Item)
+    → IsTrue (is_history w h) → ArePartsOf h object entries items
+    → has object.kind object (events h) value ≡ has_by_parts object.kind object (cell_in items object value) entries value
+
+-- and the sum of each counter is its cell's sum and its entries
+abbrev pub SumFromParts : Type 0
+SumFromParts = (w : ℕ) (h : History) (object : ObjectId) (entries : List Message) (items : List Item)
+    → IsTrue (is_history w h) → ArePartsOf h object entries items
+    → ((object.kind ≡ Counter → counter_sum object (events h) ≡ (cell_in items object None).sum +ℤ total_of object (map (λ m. m.op) entries))
+    × (object.kind ≡ RCounter → rcounter_sum object (events h) ≡ (cell_in items object None).sum +ℤ total_of object (map (λ m. m.op) entries)))
 
 -- ---- the values of an answer
 
@@ -71,4 +87,4 @@ OneRisingList = (xs ys : List (List ℕ)) → TextsRise xs → TextsRise ys → 
 -- a sum over any of the events of a history fits a number of 128 bits by far
 abbrev pub SumsAreBounded : Type 0
 SumsAreBounded = (w limit : ℕ) (h : History) (object : ObjectId) (passes : Event → Bool) → IsTrue (is_history w h) → IsTrue (is_limited limit h) → limit ≤ 1000000
-    → (neg_ℤ (pos (2 ^ 80)) <ℤ counter_sum object (filter passes (events h))) × (counter_sum object (filter passes (events h)) <ℤ pos (2 ^ 80))
+    → IsWithin (2 ^ 80) (counter_sum object (filter passes (events h)))

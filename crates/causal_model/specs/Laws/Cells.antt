@@ -1,27 +1,16 @@
 -- What holds of settled cells and items, and what one message more makes of them. Each statement is the contract of a
 -- function of laws/cells.rt.
-use Rattle.std.specs.Prelude.{◌≡◌, ◌≢◌, ℕ, List, [], length, fold, IsTrue, All, AllPairs, Option, Some, None, ◌+ℤ◌}
-use Rattle.std.specs.declared.cmp.Ordering.TheVariants.{Less}
-use Rattle.op_base.specs.Order.{item_cmp}
+use Rattle.std.specs.Prelude.{◌≡◌, ◌≢◌, ℕ, ◌≤◌, ◌^◌, Bool, true, false, List, [], length, fold, IsTrue, All, Option, Some, None, ◌+ℤ◌}
 use Rattle.op_base.specs.declared.message.Message.{Message}
 use Rattle.op_base.specs.declared.name.ObjectId.{ObjectId}
-use Rattle.op_base.specs.declared.name.Kind.TheVariants.{Counter}
+use Rattle.op_base.specs.declared.name.Kind.{Kind}
+use Rattle.op_base.specs.declared.name.Kind.TheVariants.{AwSet, RwSet, EwFlag, DwFlag, MvReg, Counter, RCounter}
 use Rattle.op_base.specs.declared.outcome.Item.{Item}
-use Rattle.causal_model.specs.CellSteps.{cell_uncovered, cell_with, cell_settled, stripped_log, is_put_in}
-use Rattle.causal_model.specs.Covering.{store_keeps, store_covers}
-use Rattle.causal_model.specs.History.{History, no_history, with_message, is_history}
-use Rattle.causal_model.specs.Items.{cell_in, AreApart, is_filled, zero_cell}
-use Rattle.causal_model.specs.Log.{kept_log}
-use Rattle.causal_model.specs.Query.{share_of}
+use Rattle.causal_model.specs.CellSteps.{cell_uncovered, cell_with, cell_settled, is_put_in, log_of, stripped_of, cell_absorbed, cell_moved}
+use Rattle.causal_model.specs.History.{History, no_history, with_message, is_history, is_limited}
+use Rattle.causal_model.specs.Items.{cell_in, AreApart, Rise, is_filled, zero_cell}
+use Rattle.causal_model.specs.Query.{share_of, IsWithin}
 use Rattle.causal_model.specs.Settled.{sum_cell, settled_cell, settled_items}
-
--- the log of a history's present epoch, by the store's rules
-abbrev pub log_of : History → List Message
-log_of h = kept_log store_keeps store_covers h.present.n h.present.me h.present.messages
-
--- the entries that go from that log as settled, when a message has come
-abbrev pub stripped_of : History → Message → List Message
-stripped_of h m = stripped_log store_keeps store_covers h.present.n h.present.me h.present.messages m
 
 -- ---- one message more
 
@@ -39,9 +28,33 @@ abbrev pub CounterCellOfOneMore : Type 0
 CounterCellOfOneMore = (h : History) (m : Message) (object : ObjectId) → object.kind ≡ Counter
     → settled_cell (with_message h m) object None ≡ sum_cell ((settled_cell h object None).sum +ℤ share_of object m.op)
 
--- a cell of a kind and a value that don't go together has no mark and no sum
+-- Each cell, by what moves it step by step: it is uncovered, what goes from the log is absorbed, an operation of a counter
+-- is applied, and the marks are settled.
+abbrev pub CellIsMoved : Type 0
+CellIsMoved = (w : ℕ) (h : History) (m : Message) (object : ObjectId) (value : Option (List ℕ)) → IsTrue (is_history w (with_message h m))
+    → settled_cell (with_message h m) object value
+    ≡ cell_settled object.kind (is_put_in (log_of (with_message h m)) object value) (cell_moved h m object value)
+
+-- the sums on the way fit a number of 128 bits by far
+abbrev pub MovedSumsAreBounded : Type 0
+MovedSumsAreBounded = (w limit : ℕ) (h : History) (m : Message) (object : ObjectId) (value : Option (List ℕ)) → IsTrue (is_history w (with_message h m))
+    → IsTrue (is_limited limit (with_message h m)) → limit ≤ 1000000
+    → ((k : ℕ) → IsWithin (2 ^ 81) (cell_absorbed h m k object value).sum) × IsWithin (2 ^ 81) (cell_moved h m object value).sum
+
+-- whether a kind has cells of values, or one of an object alone
+abbrev pub has_cell : Kind → Option (List ℕ) → Bool
+has_cell AwSet (Some value) = true
+has_cell RwSet (Some value) = true
+has_cell MvReg (Some value) = true
+has_cell EwFlag None = true
+has_cell DwFlag None = true
+has_cell Counter None = true
+has_cell RCounter None = true
+has_cell kind value = false
+
+-- a cell that a kind hasn't got has no mark and no sum
 abbrev pub OtherCellsAreZero : Type 0
-OtherCellsAreZero = (h : History) (object : ObjectId) (value : List ℕ) → object.kind ≡ Counter → settled_cell h object (Some value) ≡ zero_cell
+OtherCellsAreZero = (h : History) (object : ObjectId) (value : Option (List ℕ)) → has_cell object.kind value ≡ false → settled_cell h object value ≡ zero_cell
 
 -- ---- items
 
@@ -58,9 +71,6 @@ abbrev pub ItemsAreFilled : Type 0
 ItemsAreFilled = (h : History) → All (λ item. IsTrue (is_filled item.cell)) (settled_items h)
 
 -- items rise in their one order
-abbrev pub Rise : List Item → Type 0
-Rise items = AllPairs (λ (a b : Item). item_cmp a.object a.value b.object b.value ≡ Less) items
-
 abbrev pub ItemsRise : Type 0
 ItemsRise = (h : History) → Rise (settled_items h)
 
