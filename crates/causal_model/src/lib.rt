@@ -8,6 +8,7 @@
 mod items;
 mod laws;
 mod note;
+mod room;
 mod rule;
 mod worked;
 
@@ -23,6 +24,7 @@ pub use laws::{
     unstable_messages_tell_a_crook, values_are_exactly_those_that_pass, windows_bound_what_is_kept,
 };
 pub use note::Note;
+pub use room::{MOST_WINDOW, most_noops, most_unstable};
 pub use rule::TypeRule;
 pub use worked::{
     a_clear_leaves_a_concurrent_amount, a_clear_voids_a_stable_remove,
