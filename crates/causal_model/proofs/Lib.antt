@@ -48,3 +48,4 @@ pub mod Parts
 pub mod PartsOfKinds
 pub mod PartsOfSums
 pub mod EventsOfOneMore
+pub mod MovedCells

@@ -1,11 +1,12 @@
 //! Laws of settled cells and items.
 
-ghost use Rattle.causal_model.specs.Laws.Cells.{CellOfOneMore, CounterCellOfOneMore, OtherCellsAreZero, NoItemsYet, ItemsAreCells, ItemsAreFilled, ItemsRise, RisingItemsAreApart, SameCellsSameLength, SameCellsSameList};
+ghost use Rattle.causal_model.specs.Laws.Cells.{CellOfOneMore, CounterCellOfOneMore, CellIsMoved, OtherCellsAreZero, NoItemsYet, ItemsAreCells, ItemsAreFilled, ItemsRise, RisingItemsAreApart, SameCellsSameLength, SameCellsSameList};
 
-/// What one message more makes of a cell, from the cell and the log alone.
+/// What one message more makes of a cell, from the cell and the log alone, and the same step by step.
 pub fn cells_of_one_message_more()
     ensures cell { CellOfOneMore }
     ensures counter { CounterCellOfOneMore }
+    ensures moved { CellIsMoved }
     ensures other { OtherCellsAreZero }
 {}
 
