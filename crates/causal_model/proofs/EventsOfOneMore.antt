@@ -109,7 +109,7 @@ clear_share : (object : ObjectId) (o : Op) → acts_on object is_clear o ≡ tru
 clear_share object op.NoOp t = refl
 clear_share object (op.Update u) t = clear_amount (same_object u.object object) u.act t
 
-filter_all : {X : Type 0} (xs : List X) → filter (λ x. true) xs ≡ xs
+pub filter_all : {X : Type 0} (xs : List X) → filter (λ x. true) xs ≡ xs
 filter_all [] = refl
 filter_all (x ∷ xs) = ap (λ ys. x ∷ ys) (filter_all xs)
 

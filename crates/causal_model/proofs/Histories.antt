@@ -79,3 +79,15 @@ limited_with limit h m t carried =
       past = is.past;
       present = are_carried-push limit h.present.messages m ∙ and_from _ _ is.present carried;
     })
+
+-- what a history with one message more was before, and that the message can be carried
+pub history_before : (w : ℕ) (h : History) (m : Message) → IsTrue (is_history w (with_message h m)) → IsTrue (is_history w h)
+history_before w h m t =
+    let is = IsHistory-from_test w (with_message h m) t in
+    test-from_IsHistory w h (record { past = is.past; few = is.few; member = is.member; chapter = (and_parts _ _ (sym (is_chapter-push h.present.n w h.present.me h.present.messages m) ∙ is.chapter)).0 })
+
+pub limited_before : (limit : ℕ) (h : History) (m : Message) → IsTrue (is_limited limit (with_message h m)) → IsTrue (is_limited limit h) × IsTrue (is_carried limit m)
+limited_before limit h m t =
+    let is = IsLimited-from_test limit (with_message h m) t in
+    let both = and_parts (are_carried limit h.present.messages) (is_carried limit m) (sym (are_carried-push limit h.present.messages m) ∙ is.present) in
+    (test-from_IsLimited limit h (record { epochs = is.epochs; past = is.past; present = both.0 }), both.1)

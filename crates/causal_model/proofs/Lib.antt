@@ -49,3 +49,5 @@ pub mod PartsOfKinds
 pub mod PartsOfSums
 pub mod EventsOfOneMore
 pub mod MovedCells
+pub mod MovedSums
+pub mod ObjectParts

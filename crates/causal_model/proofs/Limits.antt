@@ -38,6 +38,10 @@ numbers_are_counted n w me h t = chapter_induction n w me (λ g. All (λ m. numb
 pub carried_is_within : (limit : ℕ) (m : Message) (x : ℕ) → is_carried limit m ≡ true → entry m.tag x ≤ limit
 carried_is_within limit m x t = entry_is_within limit m.tag x (and_parts (list_all (λ e. nat_le e limit) m.tag) (is_valid m.op) t).0
 
+-- and its operation is valid
+pub carried_is_valid : (limit : ℕ) (m : Message) → is_carried limit m ≡ true → is_valid m.op ≡ true
+carried_is_valid limit m t = (and_parts (list_all (λ e. nat_le e limit) m.tag) (is_valid m.op) t).1
+
 pub counts_are_within : (n w me limit x : ℕ) (h : List Message) → IsTrue (is_chapter n w me h) → IsTrue (are_carried limit h) → count_of h x ≤ limit
 counts_are_within n w me limit x h t = chapter_induction n w me (λ g. IsTrue (are_carried limit g) → count_of g x ≤ limit) (λ _. omega arith) (λ g m _ next ih within.
     let parts = and_parts (are_carried limit g) (is_carried limit m) (sym (are_carried-push limit g m) ∙ within) in

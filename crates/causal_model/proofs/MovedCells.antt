@@ -66,15 +66,22 @@ counter_is_not_kept u is = ap (λ k. keeps_act k u.act) is
 
 -- ---- what goes from the log
 
+-- what is logged is kept
+pub log_is_kept : (h : History) → All (λ e. is_kept store_keeps e.op ≡ true) (log_of h)
+log_is_kept h =
+    let kept : Message → Bool = λ e. is_kept store_keeps e.op && is_uncovered store_covers h.present.messages e && not (is_stable (stable_vector h.present.n h.present.me h.present.messages) e) in
+    let passed = filter_passes kept h.present.messages in
+    λ k d l. (and_parts _ _ (and_parts _ _ (passed k d l)).0).0
+
 -- what goes from the log is kept, and is one of the epoch's messages or the new one
 pub each_stripped : (P : Message → Type 0) (h : History) (m : Message) → All P h.present.messages → P m → All (λ e. (is_kept store_keeps e.op ≡ true) × P e) (stripped_of h m)
 each_stripped P h m each last =
     let Both : Message → Type 0 = λ e. (is_kept store_keeps e.op ≡ true) × P e in
     let kept : Message → Bool = λ e. is_kept store_keeps e.op && is_uncovered store_covers h.present.messages e && not (is_stable (stable_vector h.present.n h.present.me h.present.messages) e) in
     let bare : Message → Bool = λ e. not (is_covered_by store_covers e.op m.op && happened_before e m) in
-    let passed = filter_passes kept h.present.messages in
+    let passed = log_is_kept h in
     let logged : All P (log_of h) = All-filter kept P h.present.messages each in
-    let both : All Both (log_of h) = λ k d l. ((and_parts _ _ (and_parts _ _ (passed k d l)).0).0, logged k d l) in
+    let both : All Both (log_of h) = λ k d l. (passed k d l, logged k d l) in
     let own : All Both (if is_kept store_keeps m.op then m ∷ [] else []) = cond_both (is_kept store_keeps m.op) (m ∷ []) [] (λ ms. All Both ms) (λ t. All-cons Both m [] (t, last) (All-nil Both)) (λ _. All-nil Both) in
     All-filter (is_stable (stable_vector h.present.n h.present.me (h.present.messages ++ m ∷ []))) Both (pruned_log store_keeps store_covers h.present.n h.present.me h.present.messages m)
     (All-append Both (filter bare (log_of h)) (if is_kept store_keeps m.op then m ∷ [] else []) (All-filter bare Both (log_of h) both) own)

@@ -65,7 +65,7 @@ pub present_is_pending : (h : History) (m : Message)
 present_is_pending h m =
     (λ i. not (le-ltb (epoch_of h) (epoch_of h) (omega arith) i || is_stable (stable_vector h.present.n h.present.me h.present.messages) m) && present_is_covered_in_present h m i)
 
-list_any-filter : {X : Type 0} (p q : X → Bool) (xs : List X) → list_any q (filter p xs) ≡ list_any (λ x. p x && q x) xs
+pub list_any-filter : {X : Type 0} (p q : X → Bool) (xs : List X) → list_any q (filter p xs) ≡ list_any (λ x. p x && q x) xs
 list_any-filter p q [] = refl
 list_any-filter p q (x ∷ xs) = by (p x) (list_any-filter p q xs) where
   by : (b : Bool) → list_any q (filter p xs) ≡ list_any (λ y. p y && q y) xs → list_any q (cond b (x ∷ filter p xs) (filter p xs)) ≡ ((b && q x) || list_any (λ y. p y && q y) xs)

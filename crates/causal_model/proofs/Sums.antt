@@ -1,6 +1,6 @@
 -- How large sums of amounts are.
 use Rattle.std.proofs.Common.{◌≡◌, ℕ, ◌+◌, ◌-◌, ◌*◌, ◌^◌, ◌<◌, ◌≤◌, Bool, true, false, IsTrue, All, List, [], ◌∷◌, length, map, zero, suc, arith, if◌then◌else◌}
-use Rattle.std.specs.Prelude.{ℤ, pos, neg_ℤ, ◌+ℤ◌, ◌<ℤ◌}
+use Rattle.std.specs.Prelude.{ℤ, pos, neg_ℤ, ◌+ℤ◌}
 use Rattle.std.specs.List.{filter, fold}
 use Rattle.std.specs.Int.Signed.{lt_z_yes}
 use Rattle.std.proofs.Math.Dec.{ltb, lt→ltb}
@@ -19,7 +19,7 @@ use Rattle.op_base.specs.declared.operation.Op.{Op}
 use Rattle.op_base.specs.declared.operation.Op.TheVariants as op
 use Rattle.causal_model.specs.Counts.{is_carried}
 use Rattle.causal_model.specs.History.{History, Event, events, is_history, is_limited}
-use Rattle.causal_model.specs.Query.{amount_of, share_of, counter_sum}
+use Rattle.causal_model.specs.Query.{amount_of, share_of, counter_sum, IsWithin}
 use Rattle.causal_model.proofs.Lengths.{events_are_carried, history_is_bounded}
 
 -- ---- magnitudes
@@ -27,14 +27,14 @@ use Rattle.causal_model.proofs.Lengths.{events_are_carried, history_is_bounded}
 abs_of_difference : (a b : ℕ) → nat_abs (sub_ℕ a b) ≤ a + b
 abs_of_difference a b = cond_both (ltb a b) (negsuc (b - suc a)) (pos (a - b)) (λ z. nat_abs z ≤ a + b) (λ t. let l = ltb-true a b t in omega (arith, l)) (λ _. omega arith)
 
-abs_of_sum : (m k : ℤ) → nat_abs (m +ℤ k) ≤ nat_abs m + nat_abs k
+pub abs_of_sum : (m k : ℤ) → nat_abs (m +ℤ k) ≤ nat_abs m + nat_abs k
 abs_of_sum (pos a) (pos b) = omega arith
 abs_of_sum (pos a) (negsuc b) = abs_of_difference a (suc b)
 abs_of_sum (negsuc a) (pos b) = omega (arith, abs_of_difference b (suc a))
 abs_of_sum (negsuc a) (negsuc b) = omega arith
 
 -- a number is between those of a magnitude above its own
-between : (s : ℤ) (most : ℕ) → nat_abs s < most → (neg_ℤ (pos most) <ℤ s) × (s <ℤ pos most)
+pub between : (s : ℤ) (most : ℕ) → nat_abs s < most → IsWithin most s
 between s zero l = absurd (omega arith)
 between (pos n) (suc most) l = (lt_z_yes tt, lt_z_yes (lt→ltb n (suc most) l))
 between (negsuc n) (suc most) l = (lt_z_yes (lt→ltb n most (omega (arith, l))), lt_z_yes tt)
@@ -51,7 +51,7 @@ abs_of_pos : (a : ℕ) → nat_abs (neg_ℤ (pos a)) ≤ a
 abs_of_pos zero = omega arith
 abs_of_pos (suc a) = omega arith
 
-amount_is_small : (act : Act) → is_valid_act act ≡ true → nat_abs (amount_of act) ≤ 4294967296
+pub amount_is_small : (act : Act) → is_valid_act act ≡ true → nat_abs (amount_of act) ≤ 4294967296
 amount_is_small (Add v) t = omega arith
 amount_is_small (Rmv v) t = omega arith
 amount_is_small Clear t = omega arith
@@ -77,9 +77,12 @@ shares_are_small w limit h object passes t limited =
     (All-weaker (λ e. is_carried limit e.message ≡ true) (λ e. nat_abs (share_of object e.message.op) ≤ 4294967296) (λ e carried. share_is_small object e.message.op (and_parts _ _ carried).1) (filter passes (events h))
     (All-filter passes (λ e. is_carried limit e.message ≡ true) (events h) (events_are_carried w limit h t limited)))
 
-pub sums_are_bounded : (w limit : ℕ) (h : History) (object : ObjectId) (passes : Event → Bool) → IsTrue (is_history w h) → IsTrue (is_limited limit h) → limit ≤ 1000000
-    → (neg_ℤ (pos (2 ^ 80)) <ℤ counter_sum object (filter passes (events h))) × (counter_sum object (filter passes (events h)) <ℤ pos (2 ^ 80))
-sums_are_bounded w limit h object passes t limited few =
+pub sum_is_small : (w limit : ℕ) (h : History) (object : ObjectId) (passes : Event → Bool) → IsTrue (is_history w h) → IsTrue (is_limited limit h) → limit ≤ 1000000
+    → nat_abs (counter_sum object (filter passes (events h))) < 2 ^ 80
+sum_is_small w limit h object passes t limited few =
     let ops : List Op = map (λ e. e.message.op) (filter passes (events h)) in
-    between (counter_sum object (filter passes (events h))) (2 ^ 80)
-    (omega (arith, abs_of_fold (share_of object) 4294967296 (pos 0) ops (shares_are_small w limit h object passes t limited), length-map (filter passes (events h)) (λ e. e.message.op), length-filter passes (events h), count_by-le-length passes (events h), history_is_bounded w limit h t limited, few))
+    omega (arith, abs_of_fold (share_of object) 4294967296 (pos 0) ops (shares_are_small w limit h object passes t limited), length-map (filter passes (events h)) (λ e. e.message.op), length-filter passes (events h), count_by-le-length passes (events h), history_is_bounded w limit h t limited, few)
+
+pub sums_are_bounded : (w limit : ℕ) (h : History) (object : ObjectId) (passes : Event → Bool) → IsTrue (is_history w h) → IsTrue (is_limited limit h) → limit ≤ 1000000
+    → IsWithin (2 ^ 80) (counter_sum object (filter passes (events h)))
+sums_are_bounded w limit h object passes t limited few = between (counter_sum object (filter passes (events h))) (2 ^ 80) (sum_is_small w limit h object passes t limited few)

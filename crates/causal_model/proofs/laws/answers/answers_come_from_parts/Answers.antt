@@ -1,3 +1,4 @@
+use Rattle.causal_model.proofs.ObjectParts.{has_from_parts, sum_from_parts}
 use Rattle.causal_model.proofs.Parts.{uncovered_is_settled_or_pending, pending_is_logged}
 use Rattle.causal_model.proofs.PartsOfKinds.{has_by_settled_and_logged}
 use Rattle.causal_model.proofs.PartsOfSums.{rcounter_by_settled_and_logged}
@@ -14,3 +15,9 @@ returns-clause-has c = has_by_settled_and_logged
 
 pub returns-clause-sum : goal.returns-clause-sum
 returns-clause-sum c = rcounter_by_settled_and_logged
+
+pub returns-clause-from_parts : goal.returns-clause-from_parts
+returns-clause-from_parts c = λ w h object value entries items t parts. has_from_parts w h object entries items t parts value
+
+pub returns-clause-sum_from_parts : goal.returns-clause-sum_from_parts
+returns-clause-sum_from_parts c = sum_from_parts

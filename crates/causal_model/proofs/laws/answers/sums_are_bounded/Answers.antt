@@ -1,5 +1,9 @@
+use Rattle.causal_model.proofs.MovedSums.{moved_sums_are_bounded}
 use Rattle.causal_model.proofs.Sums.{sums_are_bounded}
 use Rattle.causal_model.proofs.laws.answers.sums_are_bounded.Goals as goal
 
-pub returns : goal.returns
-returns c = sums_are_bounded
+pub returns-clause-events : goal.returns-clause-events
+returns-clause-events c = sums_are_bounded
+
+pub returns-clause-bounded : goal.returns-clause-bounded
+returns-clause-bounded c = moved_sums_are_bounded
