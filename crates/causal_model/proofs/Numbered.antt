@@ -3,9 +3,10 @@ use Rattle.std.proofs.Common.{◌≡◌, ℕ, ◌+◌, ◌-◌, ◌<◌, ◌≤�
 use Rattle.std.proofs.Math.Bool.{and_comm}
 use Rattle.std.specs.List.{filter, slice_get, range_with_len}
 use Rattle.std.specs.Option.{option_map}
-use Rattle.std.proofs.lemmas.Bool.{and_parts, and_from, cases_eq, cases_lt, cond_both, cond-true, cond-false, eqb-true, eq-eqb, ne_eqb, le-leb, lt-leb, not_from_true, not_from_false, both_ways}
-use Rattle.std.proofs.lemmas.List.{map-append, get_or_default}
+use Rattle.std.proofs.lemmas.Bool.{and_parts, and_from, cases_Bool, cases_eq, cases_lt, cond_both, cond-true, cond-false, eqb-true, eq-eqb, ne_eqb, le-leb, lt-leb, not_from_true, not_from_false, both_ways}
+use Rattle.std.proofs.lemmas.List.{length-map, map-append, get_or_default}
 use Rattle.std.proofs.lemmas.List.Elements.{All-head, All-tail, All-cons, All-nil, All-weaker, All-filter, All-contains, All-contains_itself, Contains-get_or, filter-append}
+use Rattle.std.proofs.lemmas.List.Filters.{length-filter_both}
 use Rattle.std.proofs.lemmas.List.FromFn.{map-range_with_len_more, length-range_with_len, get_or-range_with_len}
 use Rattle.std.proofs.lemmas.Option.{slice_get_within, get_or_from_slice_get, slice_get-map}
 use Rattle.op_base.specs.Message.{number}
@@ -15,14 +16,15 @@ use Rattle.causal_model.specs.Chapter.{is_chapter}
 use Rattle.causal_model.specs.Counts.{count_of}
 use Rattle.causal_model.specs.Crook.{tag_of}
 use Rattle.causal_model.specs.Order.{same_id}
-use Rattle.causal_model.specs.Stability.{stable_count, stable_vector, is_stable, unstable_of}
+use Rattle.causal_model.specs.Stability.{stable_count, stable_vector, is_stable, carries_operation, unstable_of, unstable_operations, unstable_noops, noop_window}
 use Rattle.causal_model.proofs.Apart.{ids_are_apart}
 use Rattle.causal_model.proofs.Chapters.{chapter_induction}
 use Rattle.causal_model.proofs.Counts.{count_of-push_own, count_of-push_other}
 use Rattle.causal_model.proofs.Limits.{numbers_are_counted}
 use Rattle.causal_model.proofs.Lists.{filter_none, filter-filter}
 use Rattle.causal_model.proofs.Orders.{each_number_is_there}
-use Rattle.causal_model.proofs.Settling.{stable_count-le-known, known_is_counted}
+use Rattle.causal_model.proofs.Rooms.{room_for_next}
+use Rattle.causal_model.proofs.Settling.{last_is_next, stable_count-le-known, known_is_counted, few_are_unstable}
 use Rattle.causal_model.proofs.Stability.{entry-stable}
 use Rattle.causal_model.proofs.Timestamps.{entry-zero_tag}
 use Rattle.causal_model.proofs.Unclosed.{is_numbered, tag_of_has_numbered}
@@ -116,6 +118,15 @@ one_of_id n w me h m e t has_m has_e same back =
       ]
     ]
 
+-- one at a place has the number of the place
+unstable_number : (n w me x i : ℕ) (h : List Message) (e : Message) → x < n → IsTrue (is_chapter n w me h) → slice_get (unstable_of n me h x) i ≡ Some e → number e ≡ stable_count n me h x + 1 + i
+unstable_number n w me x i h e l t at =
+    let unstable = unstable_of n me h x in
+    let at_number = slice_get-map number unstable i ∙ ap (option_map number) at in
+    let within = slice_get_within (map number unstable) i (number e) at_number in
+    let numbers = unstable_are_numbered n w me x h l t in
+    sym (get_or_from_slice_get (map number unstable) i (number e) 0 at_number) ∙ ap (λ xs. get_or xs i 0) numbers ∙ get_or-range_with_len (stable_count n me h x + 1) (count_of h x - stable_count n me h x) i 0 (omega (arith, within, ap length numbers, length-range_with_len (stable_count n me h x + 1) (count_of h x - stable_count n me h x)))
+
 -- so one is found by its number
 pub found_by_number : (n w me x i : ℕ) (h : List Message) (e : Message) → x < n → IsTrue (is_chapter n w me h) → slice_get (unstable_of n me h x) i ≡ Some e
     → tag_of n h x (stable_count n me h x + 1 + i) ≡ e.tag
@@ -124,10 +135,7 @@ found_by_number n w me x i h e l t at =
     let s = stable_count n me h x + 1 + i in
     let own : Message → Bool = λ y. y.origin == x in
     let lies : Message → Bool = λ y. not (is_stable (stable_vector n me h) y) in
-    let at_number = slice_get-map number unstable i ∙ ap (option_map number) at in
-    let within = slice_get_within (map number unstable) i (number e) at_number in
-    let numbers = unstable_are_numbered n w me x h l t in
-    let numbered : number e ≡ s = sym (get_or_from_slice_get (map number unstable) i (number e) 0 at_number) ∙ ap (λ xs. get_or xs i 0) numbers ∙ get_or-range_with_len (stable_count n me h x + 1) (count_of h x - stable_count n me h x) i 0 (omega (arith, within, ap length numbers, length-range_with_len (stable_count n me h x + 1) (count_of h x - stable_count n me h x))) in
+    let numbered = unstable_number n w me x i h e l t at in
     let has_e : Contains unstable e = subst (Contains unstable) (get_or_from_slice_get unstable i e e at) (Contains-get_or unstable i e (slice_get_within unstable i e at)) in
     let origin : e.origin ≡ x = eqb-true e.origin x (All-contains (λ y. own y ≡ true) unstable e (filter_passes own (filter lies h)) has_e) in
     let there : Contains h e = All-contains (Contains h) unstable e (All-filter own (Contains h) (filter lies h) (All-filter lies (Contains h) h (All-contains_itself h))) has_e in
@@ -138,3 +146,20 @@ found_by_number n w me x i h e l t at =
     ap (λ y. y.tag) (one_of_id n w me h m e t has_m there (and_from _ _ (eq-eqb m.origin e.origin o) (eq-eqb (number m) (number e) k)) (and_from _ _ (eq-eqb e.origin m.origin (sym o)) (eq-eqb (number e) (number m) (sym k))))) h (All-contains_itself h) in
     tag_of_has_numbered (λ tag. entry tag x ≡ s → tag ≡ e.tag) n h x s (λ none. absurd (omega (arith, none, entry-zero_tag n x))) each
     (each_number_is_there n w me h t x s (omega arith) (omega (arith, numbered, ap (count_of h) origin, All-contains (λ y. number y ≤ count_of h y.origin) h e (numbers_are_counted n w me h t) there)))
+
+-- the next message comes right after the unstable ones of its origin, and finds room among them
+pub next_follows_unstable : (n w me : ℕ) (h : List Message) (m : Message) → me < n → 1 ≤ w → IsTrue (is_chapter n w me (h ++ m ∷ []))
+    → (length (unstable_of n me h m.origin) < w + noop_window n w)
+    × ((e : Message) → 0 < length (unstable_of n me h m.origin) → slice_get (unstable_of n me h m.origin) (length (unstable_of n me h m.origin) - 1) ≡ Some e → number e + 1 ≡ number m)
+next_follows_unstable n w me h m l some t =
+    let parts = last_is_next n w me h m t in
+    let k = m.origin in
+    let unstable = unstable_of n me h k in
+    let carries : Message → Bool = λ e. carries_operation e.op in
+    let all : unstable_operations n me h k + unstable_noops n me h k ≡ length unstable = length-filter_both carries (λ e. not (carries e)) (λ e. refl) unstable in
+    let few = few_are_unstable n w me k h parts.0 in
+    let room = room_for_next n w me h m l some t in
+    let counted = sym (length-map unstable number) ∙ ap length (unstable_are_numbered n w me k h parts.1.member parts.0) ∙ length-range_with_len (stable_count n me h k + 1) (count_of h k - stable_count n me h k) in (
+      elim (cases_Bool (carries m)) [ inl update ↦ omega (arith, all, few.1, room.0 update) | inr none ↦ omega (arith, all, few.0, room.1 none) ],
+      λ e there last. omega (arith, unstable_number n w me k (length unstable - 1) h e parts.1.member parts.0 last, counted, there, parts.1.counted),
+    )

@@ -157,6 +157,12 @@ RoomForNext = (n w me : ℕ) (ms : List Message) (m : Message) → me < n → 1 
     → (IsTrue (carries_operation m.op) → unstable_operations n me ms m.origin < w)
     × (carries_operation m.op ≡ false → unstable_noops n me ms m.origin < noop_window n w)
 
+-- so the unstable messages of its origin have room for it, and it is numbered right after the last of them
+abbrev pub NextFollowsUnstable : Type 0
+NextFollowsUnstable = (n w me : ℕ) (ms : List Message) (m : Message) → me < n → 1 ≤ w → IsTrue (is_chapter n w me (ms ++ m ∷ []))
+    → (length (unstable_of n me ms m.origin) < w + noop_window n w)
+    × ((e : Message) → 0 < length (unstable_of n me ms m.origin) → slice_get (unstable_of n me ms m.origin) (length (unstable_of n me ms m.origin) - 1) ≡ Some e → number e + 1 ≡ number m)
+
 -- the log has room while the next message is in it, and nothing was stripped yet
 abbrev pub LogHasRoom : Type 0
 LogHasRoom = (keeps : Update → Bool) (covers : Update → Update → Bool) (n w me : ℕ) (ms : List Message) (m : Message) → me < n → 1 ≤ w

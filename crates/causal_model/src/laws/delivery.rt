@@ -1,7 +1,7 @@
 //! Laws of the messages that a member delivers in an epoch.
 
 ghost use Rattle.causal_model.specs.Laws.Delivery.{NothingYet, ChapterGrows, OwnMessageIsNext, OwnMessageIsCarried, NumbersAreCounted, CountsAreWithin, CountsAlone, NoneUnstableAlone, IdsAreApart, ChapterIsBounded, NeverBeforeItself, OrderIsTransitive, OrderIsAsymmetric, OrderGoesForward, StableStays, NextIsAfterStable, FewAreUnstable, LogIsBounded};
-ghost use Rattle.causal_model.specs.Laws.Delivery.{WindowTellsUnclosed, SeenBeforeIsClosed, UnstableOfOneMore, UnstableAreNumbered, StableIsCounted, FoundByNumber, RoomForNext, LogHasRoom, CountsOfOneMore, LastOfOneMore, KnownOfOneMore, StableOfOneMore, UncoveredOfOneMore, LogOfOneMore, OutboxOfOneMore, DueOfOneMore, CoversOneObject, CoversKeptAlone, CoversTransitively};
+ghost use Rattle.causal_model.specs.Laws.Delivery.{WindowTellsUnclosed, SeenBeforeIsClosed, UnstableOfOneMore, UnstableAreNumbered, StableIsCounted, FoundByNumber, RoomForNext, NextFollowsUnstable, LogHasRoom, CountsOfOneMore, LastOfOneMore, KnownOfOneMore, StableOfOneMore, UncoveredOfOneMore, LogOfOneMore, OutboxOfOneMore, DueOfOneMore, CoversOneObject, CoversKeptAlone, CoversTransitively};
 
 /// Before anything was delivered, what is computed of the messages is zeros or nothing.
 pub fn nothing_was_delivered_yet()
@@ -67,11 +67,13 @@ pub fn unstable_messages_tell_a_crook()
     ensures unstable { UnstableOfOneMore }
 {}
 
-/// The unstable messages of a member are numbered one after the other, and so are found by their numbers.
+/// The unstable messages of a member are numbered one after the other, and so are found by their numbers; the next message
+/// follows them.
 pub fn unstable_messages_are_numbered()
     ensures numbered { UnstableAreNumbered }
     ensures counted { StableIsCounted }
     ensures found { FoundByNumber }
+    ensures next { NextFollowsUnstable }
 {}
 
 /// What each definition that a replica keeps step by step becomes by one message more.
