@@ -1,9 +1,11 @@
--- Journals: what receiving notes replays to the state that it leaves, a group keeps what a state is, and groups grow.
-use Rattle.std.proofs.Common.{◌≡◌, ◌≢◌, ℕ, zero, suc, ◌<◌, ◌≤◌, Bool, true, false, not, ◌==◌, IsTrue, List, [], ◌∷◌, ◌++◌, map, length, refl, sym, ap, subst, ◌∙◌, inl, inr, Option, Some, None, if◌then◌else◌, arith}
+-- Journals: what receiving notes replays to the state that it leaves, a group keeps what a state is, groups grow, and what a
+-- call notes is one group.
+use Rattle.std.proofs.Common.{◌≡◌, ◌≢◌, ℕ, zero, suc, ◌<◌, ◌≤◌, Bool, true, false, not, ◌==◌, IsTrue, List, [], ◌∷◌, ◌++◌, map, length, refl, sym, ap, subst, ◌∙◌, inl, inr, Option, Some, None, if◌then◌else◌, append-nil, arith}
 use Rattle.std.proofs.lemmas.Bool.{and_parts, eqb-true, eqb-false, false_from_ne_true}
+use Rattle.std.proofs.lemmas.Grind.{flat_map-append}
 use Rattle.std.proofs.lemmas.List.Sums.{fold-append}
 use Rattle.op_base.specs.Message.{number, fits, id_of}
-use Rattle.op_base.specs.Valid.{is_valid}
+use Rattle.op_base.specs.Valid.{is_valid, is_valid_update}
 use Rattle.op_base.specs.declared.message.Message.{Message}
 use Rattle.op_base.specs.declared.operation.Update.{Update}
 use Rattle.op_base.specs.declared.operation.Op.{Op}
@@ -13,18 +15,18 @@ use Rattle.op_base.specs.declared.outcome.Step.{Step}
 use Rattle.causal_model.specs.Counts.{count_of, is_deliverable, is_carried}
 use Rattle.causal_model.specs.Stability.{unstable_operations, unstable_noops, noop_window}
 use Rattle.causal_model.specs.History.{with_messages}
-use Rattle.causal_model.specs.Sending.{own_message, sends, busy, ended, sending, beats, quiet, held, beat_ended, is_noop_due, beating}
-use Rattle.causal_model.specs.Receiving.{State, counted, is_old, is_again, is_far, has_id, without, crook_after, step_of, messages_with, state_with, steps_within, steps, with_early, old, again, far, accepts, receiving}
-use Rattle.causal_model.specs.Journal.{with_own, messages_and, state_noted, state_after, step_note, receiving_notes, IsGroup, sent, beaten, received, regrouped_as, AreGroups, notes_of}
+use Rattle.causal_model.specs.Sending.{own_message, Sending, Beating, sends, busy, ended, sending, beats, quiet, held, beat_ended, is_noop_due, beating}
+use Rattle.causal_model.specs.Receiving.{State, start, Receiving, counted, is_old, is_again, is_far, has_id, without, crook_after, step_of, messages_with, state_with, steps_within, steps, with_early, old, again, far, accepts, receiving}
+use Rattle.causal_model.specs.Journal.{with_own, messages_and, state_noted, state_after, replay, step_note, sending_notes, beating_notes, receiving_notes, IsGroup, sent, beaten, received, regrouped_as, AreGroups, notes_of, IsLegal}
 use Rattle.causal_model.specs.States.{IsState}
 use Rattle.causal_model.specs.Laws.Delivery.{HasRoom}
-use Rattle.causal_model.specs.Laws.States.{next_of}
+use Rattle.causal_model.specs.Laws.States.{next_of, IsGroupOrNone}
 use Rattle.causal_model.specs.declared.note.Note.{Note}
 use Rattle.causal_model.proofs.Early.{StandsBefore, standing}
 use Rattle.causal_model.proofs.Histories.{IsHistory-from_test, IsLimited-from_test}
 use Rattle.causal_model.proofs.Limits.{counts_are_within}
 use Rattle.causal_model.proofs.Risings.{found_alike}
-use Rattle.causal_model.proofs.States.{step_keeps_state, accept_keeps_state, own_keeps_state, own_makes_none_deliverable, regroup_keeps_state}
+use Rattle.causal_model.proofs.States.{start_is_state, step_keeps_state, accept_keeps_state, own_keeps_state, own_makes_none_deliverable, regroup_keeps_state}
 use Rattle.causal_model.proofs.Steps.{has_own_id, steps_by, none_is_next_after_steps}
 use Rattle.causal_model.proofs.Windows.{windows_hold}
 
@@ -165,3 +167,50 @@ pub groups_grow : (w limit : ℕ) (s : State) (groups : List (List Note)) (group
 groups_grow w limit s [] group are next = (next, tt)
 groups_grow w limit s (first ∷ groups) group are next =
     (are.0, groups_grow w limit (state_after s first) groups group are.1 (subst (λ g. IsGroup w limit g group) (fold-append state_noted s first (notes_of groups)) next))
+
+-- ---- legal notes
+
+groups_keep_state : (w limit : ℕ) (s : State) (groups : List (List Note)) → IsState w limit s → next_of s ≡ None → AreGroups w limit s groups
+    → IsState w limit (state_after s (notes_of groups)) × (next_of (state_after s (notes_of groups)) ≡ None)
+groups_keep_state w limit s [] is none are = (is, none)
+groups_keep_state w limit s (group ∷ later) is none are =
+    let once = group_keeps_state w limit s group is none are.0 in
+    subst (λ g. IsState w limit g × (next_of g ≡ None)) (sym (fold-append state_noted s group (notes_of later))) (groups_keep_state w limit (state_after s group) later once.0 once.1 are.1)
+
+pub legal_is_state : (w limit n me : ℕ) (notes : List Note) → n ≤ 16 → me < n → IsLegal w limit n me notes → IsState w limit (replay n me notes) × (next_of (replay n me notes) ≡ None)
+legal_is_state w limit n me notes few member legal =
+    subst (λ ns. IsState w limit (replay n me ns) × (next_of (replay n me ns) ≡ None)) (sym legal.are_theirs) (groups_keep_state w limit (start n me) legal.groups (start_is_state n w limit me few member) refl legal.are_groups)
+
+pub legal_grows : (w limit n me : ℕ) (notes group : List Note) → IsLegal w limit n me notes → IsGroup w limit (replay n me notes) group → IsLegal w limit n me (notes ++ group)
+legal_grows w limit n me notes group legal next = record {
+  groups = legal.groups ++ group ∷ [];
+  are_groups = groups_grow w limit (start n me) legal.groups group legal.are_groups (subst (λ ns. IsGroup w limit (replay n me ns) group) legal.are_theirs next);
+  are_theirs = ap (λ ns. ns ++ group) legal.are_theirs ∙ ap (λ ns. notes_of legal.groups ++ ns) (sym (append-nil group)) ∙ sym (flat_map-append (λ g. g) legal.groups (group ∷ []));
+}
+
+-- ---- what calls note
+
+module _ (w limit : ℕ) (s : State) where
+  pub sending_notes_one_group : (u : Update) → IsTrue (is_valid_update u)
+      → IsGroupOrNone w limit s (sending_notes (sending s.history.present.n w limit s.history.present.me s.history.present.messages u))
+  sending_notes_one_group u valid = by (sending s.history.present.n w limit s.history.present.me s.history.present.messages u) refl where
+    by : (made : Sending) → sending s.history.present.n w limit s.history.present.me s.history.present.messages u ≡ made → IsGroupOrNone w limit s (sending_notes made)
+    by (sends m) e = inr (sent u m valid e)
+    by busy e = inl refl
+    by ended e = inl refl
+
+  pub beating_notes_one_group : IsGroupOrNone w limit s (beating_notes (beating s.history.present.n w limit s.history.present.me s.history.present.messages))
+  beating_notes_one_group = by (beating s.history.present.n w limit s.history.present.me s.history.present.messages) refl where
+    by : (made : Beating) → beating s.history.present.n w limit s.history.present.me s.history.present.messages ≡ made → IsGroupOrNone w limit s (beating_notes made)
+    by (beats m) e = inr (beaten m e)
+    by quiet e = inl refl
+    by held e = inl refl
+    by beat_ended e = inl refl
+
+  pub receiving_notes_one_group : (m : Message) → IsTrue (fits s.history.present.n m) → IsTrue (is_carried limit m) → IsGroupOrNone w limit s (receiving_notes m (receiving w s m))
+  receiving_notes_one_group m fit carried = by (receiving w s m) refl where
+    by : (made : Receiving) → receiving w s m ≡ made → IsGroupOrNone w limit s (receiving_notes m made)
+    by (accepts steps after) e = inr (received m steps after fit carried e)
+    by old e = inl refl
+    by again e = inl refl
+    by far e = inl refl

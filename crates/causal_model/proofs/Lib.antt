@@ -51,3 +51,4 @@ pub mod EventsOfOneMore
 pub mod MovedCells
 pub mod MovedSums
 pub mod ObjectParts
+pub mod Regrouping

@@ -42,7 +42,7 @@ use Rattle.causal_model.proofs.SettledMarks.{cell_of_one_more}
 
 -- ---- kinds and acts
 
-counter_kind : (kind : Kind) → is_counter kind ≡ true → kind ≡ Counter
+pub counter_kind : (kind : Kind) → is_counter kind ≡ true → kind ≡ Counter
 counter_kind Counter t = refl
 counter_kind kind t = absurd (false≢true t)
 
@@ -138,10 +138,10 @@ module _ (object : ObjectId) (value : Option (List ℕ)) where
 -- ---- the cell of a counter
 
 module _ (object : ObjectId) (is : object.kind ≡ Counter) where
-  counter_cell : (h : History) → settled_cell h object None ≡ sum_cell (counter_sum object (events h))
+  pub counter_cell : (h : History) → settled_cell h object None ≡ sum_cell (counter_sum object (events h))
   counter_cell h = ap (λ k. object_cell h k object) is
 
-  value_has_none : (h : History) (v : List ℕ) → settled_cell h object (Some v) ≡ zero_cell
+  pub value_has_none : (h : History) (v : List ℕ) → settled_cell h object (Some v) ≡ zero_cell
   value_has_none h v = ap (λ k. value_cell h k object v) is
 
   -- an operation adds its share

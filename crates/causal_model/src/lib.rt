@@ -15,12 +15,12 @@ mod worked;
 pub use items::ItemView;
 pub use laws::{
     a_chapter_grows, a_chapter_is_bounded, answers_are_of_uncovered_events,
-    answers_come_from_parts, calls_keep_states, cells_of_one_message_more,
+    answers_come_from_parts, calls_keep_states, calls_note_one_group, cells_of_one_message_more,
     early_messages_are_one_list, equal_events_answer_alike, events_are_ordered, ids_are_apart,
     items_are_the_cells, items_with_equal_cells_are_equal, journals_are_of_groups,
     maximal_events_are_there, messages_are_ordered, nothing_was_delivered_yet, one_event_more,
     one_member_alone, one_message_more, own_messages_are_next, stable_messages_stay_behind,
-    steps_end, sums_are_bounded, the_table_meets_the_laws_of_rules, unstable_messages_are_numbered,
+    steps_end, sums_are_bounded, the_end_of_an_epoch_keeps_events, the_table_meets_the_laws_of_rules, unstable_messages_are_numbered,
     unstable_messages_tell_a_crook, values_are_exactly_those_that_pass, windows_bound_what_is_kept,
 };
 pub use note::Note;

@@ -2,16 +2,21 @@
 -- a function of laws/states.rt.
 use Rattle.std.specs.Prelude.{◌≡◌, ◌⊎◌, ◌↔◌, ℕ, ◌+◌, ◌*◌, ◌<◌, ◌≤◌, false, ◌==◌, List, [], ◌∷◌, ◌++◌, length, filter, IsTrue, All, AllPairs, Contains, Option, Some, None}
 use Rattle.op_base.specs.Message.{fits}
-use Rattle.op_base.specs.Valid.{is_valid}
+use Rattle.op_base.specs.Valid.{is_valid, is_valid_update}
 use Rattle.op_base.specs.declared.message.Message.{Message}
+use Rattle.op_base.specs.declared.name.ObjectId.{ObjectId}
 use Rattle.op_base.specs.declared.operation.Op.{Op}
+use Rattle.op_base.specs.declared.operation.Update.{Update}
 use Rattle.op_base.specs.declared.outcome.Step.{Step}
+use Rattle.causal_model.specs.CellSteps.{log_of}
 use Rattle.causal_model.specs.Counts.{count_of, is_deliverable, is_carried}
-use Rattle.causal_model.specs.History.{epoch_of, is_all_stable}
+use Rattle.causal_model.specs.History.{epoch_of, events, is_all_stable}
 use Rattle.causal_model.specs.Stability.{noop_window}
-use Rattle.causal_model.specs.Sending.{own_message}
+use Rattle.causal_model.specs.Query.{answer}
+use Rattle.causal_model.specs.Settled.{settled_cell, settled_items}
+use Rattle.causal_model.specs.Sending.{own_message, sending, beating}
 use Rattle.causal_model.specs.Receiving.{State, start, counted, is_old, is_again, is_far, stands_before, next_early, crook_after, step_of, state_with, steps, with_early, accepts, receiving}
-use Rattle.causal_model.specs.Journal.{with_own, regrouped, state_after, receiving_notes, IsGroup, AreGroups, notes_of}
+use Rattle.causal_model.specs.Journal.{with_own, regrouped, state_after, replay, sending_notes, beating_notes, receiving_notes, IsGroup, AreGroups, notes_of, IsLegal}
 use Rattle.causal_model.specs.States.{AreEarly, IsState}
 use Rattle.causal_model.specs.Laws.Delivery.{HasRoom}
 use Rattle.causal_model.specs.declared.note.Note.{Note}
@@ -104,3 +109,46 @@ GroupKeepsState = (w limit : ℕ) (s : State) (group : List Note) → IsState w 
 abbrev pub GroupsGrow : Type 0
 GroupsGrow = (w limit : ℕ) (s : State) (groups : List (List Note)) (group : List Note) → AreGroups w limit s groups
     → IsGroup w limit (state_after s (notes_of groups)) group → AreGroups w limit s (groups ++ group ∷ [])
+
+-- a legal list of notes gives a state, in which no early message can be delivered
+abbrev pub LegalIsState : Type 0
+LegalIsState = (w limit n me : ℕ) (notes : List Note) → n ≤ 16 → me < n → IsLegal w limit n me notes
+    → IsState w limit (replay n me notes) × (next_of (replay n me notes) ≡ None)
+
+-- legal notes followed by a group at what they give are legal
+abbrev pub LegalGrows : Type 0
+LegalGrows = (w limit n me : ℕ) (notes group : List Note) → IsLegal w limit n me notes → IsGroup w limit (replay n me notes) group
+    → IsLegal w limit n me (notes ++ group)
+
+-- a call notes nothing at a state, or one group
+abbrev pub IsGroupOrNone : ℕ → ℕ → State → List Note → Type 0
+IsGroupOrNone w limit s notes = (notes ≡ []) ⊎ IsGroup w limit s notes
+
+-- sending a valid update does so
+abbrev pub SendingNotesOneGroup : Type 0
+SendingNotesOneGroup = (w limit : ℕ) (s : State) (update : Update) → IsTrue (is_valid_update update)
+    → IsGroupOrNone w limit s (sending_notes (sending s.history.present.n w limit s.history.present.me s.history.present.messages update))
+
+-- so does sending a no-op
+abbrev pub BeatingNotesOneGroup : Type 0
+BeatingNotesOneGroup = (w limit : ℕ) (s : State)
+    → IsGroupOrNone w limit s (beating_notes (beating s.history.present.n w limit s.history.present.me s.history.present.messages))
+
+-- so does receiving a message of the store that can be carried there
+abbrev pub ReceivingNotesOneGroup : Type 0
+ReceivingNotesOneGroup = (w limit : ℕ) (s : State) (m : Message) → IsTrue (fits s.history.present.n m) → IsTrue (is_carried limit m)
+    → IsGroupOrNone w limit s (receiving_notes m (receiving w s m))
+
+-- ---- the end of an epoch
+
+-- the end of an epoch changes no event and so no answer, and leaves an empty log
+abbrev pub RegroupKeepsEvents : Type 0
+RegroupKeepsEvents = (n me : ℕ) (s : State) → (events (regrouped n me s).history ≡ events s.history)
+    × ((object : ObjectId) → answer object (events (regrouped n me s).history) ≡ answer object (events s.history))
+    × (log_of (regrouped n me s).history ≡ [])
+
+-- where every operation of the epoch is stable, its log was empty already, and each cell and so each settled item stays
+abbrev pub RegroupKeepsItems : Type 0
+RegroupKeepsItems = (n me : ℕ) (s : State) → IsTrue (is_all_stable s.history.present) → (log_of s.history ≡ [])
+    × ((object : ObjectId) (value : Option (List ℕ)) → settled_cell (regrouped n me s).history object value ≡ settled_cell s.history object value)
+    × (settled_items (regrouped n me s).history ≡ settled_items s.history)

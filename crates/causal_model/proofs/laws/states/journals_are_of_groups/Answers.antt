@@ -1,4 +1,4 @@
-use Rattle.causal_model.proofs.Journals.{receiving_replays, group_keeps_state, groups_grow}
+use Rattle.causal_model.proofs.Journals.{receiving_replays, group_keeps_state, groups_grow, legal_is_state, legal_grows}
 use Rattle.causal_model.proofs.laws.states.journals_are_of_groups.Goals as goal
 
 pub returns-clause-replays : goal.returns-clause-replays
@@ -9,3 +9,9 @@ returns-clause-keeps c = group_keeps_state
 
 pub returns-clause-grow : goal.returns-clause-grow
 returns-clause-grow c = groups_grow
+
+pub returns-clause-legal : goal.returns-clause-legal
+returns-clause-legal c = legal_is_state
+
+pub returns-clause-legal_grows : goal.returns-clause-legal_grows
+returns-clause-legal_grows c = legal_grows
