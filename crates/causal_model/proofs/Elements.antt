@@ -1,6 +1,6 @@
 -- Items of a list: tests that some of them pass, pairs of them, and orders that go forward in it.
-use Rattle.std.proofs.Common.{◌≡◌, ℕ, ◌<◌, Bool, true, false, ◌&&◌, ◌||◌, All, AllPairs, Contains, List, [], ◌∷◌, ◌++◌, length, map, get_or, suc, refl, sym, ap, ◌∙◌, inl, inr, arith}
-use Rattle.std.specs.List.{list_any}
+use Rattle.std.proofs.Common.{◌≡◌, ℕ, ◌<◌, Bool, true, false, ◌&&◌, ◌||◌, All, AllPairs, Contains, List, [], ◌∷◌, ◌++◌, cond, length, map, get_or, suc, refl, sym, ap, ◌∙◌, inl, inr, arith}
+use Rattle.std.specs.List.{filter, list_any}
 use Rattle.std.proofs.lemmas.Bool.{cases_eq, cases_lt, both_ways, false_from_ne_true}
 use Rattle.std.proofs.lemmas.List.{length-map, get_or-map}
 use Rattle.std.proofs.lemmas.List.Elements.{All-append, All-map, All-head, All-tail}
@@ -19,6 +19,13 @@ list_any-map p f (x ∷ xs) = ap (λ b. p (f x) || b) (list_any-map p f xs)
 pub list_any_agree : {X : Type 0} (p q : X → Bool) → ((x : X) → p x ≡ q x) → (xs : List X) → list_any p xs ≡ list_any q xs
 list_any_agree p q same [] = refl
 list_any_agree p q same (x ∷ xs) = rw (same x, list_any_agree p q same xs) refl
+
+pub list_any-filter : {X : Type 0} (p q : X → Bool) (xs : List X) → list_any q (filter p xs) ≡ list_any (λ x. p x && q x) xs
+list_any-filter p q [] = refl
+list_any-filter p q (x ∷ xs) = by (p x) (list_any-filter p q xs) where
+  by : (b : Bool) → list_any q (filter p xs) ≡ list_any (λ y. p y && q y) xs → list_any q (cond b (x ∷ filter p xs) (filter p xs)) ≡ ((b && q x) || list_any (λ y. p y && q y) xs)
+  by true rest = ap (λ c. q x || c) rest
+  by false rest = rest
 
 -- some item passes a test and one of two others exactly where some passes it and the one, or it and the other
 pub list_any-or : {X : Type 0} (p q r : X → Bool) (xs : List X) → list_any (λ x. (p x || q x) && r x) xs ≡ (list_any (λ x. p x && r x) xs || list_any (λ x. q x && r x) xs)

@@ -37,6 +37,7 @@ pub mod Cells
 pub mod KindCells
 pub mod SettledCells
 pub mod CellsOfOneMore
+pub mod Stripped
 pub mod SettledMarks
 pub mod Members
 pub mod Values

@@ -1,14 +1,14 @@
 -- A cell moved step by step: a counter's is left alone by all but what is applied at once, and that touches no other.
-use Rattle.std.proofs.Common.{◌≡◌, ◌≢◌, ℕ, ◌∷◌, [], ◌++◌, Bool, true, false, not, ◌&&◌, All, IsTrue, List, length, refl, sym, ap, ◌∙◌, inl, inr, Option, Some, None, if◌then◌else◌}
+use Rattle.std.proofs.Common.{◌≡◌, ◌≢◌, ℕ, ◌∷◌, [], Bool, true, false, All, IsTrue, List, length, refl, sym, ap, ◌∙◌, inl, inr, Option, Some, None}
 use Rattle.std.specs.Prelude.{⊤, ℤ, pos, ◌+ℤ◌, take}
 use Rattle.std.specs.Cmp.Lexicographic.{bytes_decides}
-use Rattle.std.specs.List.{filter, fold}
+use Rattle.std.specs.List.{fold}
 use Rattle.std.specs.Ordering.{is_eq}
 use Rattle.std.specs.Option.{option_cmp}
 use Rattle.std.proofs.Math.IntN.{+ℤ_idr}
 use Rattle.std.proofs.Math.Seq.{take-length}
-use Rattle.std.proofs.lemmas.Bool.{and_parts, and_from, and_right, both_ways, cases_Bool, cond_both, cond-true, cond-false, eq-eqb, false_from_ne_true, false≢true}
-use Rattle.std.proofs.lemmas.List.Elements.{All-nil, All-cons, All-head, All-tail, All-append, All-filter, All-take, filter_passes}
+use Rattle.std.proofs.lemmas.Bool.{and_from, and_right, both_ways, cases_Bool, cond-true, cond-false, eq-eqb, false_from_ne_true, false≢true}
+use Rattle.std.proofs.lemmas.List.Elements.{All-head, All-tail, All-take}
 use Rattle.std.proofs.lemmas.Option.{none-some}
 use Rattle.op_base.specs.Object.{kind_place, same_object}
 use Rattle.op_base.specs.Operation.{has_act}
@@ -25,20 +25,19 @@ use Rattle.op_base.specs.declared.operation.Op.TheVariants as op
 use Rattle.op_base.specs.declared.outcome.Cell.{Cell}
 use Rattle.op_base.proofs.Orders.{items_tied}
 use Rattle.causal_model.specs.Acts.{value_of}
-use Rattle.causal_model.specs.CellSteps.{is_counter, marks_on, marks_off, with_act, covers_value, covers_place, cell_uncovered, cell_with, cell_settled, is_put_in, pruned_log, log_of, stripped_of, cell_absorbed, cell_applied, cell_moved}
-use Rattle.causal_model.specs.Covering.{keeps_act, store_keeps, store_covers}
+use Rattle.causal_model.specs.CellSteps.{is_counter, marks_on, marks_off, with_act, covers_value, covers_place, cell_uncovered, cell_with, cell_settled, is_put_in, log_of, stripped_of, cell_absorbed, cell_applied, cell_moved}
+use Rattle.causal_model.specs.Covering.{keeps_act, store_keeps}
 use Rattle.causal_model.specs.History.{History, events, with_message, is_history}
 use Rattle.causal_model.specs.Items.{zero_cell}
-use Rattle.causal_model.specs.Log.{is_kept, is_covered_by, is_uncovered}
-use Rattle.causal_model.specs.Order.{happened_before}
+use Rattle.causal_model.specs.Log.{is_kept}
 use Rattle.causal_model.specs.Query.{amount_of, share_of, counter_sum}
 use Rattle.causal_model.specs.Settled.{sum_cell, object_cell, value_cell, settled_cell}
-use Rattle.causal_model.specs.Stability.{stable_vector, is_stable}
 use Rattle.causal_model.proofs.EventsOfOneMore.{counter_sum_of_one_more}
 use Rattle.causal_model.proofs.KindCells.{place_parts}
 use Rattle.causal_model.proofs.Places.{is_equal}
 use Rattle.causal_model.proofs.Rules.{object_from_same}
 use Rattle.causal_model.proofs.SettledMarks.{cell_of_one_more}
+use Rattle.causal_model.proofs.Stripped.{each_stripped}
 
 -- ---- kinds and acts
 
@@ -63,28 +62,6 @@ same_itself object = and_from _ _ (eq-eqb (kind_place object.kind) (kind_place o
 -- no operation of a counter is logged
 pub counter_is_not_kept : (u : Update) → u.object.kind ≡ Counter → store_keeps u ≡ false
 counter_is_not_kept u is = ap (λ k. keeps_act k u.act) is
-
--- ---- what goes from the log
-
--- what is logged is kept
-pub log_is_kept : (h : History) → All (λ e. is_kept store_keeps e.op ≡ true) (log_of h)
-log_is_kept h =
-    let kept : Message → Bool = λ e. is_kept store_keeps e.op && is_uncovered store_covers h.present.messages e && not (is_stable (stable_vector h.present.n h.present.me h.present.messages) e) in
-    let passed = filter_passes kept h.present.messages in
-    λ k d l. (and_parts _ _ (and_parts _ _ (passed k d l)).0).0
-
--- what goes from the log is kept, and is one of the epoch's messages or the new one
-pub each_stripped : (P : Message → Type 0) (h : History) (m : Message) → All P h.present.messages → P m → All (λ e. (is_kept store_keeps e.op ≡ true) × P e) (stripped_of h m)
-each_stripped P h m each last =
-    let Both : Message → Type 0 = λ e. (is_kept store_keeps e.op ≡ true) × P e in
-    let kept : Message → Bool = λ e. is_kept store_keeps e.op && is_uncovered store_covers h.present.messages e && not (is_stable (stable_vector h.present.n h.present.me h.present.messages) e) in
-    let bare : Message → Bool = λ e. not (is_covered_by store_covers e.op m.op && happened_before e m) in
-    let passed = log_is_kept h in
-    let logged : All P (log_of h) = All-filter kept P h.present.messages each in
-    let both : All Both (log_of h) = λ k d l. (passed k d l, logged k d l) in
-    let own : All Both (if is_kept store_keeps m.op then m ∷ [] else []) = cond_both (is_kept store_keeps m.op) (m ∷ []) [] (λ ms. All Both ms) (λ t. All-cons Both m [] (t, last) (All-nil Both)) (λ _. All-nil Both) in
-    All-filter (is_stable (stable_vector h.present.n h.present.me (h.present.messages ++ m ∷ []))) Both (pruned_log store_keeps store_covers h.present.n h.present.me h.present.messages m)
-    (All-append Both (filter bare (log_of h)) (if is_kept store_keeps m.op then m ∷ [] else []) (All-filter bare Both (log_of h) both) own)
 
 -- ---- what leaves a cell alone
 

@@ -1,13 +1,13 @@
 -- How large the sums of a cell are on the way from one message to the next.
-use Rattle.std.proofs.Common.{◌≡◌, ℕ, ◌+◌, ◌*◌, ◌^◌, ◌<◌, ◌≤◌, Bool, true, not, ◌&&◌, All, IsTrue, List, [], ◌∷◌, ◌++◌, length, length-append, Option, Some, None, subst, if◌then◌else◌, arith}
+use Rattle.std.proofs.Common.{◌≡◌, ℕ, ◌+◌, ◌*◌, ◌^◌, ◌<◌, ◌≤◌, true, All, IsTrue, List, [], ◌∷◌, length, length-append, Option, Some, None, subst, arith}
 use Rattle.std.specs.Prelude.{take}
-use Rattle.std.specs.List.{filter, fold, slice_index_or}
+use Rattle.std.specs.List.{fold, slice_index_or}
 use Rattle.std.specs.Ordering.{is_eq}
 use Rattle.std.proofs.Math.IntN.{nat_abs}
 use Rattle.std.proofs.lemmas.Bool.{and_parts, cond_both}
 use Rattle.std.proofs.lemmas.List.{length-map, length-take}
 use Rattle.std.proofs.lemmas.List.Elements.{All-head, All-tail, All-take}
-use Rattle.std.proofs.lemmas.List.Sums.{AllPass-from_list_all, length-filter, count_by-le-length}
+use Rattle.std.proofs.lemmas.List.Sums.{AllPass-from_list_all}
 use Rattle.op_base.specs.Name.{is_key}
 use Rattle.op_base.specs.Order.{item_cmp}
 use Rattle.op_base.specs.Valid.{is_valid, is_valid_act}
@@ -19,21 +19,17 @@ use Rattle.op_base.specs.declared.operation.Op.{Op}
 use Rattle.op_base.specs.declared.operation.Op.TheVariants as op
 use Rattle.op_base.specs.declared.outcome.Cell.{Cell}
 use Rattle.causal_model.specs.Acts.{value_of}
-use Rattle.causal_model.specs.CellSteps.{with_act, is_counter, covers_place, cell_uncovered, cell_with, pruned_log, log_of, stripped_of, cell_absorbed, cell_applied, cell_moved}
+use Rattle.causal_model.specs.CellSteps.{with_act, is_counter, covers_place, cell_uncovered, cell_with, stripped_of, cell_absorbed, cell_applied, cell_moved}
 use Rattle.causal_model.specs.Counts.{is_carried}
-use Rattle.causal_model.specs.Covering.{store_keeps, store_covers}
 use Rattle.causal_model.specs.History.{History, Event, epoch_of, events, events_from, events_in, with_message, is_history, is_limited}
 use Rattle.causal_model.specs.Items.{zero_cell}
-use Rattle.causal_model.specs.Log.{is_kept, is_covered_by, is_uncovered}
-use Rattle.causal_model.specs.Order.{happened_before}
 use Rattle.causal_model.specs.Query.{amount_of, counter_sum, IsWithin}
 use Rattle.causal_model.specs.Settled.{is_settled, object_cell, value_cell, settled_cell}
-use Rattle.causal_model.specs.Stability.{stable_vector, is_stable}
 use Rattle.causal_model.proofs.EventsOfOneMore.{filter_all}
 use Rattle.causal_model.proofs.Histories.{IsLimited-from_test, history_before, limited_before}
 use Rattle.causal_model.proofs.Lengths.{history_is_bounded}
 use Rattle.causal_model.proofs.Limits.{carried_is_valid}
-use Rattle.causal_model.proofs.MovedCells.{each_stripped}
+use Rattle.causal_model.proofs.Stripped.{each_stripped, stripped_is_short}
 use Rattle.causal_model.proofs.Sums.{abs_of_sum, between, amount_is_small, sum_is_small}
 
 -- ---- what one operation adds
@@ -54,19 +50,6 @@ module _ (object : ObjectId) (value : Option (List ℕ)) where
   fold_is_small cell [] each = omega arith
   fold_is_small cell (e ∷ es) each =
       omega (arith, fold_is_small (cell_with object value cell e.op) es (All-tail (λ y. is_valid y.op ≡ true) e es each), with_is_small cell e.op (All-head (λ y. is_valid y.op ≡ true) e es each))
-
--- ---- how many entries go
-
-stripped_is_short : (h : History) (m : Message) → length (stripped_of h m) ≤ length h.present.messages + 1
-stripped_is_short h m =
-    let stable : Message → Bool = is_stable (stable_vector h.present.n h.present.me (h.present.messages ++ m ∷ [])) in
-    let kept : Message → Bool = λ e. is_kept store_keeps e.op && is_uncovered store_covers h.present.messages e && not (is_stable (stable_vector h.present.n h.present.me h.present.messages) e) in
-    let bare : Message → Bool = λ e. not (is_covered_by store_covers e.op m.op && happened_before e m) in
-    let own : List Message = if is_kept store_keeps m.op then m ∷ [] else [] in
-    let one : length own ≤ 1 = cond_both (is_kept store_keeps m.op) (m ∷ []) [] (λ ms. length ms ≤ 1) (λ _. omega arith) (λ _. omega arith) in
-    omega (arith, shorter stable (pruned_log store_keeps store_covers h.present.n h.present.me h.present.messages m), length-append (filter bare (log_of h)) own, one, shorter bare (log_of h), shorter kept h.present.messages) where
-      shorter : (p : Message → Bool) (es : List Message) → length (filter p es) ≤ length es
-      shorter p es = omega (arith, length-filter p es, count_by-le-length p es)
 
 -- ---- on the way
 

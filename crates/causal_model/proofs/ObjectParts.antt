@@ -22,12 +22,12 @@ use Rattle.causal_model.specs.Log.{is_kept}
 use Rattle.causal_model.specs.Parts.{puts, takes, has, is_in, has_logged, has_by_parts, is_on, ArePartsOf}
 use Rattle.causal_model.specs.Query.{amount_of, share_of, total_of, counter_sum, rcounter_sum}
 use Rattle.causal_model.specs.Settled.{object_cell, settled_cell}
-use Rattle.causal_model.proofs.Elements.{list_any_agree}
-use Rattle.causal_model.proofs.MovedCells.{counter_is_not_kept, log_is_kept}
-use Rattle.causal_model.proofs.Parts.{list_any-filter}
+use Rattle.causal_model.proofs.Elements.{list_any_agree, list_any-filter}
+use Rattle.causal_model.proofs.MovedCells.{counter_is_not_kept}
 use Rattle.causal_model.proofs.PartsOfKinds.{has_by_settled_and_logged}
 use Rattle.causal_model.proofs.PartsOfSums.{rcounter_by_settled_and_logged}
 use Rattle.causal_model.proofs.Rules.{object_from_same}
+use Rattle.causal_model.proofs.Stripped.{log_is_kept}
 use Rattle.causal_model.proofs.Totals.{sum_of, sum_of-map, sum_of-filter, sum_of_zeros}
 
 module _ (object : ObjectId) (log : List Message) where

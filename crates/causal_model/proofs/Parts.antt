@@ -1,6 +1,6 @@
 -- Answers from parts: an uncovered event is settled or pending, and the pending ones that are logged are the log's.
-use Rattle.std.proofs.Common.{◌≡◌, ◌+◌, ◌<◌, ◌≤◌, Bool, true, false, not, ◌&&◌, ◌||◌, IsTrue, All, List, [], ◌∷◌, cond, refl, sym, ap, subst, ◌∙◌, arith}
-use Rattle.std.specs.List.{filter, list_any}
+use Rattle.std.proofs.Common.{◌≡◌, ◌+◌, ◌<◌, ◌≤◌, Bool, true, false, not, ◌&&◌, ◌||◌, IsTrue, All, List, [], ◌∷◌, refl, sym, ap, subst, ◌∙◌, arith}
+use Rattle.std.specs.List.{list_any}
 use Rattle.std.proofs.lemmas.Bool.{and_parts, and_left, and_right, or_left, lt-ltb, le-ltb, false≢true}
 use Rattle.std.proofs.lemmas.List.Elements.{All-weaker}
 use Rattle.std.proofs.lemmas.List.Folds.{list_any-append, list_any_none}
@@ -22,7 +22,7 @@ use Rattle.causal_model.specs.Settled.{is_stable_event, is_uncovered_event, is_s
 use Rattle.causal_model.specs.Stability.{stable_vector, is_stable}
 use Rattle.causal_model.specs.CellSteps.{log_of}
 use Rattle.causal_model.specs.Laws.Events.{present_event}
-use Rattle.causal_model.proofs.Elements.{list_any-map, list_any_agree}
+use Rattle.causal_model.proofs.Elements.{list_any-map, list_any_agree, list_any-filter}
 use Rattle.causal_model.proofs.Events.{epochs_are_between, present_is_covered_in_present}
 use Rattle.causal_model.proofs.Rules.{object_from_same}
 
@@ -64,13 +64,6 @@ pub present_is_pending : (h : History) (m : Message)
     → is_pending h (present_event h m) ≡ (not (is_stable (stable_vector h.present.n h.present.me h.present.messages) m) && is_uncovered store_covers h.present.messages m)
 present_is_pending h m =
     (λ i. not (le-ltb (epoch_of h) (epoch_of h) (omega arith) i || is_stable (stable_vector h.present.n h.present.me h.present.messages) m) && present_is_covered_in_present h m i)
-
-pub list_any-filter : {X : Type 0} (p q : X → Bool) (xs : List X) → list_any q (filter p xs) ≡ list_any (λ x. p x && q x) xs
-list_any-filter p q [] = refl
-list_any-filter p q (x ∷ xs) = by (p x) (list_any-filter p q xs) where
-  by : (b : Bool) → list_any q (filter p xs) ≡ list_any (λ y. p y && q y) xs → list_any q (cond b (x ∷ filter p xs) (filter p xs)) ≡ ((b && q x) || list_any (λ y. p y && q y) xs)
-  by true rest = ap (λ c. q x || c) rest
-  by false rest = rest
 
 -- what does an act is pending exactly where it is logged
 is_logged : (a s u k : Bool) → (a ≡ true → k ≡ true) → (a && (not s && u)) ≡ ((k && u && not s) && a)

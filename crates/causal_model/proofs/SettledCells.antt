@@ -1,6 +1,6 @@
 -- The settled cell of an object and a value is what all settled operations give, with its marks settled by what is pending.
-use Rattle.std.proofs.Common.{◌≡◌, ◌≢◌, ℕ, ◌+◌, ◌<◌, ◌≤◌, Bool, true, false, not, ◌&&◌, ◌||◌, cond, All, List, [], ◌∷◌, refl, sym, ap, ◌∙◌, Option, Some, None, arith}
-use Rattle.std.specs.List.{filter, list_any}
+use Rattle.std.proofs.Common.{◌≡◌, ◌≢◌, ℕ, ◌+◌, ◌<◌, ◌≤◌, Bool, true, false, not, ◌&&◌, ◌||◌, All, List, refl, sym, ap, ◌∙◌, Option, Some, None, arith}
+use Rattle.std.specs.List.{list_any}
 use Rattle.std.proofs.lemmas.Bool.{and_parts, and_right, or_left, false≢true, lt-ltb, le-ltb}
 use Rattle.std.proofs.lemmas.List.Elements.{All-weaker}
 use Rattle.std.proofs.lemmas.List.Folds.{list_any-append, list_any_none}
@@ -23,19 +23,10 @@ use Rattle.causal_model.specs.Query.{is_act_on}
 use Rattle.causal_model.specs.Settled.{is_stable_event, is_uncovered_event, is_settled, is_pending, has_settled, has_pending, object_cell, value_cell, settled_cell}
 use Rattle.causal_model.specs.Stability.{stable_vector, is_stable}
 use Rattle.causal_model.proofs.Cells.{marks}
-use Rattle.causal_model.proofs.Elements.{list_any-map, list_any_agree}
+use Rattle.causal_model.proofs.Elements.{list_any-map, list_any_agree, list_any-filter}
 use Rattle.causal_model.proofs.Events.{event_of, epochs_are_between, present_is_covered_in_present}
 use Rattle.causal_model.proofs.KindCells.{put_cell, given, given_on, given_marks, given_sum, given_none, awset_puts, rwset_puts, mvreg_puts, ewflag_puts, dwflag_puts, rcounter_puts, awset_object, rwset_object, mvreg_object, ewflag_value, dwflag_value, rcounter_value}
 use Rattle.causal_model.proofs.Rules.{object_from_same}
-
--- ---- lists
-
-list_any-filter : {X : Type 0} (p q : X → Bool) (xs : List X) → list_any q (filter p xs) ≡ list_any (λ x. p x && q x) xs
-list_any-filter p q [] = refl
-list_any-filter p q (x ∷ xs) = elim (p x) as (λ b. list_any q (cond b (x ∷ filter p xs) (filter p xs)) ≡ ((b && q x) || list_any (λ y. p y && q y) xs)) [
-  | true ↦ ap (λ b. q x || b) (list_any-filter p q xs)
-  | false ↦ list_any-filter p q xs
-]
 
 -- ---- events of epochs that are over, and of the present one
 

@@ -1,8 +1,8 @@
 -- A cell forgets a remove that no pending add waits for, and with one message more it is as if it had not.
 use Rattle.std.proofs.Common.{◌≡◌, ◌≢◌, ℕ, Bool, true, false, not, ◌&&◌, ◌||◌, All, IsTrue, List, [], ◌∷◌, ◌++◌, refl, sym, ap, subst, ◌∙◌, Option, Some, None, if◌then◌else◌}
 use Rattle.std.specs.List.{filter, fold, list_any}
-use Rattle.std.proofs.lemmas.Bool.{and_parts, and_from, or_parts, both_ways, cond_both, false_from_ne_true, false≢true}
-use Rattle.std.proofs.lemmas.List.Elements.{All-nil, All-cons, All-append, All-filter, All-weaker, filter_passes}
+use Rattle.std.proofs.lemmas.Bool.{and_parts, and_from, or_parts, both_ways, false_from_ne_true, false≢true}
+use Rattle.std.proofs.lemmas.List.Elements.{All-nil, All-cons, All-filter, All-weaker}
 use Rattle.std.proofs.lemmas.List.Folds.{list_any_none}
 use Rattle.op_base.specs.Object.{same_object}
 use Rattle.op_base.specs.Operation.{has_act}
@@ -16,12 +16,11 @@ use Rattle.op_base.specs.declared.operation.Op.{Op}
 use Rattle.op_base.specs.declared.operation.Op.TheVariants as op
 use Rattle.op_base.specs.declared.outcome.Cell.{Cell}
 use Rattle.causal_model.specs.Acts.{acts_on}
-use Rattle.causal_model.specs.CellSteps.{covers_value, covers_place, cell_uncovered, cell_with, marks_settled, cell_settled, puts_in, is_put_in, pruned_log, log_of, stripped_of}
+use Rattle.causal_model.specs.CellSteps.{covers_value, covers_place, cell_uncovered, cell_with, marks_settled, cell_settled, puts_in, is_put_in, log_of, stripped_of}
 use Rattle.causal_model.specs.Covering.{store_keeps, store_covers}
 use Rattle.causal_model.specs.History.{History, with_message, is_history}
 use Rattle.causal_model.specs.Items.{zero_cell}
-use Rattle.causal_model.specs.Log.{is_kept, is_covered_by, is_uncovered}
-use Rattle.causal_model.specs.Order.{happened_before}
+use Rattle.causal_model.specs.Log.{is_kept}
 use Rattle.causal_model.specs.Settled.{settled_cell}
 use Rattle.causal_model.specs.Stability.{stable_vector, is_stable}
 use Rattle.causal_model.proofs.Cells.{join, restrict, gather, gather-on, cell_of, fold-cells}
@@ -31,6 +30,7 @@ use Rattle.causal_model.proofs.KindCells.{put_cell, kept_cell, kept_is_put, rwse
 use Rattle.causal_model.proofs.Logs.{kept_log-push}
 use Rattle.causal_model.proofs.Rules.{object_from_same}
 use Rattle.causal_model.proofs.SettledCells.{settled_given, settled_is_given}
+use Rattle.causal_model.proofs.Stripped.{pruned_of, log_is_kept, each_pruned}
 
 -- ---- marks, settled before or not
 
@@ -118,28 +118,17 @@ module _ (object : ObjectId) (value : Option (List ℕ)) (wins : RemoveWins obje
   IsQuiet e = (is_kept store_keeps e.op ≡ true) × (acts_on object (puts_in value) e.op ≡ false)
 
   module _ (w : ℕ) (h : History) (m : Message) (t : IsTrue (is_history w (with_message h m))) (uncovered : covers_place m.op object value ≡ false) (none : is_put_in (log_of h) object value ≡ false) where
-    own_is_quiet : All IsQuiet (if is_kept store_keeps m.op then m ∷ [] else [])
-    own_is_quiet = cond_both (is_kept store_keeps m.op) (m ∷ []) [] (λ ms. All IsQuiet ms)
-        (λ kept. All-cons IsQuiet m [] (kept, false_from_ne_true (acts_on object (puts_in value) m.op) (λ puts. both_ways (covers_place m.op object value) uncovered (putting_covers m.op puts))) (All-nil IsQuiet))
-        (λ _. All-nil IsQuiet)
-
     log_is_quiet : All IsQuiet (log_of h)
-    log_is_quiet =
-        let logs : Message → Bool = λ e. is_kept store_keeps e.op && is_uncovered store_covers h.present.messages e && not (is_stable (stable_vector h.present.n h.present.me h.present.messages) e) in
-        let kept = filter_passes logs h.present.messages in
-        let quiet = none_passes (λ (e : Message). acts_on object (puts_in value) e.op) (log_of h) none in
-        λ k d l. ((and_parts _ _ (and_parts _ _ (kept k d l)).0).0, quiet k d l)
+    log_is_quiet = let quiet = none_passes (λ (e : Message). acts_on object (puts_in value) e.op) (log_of h) none in λ k d l. (log_is_kept h k d l, quiet k d l)
 
-    pruned_is_quiet : All IsQuiet (pruned_log store_keeps store_covers h.present.n h.present.me h.present.messages m)
-    pruned_is_quiet =
-        let bare : Message → Bool = λ e. not (is_covered_by store_covers e.op m.op && happened_before e m) in
-        All-append IsQuiet (filter bare (log_of h)) (if is_kept store_keeps m.op then m ∷ [] else []) (All-filter bare IsQuiet (log_of h) log_is_quiet) own_is_quiet
+    pruned_is_quiet : All IsQuiet (pruned_of h m)
+    pruned_is_quiet = each_pruned IsQuiet h m log_is_quiet (λ kept. (kept, false_from_ne_true (acts_on object (puts_in value) m.op) (λ puts. both_ways (covers_place m.op object value) uncovered (putting_covers m.op puts))))
 
     none_is_put_in : ((gather (λ e. cell_of object value e.op) (stripped_of h m)).on ≡ false) × (is_put_in (log_of (with_message h m)) object value ≡ false)
     none_is_put_in =
         let cells : Message → Cell = λ e. cell_of object value e.op in
         let stable : Message → Bool = is_stable (stable_vector h.present.n h.present.me (h.present.messages ++ m ∷ [])) in
-        let pruned : List Message = pruned_log store_keeps store_covers h.present.n h.present.me h.present.messages m in
+        let pruned : List Message = pruned_of h m in
         let left : List Message = filter (λ e. not (stable e)) pruned in
         let puts : Message → Bool = λ e. acts_on object (puts_in value) e.op in (
           gather-on cells (stripped_of h m) ∙ list_any_none (λ e. (cells e).on) (stripped_of h m) (All-weaker IsQuiet (λ e. (cells e).on ≡ false) (λ e quiet. gives_no_on e.op quiet.0 quiet.1) (stripped_of h m) (All-filter stable IsQuiet pruned pruned_is_quiet)),

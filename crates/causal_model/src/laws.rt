@@ -20,6 +20,6 @@ pub use events::{
     maximal_events_are_there, one_event_more,
 };
 pub use states::{
-    calls_keep_states, calls_note_one_group, early_messages_are_one_list, journals_are_of_groups, steps_end,
-    the_end_of_an_epoch_keeps_events,
+    calls_keep_states, calls_note_one_group, early_messages_are_one_list, journals_are_of_groups,
+    steps_end, the_end_of_an_epoch_keeps_events,
 };

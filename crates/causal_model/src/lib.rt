@@ -20,7 +20,8 @@ pub use laws::{
     items_are_the_cells, items_with_equal_cells_are_equal, journals_are_of_groups,
     maximal_events_are_there, messages_are_ordered, nothing_was_delivered_yet, one_event_more,
     one_member_alone, one_message_more, own_messages_are_next, stable_messages_stay_behind,
-    steps_end, sums_are_bounded, the_end_of_an_epoch_keeps_events, the_table_meets_the_laws_of_rules, unstable_messages_are_numbered,
+    steps_end, sums_are_bounded, the_end_of_an_epoch_keeps_events,
+    the_table_meets_the_laws_of_rules, unstable_messages_are_numbered,
     unstable_messages_tell_a_crook, values_are_exactly_those_that_pass, windows_bound_what_is_kept,
 };
 pub use note::Note;
