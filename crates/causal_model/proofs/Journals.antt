@@ -1,5 +1,5 @@
--- Journals: what receiving notes replays to the state that it leaves, a group keeps what a state is, groups grow, and what a
--- call notes is one group.
+-- Journals: what receiving notes replays to the state that it leaves, a group keeps what a state is, groups grow, and what
+-- a call notes is one group.
 use Rattle.std.proofs.Common.{◌≡◌, ◌≢◌, ℕ, zero, suc, ◌<◌, ◌≤◌, Bool, true, false, not, ◌==◌, IsTrue, List, [], ◌∷◌, ◌++◌, map, length, refl, sym, ap, subst, ◌∙◌, inl, inr, Option, Some, None, if◌then◌else◌, append-nil, arith}
 use Rattle.std.proofs.lemmas.Bool.{and_parts, eqb-true, eqb-false, false_from_ne_true}
 use Rattle.std.proofs.lemmas.Grind.{flat_map-append}

@@ -80,7 +80,7 @@ module _ (object : ObjectId) (value : Option (List ℕ)) where
   ]
 
   -- a kind other than a counter's has nothing applied at once
-  pub applied_leaves : object.kind ≢ Counter → (o : Op) (cell : Cell) → cell_applied object value o cell ≡ cell
+  applied_leaves : object.kind ≢ Counter → (o : Op) (cell : Cell) → cell_applied object value o cell ≡ cell
   applied_leaves other op.NoOp cell = refl
   applied_leaves other (op.Update u) cell = other_is_applied cell u (λ is one _. other (ap (λ (z : ObjectId). z.kind) (sym one) ∙ is))
 

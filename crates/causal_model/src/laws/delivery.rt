@@ -67,8 +67,8 @@ pub fn unstable_messages_tell_a_crook()
     ensures unstable { UnstableOfOneMore }
 {}
 
-/// The unstable messages of a member are numbered one after the other, and so are found by their numbers; the next message
-/// follows them.
+/// The unstable messages of a member are numbered one after the other, and so are found by their numbers; the next
+/// message follows them.
 pub fn unstable_messages_are_numbered()
     ensures numbered { UnstableAreNumbered }
     ensures counted { StableIsCounted }

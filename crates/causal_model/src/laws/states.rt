@@ -28,8 +28,8 @@ pub fn calls_keep_states()
     ensures regroup { RegroupKeepsState }
 {}
 
-/// What calls note replays to the state that they leave, groups of notes can be put after each other, and legal notes give
-/// a state.
+/// What calls note replays to the state that they leave, groups of notes can be put after each other, and legal notes
+/// give a state.
 pub fn journals_are_of_groups()
     ensures replays { ReceivingReplays }
     ensures keeps { GroupKeepsState }
@@ -45,8 +45,8 @@ pub fn calls_note_one_group()
     ensures receiving { ReceivingNotesOneGroup }
 {}
 
-/// The end of an epoch keeps events and answers, and where every operation is stable the settled items; it leaves an empty
-/// log.
+/// The end of an epoch keeps events and answers, and where every operation is stable the settled items; it leaves an
+/// empty log.
 pub fn the_end_of_an_epoch_keeps_events()
     ensures events { RegroupKeepsEvents }
     ensures items { RegroupKeepsItems }
