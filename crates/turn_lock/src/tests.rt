@@ -1,5 +1,5 @@
-//! What no clause says: that turns come, in threads too, and that the gate is passed where it
-//! should be. The value under the lock is a sum, and a turn records what it adds.
+//! What no clause says: that turns come, in threads too, and how often the gate is passed and with
+//! which numbers. The value under the lock is a sum, and a turn records what it adds.
 
 ghost use Rattle.std.specs.Prelude.{◌≡◌, false};
 ghost use Rattle.turn_lock.specs.Turns.{LockState, PassState};
@@ -165,5 +165,27 @@ fn one_thread_has_two_passes_and_makes_each_call(rt: HostRuntime) -> Result<(), 
     assert_eq!(rt; lock.close(opener), 7);
     assert_eq!(rt; gate.before.into_inner(), 3061);
     assert_eq!(rt; gate.inside.into_inner(), 3061);
+    Ok(())
+}
+
+#[test]
+fn passes_lie_in_a_list_and_are_lent_in_turn(rt: HostRuntime) -> Result<(), Fail> {
+    let (lock, mut opener) = SumLock::create(rt.alloc(), 0, &())?;
+    let mut passes = Vec::new(rt.alloc());
+    passes.push(lock.split(&mut opener))?;
+    passes.push(lock.split(&mut opener))?;
+    let visit = Visit {
+        gate: &OpenGate,
+        worker: 0,
+        call: 0,
+    };
+    assert_eq!(rt; add(&rt, &lock, &mut passes[0], &visit, 5), 5);
+    assert_eq!(rt; add(&rt, &lock, &mut passes[1], &visit, 7), 12);
+    assert_eq!(rt; add(&rt, &lock, &mut passes[0], &visit, 1), 13);
+    for pass in passes {
+        lock.join(&mut opener, pass);
+    }
+    assert_eq!(rt; opener.out(), 0);
+    assert_eq!(rt; lock.close(opener), 13);
     Ok(())
 }
