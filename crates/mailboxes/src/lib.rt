@@ -5,10 +5,12 @@
 //! that were taken on.
 #![tactic(auto)]
 
+mod laws;
 mod mailbox;
 mod rule;
 mod seen;
 
+pub use laws::worked_rolls;
 pub use mailbox::{MailPass, Mailbox};
 pub use seen::{Line, Posted, Seen};
 

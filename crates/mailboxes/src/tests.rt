@@ -1,6 +1,7 @@
 //! What no clause says: that calls succeed, in what order items come, and that threads lose nothing.
-ghost use Rattle.std.specs.Prelude.{◌≡◌, ◌≢◌, ◌<◌, ◌≤◌, ℕ, IfOk, length, vec_len, slice_index_or};
+ghost use Rattle.std.specs.Prelude.{◌≡◌, ◌≢◌, ◌<◌, ◌≤◌, ℕ, [], ◌∷◌, IfOk, OnOk, length, vec_len, slice_index_or};
 ghost use Rattle.mailboxes.specs.Passes.{seen, IsOf};
+ghost use Rattle.mailboxes.specs.Seen.{line, first_seen};
 
 use super::*;
 use std::alloc::AllocError;
@@ -51,6 +52,37 @@ fn passes_lie_in_a_list_and_are_lent(rt: HostRuntime) -> Result<(), Fail> {
     passes.push(mailbox.fork(&mut first)?)?;
     assert_eq!(rt; post_by(&rt, &mailbox, passes.as_mut_slice(), 0, 7), Ok(()));
     assert_eq!(rt; mailbox.take(&rt, &mut first), Some(7));
+    Ok(())
+}
+
+/// One fork posts 5 and takes, another posts 7, and both are joined. The roll has then what each posted.
+fn posts_of_two<R: Wait>(
+    rt: &R,
+    mailbox: &Mailbox<u32>,
+    first: &mut MailPass<u32>,
+) -> Result<Option<u32>, Fail>
+    requires of { IsOf mailbox.now first.old }
+    requires fresh { seen first.old ≡ first_seen }
+    ensures of { IsOf mailbox.now first.new }
+    ensures roll { OnOk result ((seen first.new).roll ≡ line 0 [] ∷ line 1 (5 ∷ []) ∷ line 2 (7 ∷ []) ∷ []) }
+{
+    let mut one = mailbox.fork(first)?;
+    let mut two = mailbox.fork(first)?;
+    mailbox.post(rt, &mut one, 5).ok().ok_or("no room for 5")?;
+    let taken = mailbox.take(rt, &mut one);
+    mailbox.post(rt, &mut two, 7).ok().ok_or("no room for 7")?;
+    mailbox.join(first, one);
+    mailbox.join(first, two);
+    Ok(taken)
+}
+
+#[test]
+fn a_roll_has_what_each_pass_posted_after_joins(rt: HostRuntime) -> Result<(), Fail> {
+    let (mailbox, mut first) = Mailbox::create(rt.alloc(), 1)?;
+    assert_eq!(rt; posts_of_two(&rt, &mailbox, &mut first)?, Some(5));
+    assert_eq!(rt; first.forks(), 2);
+    assert_eq!(rt; mailbox.take(&rt, &mut first), Some(7));
+    assert_eq!(rt; mailbox.take(&rt, &mut first), None);
     Ok(())
 }
 
