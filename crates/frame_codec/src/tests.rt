@@ -131,6 +131,31 @@ fn vectors_are_their_messages(rt: HostRuntime) -> Result<(), Fail> {
 }
 
 #[test]
+fn vectors_are_spelled_again(rt: HostRuntime) -> Result<(), Fail> {
+    let alloc = rt.alloc();
+    // `inc 5` to `counter:a`, the message `0:1` of a store of one member.
+    let old = b"\x01\0\x01\x0f\0\0\0\x01\x01a\0\0\0\x05".as_slice();
+    let new = b"\x02\0\x01\x0f\0\0\0\0\0\0\0\x01\0\x01a\0\0\0\x05".as_slice();
+    let counter = ObjectId::read(alloc, b"counter:a")?;
+    let update = Update::new(counter, Act::Inc(5))
+        .ok()
+        .ok_or("a counter has an inc")?;
+    let mut tag = Tag::zero(1);
+    tag.set(0, 1);
+    let wanted = Message {
+        origin: 0,
+        tag,
+        op: Op::Update(update),
+    };
+    for bytes in [old, new] {
+        let message = decode(alloc, bytes, 1, 0, LIMIT)?;
+        assert_eq!(rt; message, wanted, "{bytes:?}");
+        assert_eq!(rt; encode(alloc, &message, 1, 0)?.as_slice(), new, "{bytes:?}");
+    }
+    Ok(())
+}
+
+#[test]
 fn an_epoch_reads_its_own_frames(rt: HostRuntime) -> Result<(), Fail> {
     let alloc = rt.alloc();
     assert_eq!(rt; number(&decode(alloc, &OLD, 2, 1, LIMIT)), 2);

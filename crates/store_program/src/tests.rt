@@ -72,7 +72,7 @@ fn script(rt: &HostRuntime, input: &[u8]) -> Result<(Status, Vec<u8>), AllocErro
 
 #[test]
 fn scripts_give_their_transcripts(rt: HostRuntime) -> Result<(), Fail> {
-    let cases: [(&[u8], Status, &[u8]); 25] = [
+    let cases: [(&[u8], Status, &[u8]); 26] = [
         (FIRST, Status::Fine, b"ok 1\n= 5\n"),
         // Headers.
         (b"", Status::BadHeader, b""),
@@ -89,6 +89,7 @@ fn scripts_give_their_transcripts(rt: HostRuntime) -> Result<(), Fail> {
         (b"stores 1 1\n", Status::BadHeader, b""),
         (b"do 0 counter:a inc 5\nstore 1 1\n", Status::BadHeader, b""),
         (b"store 1 1", Status::Fine, b""),
+        (b"store 1 2 70000\n", Status::Fine, b""),
         (b"store 1 64 1000000", Status::Fine, b""),
         // The end of a member's messages.
         (
