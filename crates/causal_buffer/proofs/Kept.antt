@@ -18,13 +18,13 @@ use Rattle.op_base.specs.declared.tag.MessageId.{MessageId}
 use Rattle.causal_model.specs.Counts.{is_deliverable, members}
 use Rattle.causal_model.specs.Stability.{noop_window}
 use Rattle.causal_model.specs.Receiving.{is_again, is_far, stands_before, put_early, has_id, without}
-use Rattle.causal_model.proofs.Early.{All-put_early, put_early_rises, IsNear-from_test}
+use Rattle.causal_model.proofs.Early.{StandsBefore, All-put_early, put_early_rises, IsNear-from_test}
 use Rattle.causal_model.proofs.Finds.{none_found}
 use Rattle.causal_model.proofs.Risings.{AllPairs-nil, rising_numbers}
-use Rattle.causal_buffer.specs.Buffer.{Buffer, offer_of, AreAhead, AreNear}
+use Rattle.causal_buffer.specs.Buffer.{Buffer, offer_of, AreAhead, AreNear, IsNextId}
 use Rattle.causal_buffer.specs.declared.buffer.Offer.TheVariants.{Kept, Again, Far}
 use Rattle.causal_buffer.specs.Queue.{IsQueue, IsAt, IsGapFor, IsKept, AreKept}
-use Rattle.causal_buffer.proofs.OneQueue.{StandsBefore, numbers_rise, has, find_in_gap, search_finds}
+use Rattle.causal_buffer.proofs.OneQueue.{numbers_rise, has, find_in_gap, search_finds}
 use Rattle.causal_buffer.proofs.AllQueues.{AreOwn, All-part, any_is_found, find_flat, without_flat, put_flat}
 
 -- ---- one queue
@@ -92,7 +92,7 @@ pub none_is_next : (n : ℕ) (counted : List ℕ) (q : List Message) → (0 < le
 none_is_next n counted [] empty = refl
 none_is_next n counted (x ∷ q) empty = absurd (empty (omega arith))
 
-not_of_member : (id : MessageId) (m : Message) → m.origin ≢ id.origin → has_id id m ≡ false
+pub not_of_member : (id : MessageId) (m : Message) → m.origin ≢ id.origin → has_id id m ≡ false
 not_of_member id m ne = and_left (id.origin == m.origin) (id.seq == number m) (ne_eqb id.origin m.origin (λ e. ne (sym e)))
 
 -- ---- all queues
@@ -212,7 +212,7 @@ most_is_small n w some few narrow = grind arith
 
 -- ---- what is held of the counts once the next message of an origin is taken out and delivered
 
-module _ (id : MessageId) (counted : List ℕ) (early : List Message) (l : id.origin < length counted) (next : id.seq ≡ entry counted id.origin + 1) where
+module _ (id : MessageId) (counted : List ℕ) (early : List Message) (next : IsNextId (length counted) counted id) where
   pub step_keeps_ahead : AreAhead counted early → AreAhead (set counted id.origin id.seq) (without id early)
   step_keeps_ahead ahead k d i =
       let m = get_or (without id early) k d in
@@ -221,7 +221,7 @@ module _ (id : MessageId) (counted : List ℕ) (early : List Message) (l : id.or
       elim (cases_eq m.origin id.origin) [
         | inl same ↦
             let apart : number m ≢ id.seq = λ e. false≢true (sym other ∙ has id m same e) in
-            omega (arith, apart, above, next, ap (entry counted) same, ap (entry (set counted id.origin id.seq)) same, get_or-set_same counted id.origin id.seq 0 l)
+            omega (arith, apart, above, next.numbered, ap (entry counted) same, ap (entry (set counted id.origin id.seq)) same, get_or-set_same counted id.origin id.seq 0 next.of_member)
         | inr ne ↦ omega (arith, above, get_or-set_other counted id.origin m.origin id.seq 0 ne)
       ]
 
@@ -230,6 +230,6 @@ module _ (id : MessageId) (counted : List ℕ) (early : List Message) (l : id.or
       let m = get_or (without id early) k d in
       let below : number m ≤ entry counted m.origin + (w + noop_window n w) = All-filter (λ e. not (has_id id e)) (λ e. number e ≤ entry counted e.origin + (w + noop_window n w)) early near k d i in
       elim (cases_eq m.origin id.origin) [
-        | inl same ↦ omega (arith, below, next, ap (entry counted) same, ap (entry (set counted id.origin id.seq)) same, get_or-set_same counted id.origin id.seq 0 l)
+        | inl same ↦ omega (arith, below, next.numbered, ap (entry counted) same, ap (entry (set counted id.origin id.seq)) same, get_or-set_same counted id.origin id.seq 0 next.of_member)
         | inr ne ↦ omega (arith, below, get_or-set_other counted id.origin m.origin id.seq 0 ne)
       ]

@@ -1,3 +1,4 @@
 pub mod OneQueue
 pub mod AllQueues
 pub mod Kept
+pub mod Standing

@@ -1,11 +1,12 @@
 -- The early messages of one member, in a queue by number: where a number is found, and what an edit at its place does.
-use Rattle.std.proofs.Common.{◌≡◌, ◌≢◌, ℕ, zero, suc, ◌<◌, ◌≤◌, true, false, not, ◌&&◌, ◌==◌, nat_lt, IsTrue, All, List, [], ◌∷◌, length, get_or, refl, sym, ap, ◌∙◌, inl, inr, Option, Some, None, Result, Ok, Err, IfOk, IfErr, arith}
+use Rattle.std.proofs.Common.{◌≡◌, ◌≢◌, ℕ, zero, suc, ◌-◌, ◌<◌, ◌≤◌, true, false, not, ◌&&◌, ◌==◌, nat_lt, All, List, [], ◌∷◌, length, get_or, refl, sym, ap, ◌∙◌, inl, inr, Option, Some, None, Result, Ok, Err, IfOk, IfErr, arith}
 use Rattle.std.specs.Option.{is_some, IfSome, IsSome, OnSome}
 use Rattle.std.specs.Result.{is_ok}
 use Rattle.std.specs.List.{find, insert, remove}
 use Rattle.std.specs.List.Sorted.{IsSearchInRange, IsBinarySearchResult, IsNonDecreasingBy}
 use Rattle.std.specs.Ordering.{nat_cmp, ordering_index}
-use Rattle.std.proofs.lemmas.Bool.{and_from, and_right, or_right, or_from, cond-true, cond-false, eq-eqb, ne_eqb, lt-ltb, le-ltb, not_from_true, not_from_false, false≢true}
+use Rattle.std.proofs.lemmas.List.{get_or_default}
+use Rattle.std.proofs.lemmas.Bool.{and_from, and_right, or_right, or_from, cond-true, cond-false, cases_eq, eq-eqb, ne_eqb, lt-ltb, le-ltb, not_from_true, not_from_false, false≢true}
 use Rattle.std.proofs.lemmas.Bool.Decides.{nat_tests}
 use Rattle.std.proofs.lemmas.Cmp.{ranked}
 use Rattle.std.proofs.lemmas.List.Elements.{All-head, All-tail, All-weaker}
@@ -13,15 +14,11 @@ use Rattle.op_base.specs.Message.{number}
 use Rattle.op_base.specs.declared.message.Message.{Message}
 use Rattle.op_base.specs.declared.tag.MessageId.{MessageId}
 use Rattle.causal_model.specs.Receiving.{stands_before, put_early, has_id, without}
-use Rattle.causal_model.proofs.Early.{standing}
+use Rattle.causal_model.proofs.Early.{StandsBefore, standing}
 use Rattle.causal_model.proofs.Finds.{none_found}
 use Rattle.causal_model.proofs.ItemMaps.{filter_all_of}
 use Rattle.causal_model.proofs.Risings.{AllPairs-tail}
 use Rattle.causal_buffer.specs.Queue.{IsQueue, IsAt, IsGapFor}
-
--- that a stands before b
-abbrev pub StandsBefore : Message → Message → Type 0
-StandsBefore a b = IsTrue (stands_before a b)
 
 pub IsQueue-tail : (member : ℕ) (x : Message) (q : List Message) → IsQueue member (x ∷ q) → IsQueue member q
 IsQueue-tail member x q is = record { own = All-tail (λ m. m.origin ≡ member) x q is.own; rise = AllPairs-tail StandsBefore x q is.rise }
@@ -51,6 +48,25 @@ module _ (member : ℕ) (q : List Message) (is : IsQueue member q) where
     },
   )
 
+  -- a number below the first would stand before all, and one above the last behind all
+  pub gap_before : (seq : ℕ) (first : Message) → first ≡ get_or q 0 first → seq < number first → IsGapFor q seq 0
+  gap_before seq first at low = record { in_range = omega arith; lower = λ k d l. absurd (omega (arith, l)); higher = λ k d _ l. higher k d l } where
+    higher : (k : ℕ) (d : Message) → k < length q → seq < number (get_or q k d)
+    higher zero d l = omega (arith, low, ap number (at ∙ get_or_default q 0 first d l))
+    higher (suc k) d l = omega (arith, low, ap number (at ∙ get_or_default q 0 first d (omega (arith, l))), numbers_rise 0 (suc k) d (omega arith) l)
+
+  pub gap_behind : (seq count : ℕ) (last : Message) → length q ≡ count → last ≡ get_or q (count - 1) last → number last < seq → IsGapFor q seq count
+  gap_behind seq count last e at high = record {
+    in_range = omega (arith, e);
+    lower = λ k d l.
+        let same : number last ≡ number (get_or q (count - 1) d) = ap number (at ∙ get_or_default q (count - 1) last d (omega (arith, e, l))) in
+        elim (cases_eq k (count - 1)) [
+          | inl here ↦ omega (arith, high, same, ap (λ j. number (get_or q j d)) here)
+          | inr ne ↦ omega (arith, high, same, numbers_rise k (count - 1) d (omega (arith, l, ne)) (omega (arith, e, l)))
+        ];
+    higher = λ k d le l. absurd (omega (arith, e, le, l));
+  }
+
 -- ---- a message that is put at its place
 
 stands_by_number : (a b : Message) → a.origin ≡ b.origin → number a < number b → stands_before a b ≡ true
@@ -77,7 +93,7 @@ put_is_insert m (e ∷ q) (suc place) own gap =
 pub has : (id : MessageId) (m : Message) → m.origin ≡ id.origin → number m ≡ id.seq → has_id id m ≡ true
 has id m o s = and_from (id.origin == m.origin) (id.seq == number m) (eq-eqb id.origin m.origin (sym o)) (eq-eqb id.seq (number m) (sym s))
 
-has_not : (id : MessageId) (m : Message) → number m ≢ id.seq → has_id id m ≡ false
+pub has_not : (id : MessageId) (m : Message) → number m ≢ id.seq → has_id id m ≡ false
 has_not id m ne = and_right (id.origin == m.origin) (id.seq == number m) (ne_eqb id.seq (number m) (λ e. ne (sym e)))
 
 IsAt-tail : (x : Message) (q : List Message) (seq k : ℕ) → IsAt (x ∷ q) seq (suc k) → IsAt q seq k

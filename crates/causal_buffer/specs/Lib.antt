@@ -1,2 +1,3 @@
 pub mod Buffer
 pub mod Queue
+pub mod Standing

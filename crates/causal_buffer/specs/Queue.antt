@@ -4,6 +4,8 @@ use Rattle.std.specs.declared.collections.VecDeque.{VecDeque}
 use Rattle.std.specs.VecDeque.{deque_capacity}
 use Rattle.op_base.specs.Message.{number, fits}
 use Rattle.op_base.specs.declared.message.Message.{Message}
+use Rattle.op_base.specs.declared.tag.TheConstants.{MOST_MEMBERS}
+use Rattle.causal_model.specs.declared.room.TheConstants.{MOST_WINDOW}
 use Rattle.causal_model.specs.Stability.{noop_window}
 use Rattle.causal_model.specs.Receiving.{stands_before}
 
@@ -35,10 +37,10 @@ module _ {G : Type 0} where
   abbrev pub AreKept : ℕ → ℕ → List (VecDeque Message G) → Type 0
   AreKept n w queues = (member : ℕ) (d : VecDeque Message G) → member < length queues → IsKept n w member (slice_index_or queues member d)
 
-  -- the queues of a store of 1 to 16 members with a window of at most 64
+  -- the queues of a store
   pub record AreQueues (n w : ℕ) (queues : List (VecDeque Message G)) : Type 0 where
     pub some : 1 ≤ n
-    pub few : n ≤ 16
-    pub narrow : w ≤ 64
+    pub few : n ≤ MOST_MEMBERS
+    pub narrow : w ≤ MOST_WINDOW
     pub count : length queues ≡ n
     pub kept : AreKept n w queues

@@ -1,16 +1,17 @@
 //! The buffer of early messages.
 
-ghost use Rattle.std.specs.Prelude.{◌≡◌, ◌≢◌, ℕ, ◌+◌, ◌<◌, ◌≤◌, List, [], length, slice_set, IsTrue, IfOk};
+ghost use Rattle.std.specs.Prelude.{◌≡◌, ℕ, ◌+◌, ◌<◌, ◌≤◌, false, List, [], length, slice_set, IsTrue, IfOk};
 ghost use Rattle.std.specs.List.{find, list_any, flat_map};
-ghost use Rattle.std.specs.Option.{option_map};
+ghost use Rattle.std.specs.Option.{option_map, IfSome};
 ghost use Rattle.op_base.specs.Timestamp.{entry};
 ghost use Rattle.op_base.specs.Message.{number, id_of, fits};
 ghost use Rattle.op_base.specs.declared.tag.TheConstants.{MOST_MEMBERS};
 ghost use Rattle.causal_model.specs.Counts.{is_deliverable};
-ghost use Rattle.causal_model.specs.Receiving.{is_far, has_id, without, next_early};
-ghost use Rattle.causal_buffer.specs.Buffer.{with_messages, offer_of, after_offer, AreAhead, AreNear};
+ghost use Rattle.causal_model.specs.Receiving.{start, is_old, is_far, has_id, without, next_early};
+ghost use Rattle.causal_buffer.specs.Buffer.{with_messages, offer_of, after_offer, AreAhead, AreNear, IsNextId, KeepsAhead, KeepsNear};
 
-use crate::queue::{most_early, number, put, search, take};
+use crate::queue::{number, put, search, take};
+use causal_model::{MOST_WINDOW, most_unstable};
 use op_base::{Message, MessageId, NoMemory, Tag};
 use std::alloc::Global;
 use std::collections::VecDeque;
@@ -27,12 +28,13 @@ pub enum Offer {
     Far(Message),
 }
 
-/// The early messages of a store of 1 to 16 members with a window of 1 to 64, with room for all that can be early at once.
+/// The early messages of a store of 1 to 16 members with a window of at most 64, with room for all that can be early at once.
 ///
-/// It is a queue by number for each member. Keeping, finding and removing a message cost a search by halving, and a move of
-/// what stands on the shorter side of its place in its member's queue: none at either end. What is next is the first of a
-/// queue, so it is found by a look at each member. Contracts see the early messages as one list, by origin and then by
-/// number.
+/// It is a queue by number for each member. A message that comes in order or in reverse has its place at an end of its
+/// member's queue, where it is kept, found and removed at once. Any other costs a search by halving, and a move of what
+/// stands on the shorter side of its place. What is next is the first of a queue, so it is found by a look at each member.
+/// Contracts see the early messages as one list, by origin and then by number; where that is a state's, they say what each
+/// call makes of the state.
 #[derive(Debug, Drop)]
 pub struct CausalBuffer {
     n: u8,
@@ -72,15 +74,18 @@ fn is_deliverable(message: &Message, counts: &Tag) -> bool
 }
 
 impl CausalBuffer {
+    ghost use Rattle.causal_buffer.specs.Standing.{IsBufferOf, AnswersInState, KeepsOffered, OfferKeepsState, IsNextInState, TakesNext, KeepsStep};
+
     /// The buffer of a store of `n` members with a window `w`, with no message. It takes all the room that it will ever need,
     /// and doesn't fill it.
     pub fn create(alloc: Global, n: u8, w: u8) -> Result<CausalBuffer, NoMemory>
         requires some { 1 ≤ n }
         requires few { n ≤ MOST_MEMBERS }
-        requires narrow { w ≤ 64 }
-        ensures { IfOk result (λ buffer. buffer ≡ record { n = n; w = w; early = [] }) }
+        requires narrow { w ≤ MOST_WINDOW }
+        ensures empty { IfOk result (λ buffer. buffer ≡ record { n = n; w = w; early = [] }) }
+        ensures starts { IfOk result (λ buffer. (me : ℕ) → IsBufferOf w (start n me) buffer) }
     {
-        let room = most_early(n, w) as usize;
+        let room = most_unstable(n, w) as usize;
         let mut queues = Vec::with_capacity(alloc, n as usize)?;
         for _ in 0..n {
             queues.push(VecDeque::with_capacity(alloc, room)?)?;
@@ -94,8 +99,7 @@ impl CausalBuffer {
         requires fits { IsTrue (fits self.old.n message) }
         requires me { me < self.old.n }
         requires counts { length counts.now ≡ self.old.n }
-        requires other { message.origin ≢ me }
-        requires ahead { entry counts.now message.origin < number message }
+        requires new { is_old me counts.now message ≡ false }
         requires held_ahead { AreAhead counts.now self.old.early }
         requires held_near { AreNear self.old.n self.old.w counts.now self.old.early }
         ensures answer { result ≡ offer_of self.old me counts.now message }
@@ -104,6 +108,11 @@ impl CausalBuffer {
         // What was asked of the messages that are held holds of them again.
         ensures held_ahead { AreAhead counts.now self.new.early }
         ensures held_near { AreNear self.new.n self.new.w counts.now self.new.early }
+
+        // Where it is a state's buffer:
+        ensures answers { AnswersInState me counts.now message self.old result }
+        ensures stands { KeepsOffered message result self.old self.new }
+        ensures is_state { OfferKeepsState me counts.now message result self.old }
     {
         let member = message.origin as usize;
         let place = match search(&self.queues[member], message.origin, number(&message)) {
@@ -125,7 +134,7 @@ impl CausalBuffer {
         requires ahead { entry counts.now message.now.origin < number message.now }
         ensures { result ≡ is_far self.now.n self.now.w me counts.now message.now }
     {
-        number(message) - counts.at(message.origin) > most_early(self.n, self.w)
+        number(message) - counts.at(message.origin) > most_unstable(self.n, self.w)
             || message.tag.at(me) > counts.at(me)
     }
 
@@ -134,7 +143,9 @@ impl CausalBuffer {
     pub fn next(&self, counts: &Tag) -> Option<MessageId>
         requires counts { length counts.now ≡ self.now.n }
         requires held_ahead { AreAhead counts.now self.now.early }
-        ensures { result ≡ option_map id_of (next_early self.now.n counts.now self.now.early) }
+        ensures next { result ≡ option_map id_of (next_early self.now.n counts.now self.now.early) }
+        ensures is_next { IfSome result (IsNextId self.now.n counts.now) }
+        ensures next_in_state { IsNextInState counts.now self.now result }
     {
         for queue in &self.queues {
             if let Some(message) = queue.front() {
@@ -152,11 +163,12 @@ impl CausalBuffer {
         ensures taken { result ≡ find (has_id id) self.old.early }
         ensures others { self.new ≡ with_messages self.old (without id self.old.early) }
 
-        // Where its origin's next message is taken out and delivered, what was held of the counts holds with it.
-        ensures held_ahead { (counted : List ℕ) → id.origin < length counted → id.seq ≡ entry counted id.origin + 1 → AreAhead counted self.old.early
-            → AreAhead (slice_set counted id.origin id.seq) self.new.early }
-        ensures held_near { (counted : List ℕ) → id.origin < length counted → id.seq ≡ entry counted id.origin + 1 → AreNear self.old.n self.old.w counted self.old.early
-            → AreNear self.new.n self.new.w (slice_set counted id.origin id.seq) self.new.early }
+        ensures held_ahead { KeepsAhead id self.old self.new }
+        ensures held_near { KeepsNear id self.old self.new }
+
+        // Where it is the id of a state's next message:
+        ensures takes_next { TakesNext id self.old result }
+        ensures stands { KeepsStep id self.old self.new }
     {
         take(&mut self.queues[id.origin as usize], id)
     }

@@ -5,8 +5,10 @@
 #![tactic(auto)]
 
 mod buffer;
+mod laws;
 mod queue;
 #[cfg(test)]
 mod tests;
 
 pub use buffer::{CausalBuffer, Offer};
+pub use laws::{own_messages_leave_a_buffer, states_meet_what_is_asked};

@@ -45,15 +45,9 @@ impl Receiver {
     /// Takes out what is next, as delivered. `None` where there is none.
     fn deliver(&mut self) -> Option<MessageId> {
         let id = self.buffer.next(&self.counts)?;
-        if id.origin >= self.counts.members()
-            || id.seq <= self.counts.at(id.origin)
-            || id.seq - self.counts.at(id.origin) != 1
-        {
-            return None;
-        }
         let taken = self.buffer.remove(id).is_some();
         self.counts.set(id.origin, id.seq);
-        if taken { Some(id) } else { None }
+        taken.then_some(id)
     }
 }
 
@@ -160,6 +154,31 @@ fn a_queue_goes_round(rt: HostRuntime) -> Result<(), Fail> {
         }
     }
     assert_eq!(rt; receiver.buffer.len(), 1);
+    Ok(())
+}
+
+#[test]
+fn a_full_queue_goes_round(rt: HostRuntime) -> Result<(), Fail> {
+    // a member of three with a window of 1 has room for 6
+    let mut receiver = Receiver {
+        me: 0,
+        counts: Tag::zero(3),
+        buffer: CausalBuffer::create(rt.alloc(), 3, 1)?,
+    };
+    for number in 1..7 {
+        assert_eq!(rt; receiver.offer(message(1, [0, number, 0])), "kept");
+    }
+    for number in 1..24 {
+        assert_eq!(rt; receiver.offer(message(1, [0, number + 6, 0])), "far");
+        assert_eq!(rt; receiver.deliver(), id(1, number));
+        assert_eq!(rt; receiver.offer(message(1, [0, number + 6, 0])), "kept");
+        assert_eq!(rt; receiver.offer(message(1, [0, number + 3, 0])), "again");
+    }
+    assert_eq!(rt; receiver.buffer.len(), 6);
+    for number in 24..30 {
+        assert_eq!(rt; receiver.deliver(), id(1, number));
+    }
+    assert_eq!(rt; receiver.deliver(), None);
     Ok(())
 }
 

@@ -4,12 +4,11 @@
 ghost use Rattle.std.specs.Prelude.{◌≡◌, ◌<◌, ◌≤◌, length};
 ghost use Rattle.causal_buffer.specs.Buffer.{AreAhead, AreNear};
 
-use crate::room;
 use anyhow::{Result, bail};
 use causal_buffer::{CausalBuffer, Offer};
+use causal_model::{MOST_WINDOW, most_unstable};
 use op_base::{MOST_MEMBERS, Message, MessageId, Op, Tag};
 use std::alloc::Global;
-use tag_window::MOST_WINDOW;
 
 /// The first member of a store, which receives: what it was told, and how much it has delivered.
 #[derive(Drop)]
@@ -46,15 +45,9 @@ impl Receiver {
     /// Takes out what is next, as delivered. `None` where there is none.
     fn deliver(&mut self) -> Option<MessageId> {
         let id = self.buffer.next(&self.counts)?;
-        if id.origin >= self.counts.members()
-            || id.seq <= self.counts.at(id.origin)
-            || id.seq - self.counts.at(id.origin) != 1
-        {
-            return None;
-        }
         let taken = self.buffer.remove(id).is_some();
         self.counts.set(id.origin, id.seq);
-        if taken { Some(id) } else { None }
+        taken.then_some(id)
     }
 
     /// Offers so many messages of each other member. How many were kept.
@@ -83,7 +76,7 @@ pub fn measure(alloc: Global, n: u8, w: u8, filled: u32, reverse: bool, turns: u
         counts: Tag::zero(n),
         buffer: CausalBuffer::create(alloc, n, w)?,
     };
-    let most = room(n, w) * filled / 100;
+    let most = most_unstable(n, w) * filled / 100;
     let mut kept = 0u64;
     for _ in 0..turns {
         kept = kept.wrapping_add(receiver.fill(most, reverse));

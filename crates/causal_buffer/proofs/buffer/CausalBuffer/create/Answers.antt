@@ -17,7 +17,7 @@ loop-preserved c =
     let empty = c.in_ok-with_capacity.ensures.items in
     record {
       count = ap length items ∙ omega (arith, length-append qs (q ∷ []), c.loop.invariant.count);
-      kept = subst (AreKept n w) (sym items) (kept_push n w qs q c.loop.invariant.kept (kept_empty n w (length qs) q empty (omega (arith, c.in_ok-with_capacity.ensures.capacity, c.most_early-room.ensures))));
+      kept = subst (AreKept n w) (sym items) (kept_push n w qs q c.loop.invariant.kept (kept_empty n w (length qs) q empty (omega (arith, c.in_ok-with_capacity.ensures.capacity, c.most_unstable-room.ensures.value))));
       none = ap (flat_map deque_items) items ∙ none_more deque_items qs q c.loop.invariant.none empty;
     }
 

@@ -1,4 +1,4 @@
-use Rattle.std.proofs.Common.{◌≡◌, ◌+◌, ◌<◌, ◌≤◌, false, IsTrue, length, sym, ap, subst, ◌∙◌, arith}
+use Rattle.std.proofs.Common.{◌≡◌, ◌+◌, ◌<◌, ◌≤◌, false, IsTrue, length, refl, sym, ap, subst, ◌∙◌, arith}
 use Rattle.std.specs.List.{flat_map}
 use Rattle.std.specs.Result.{is_ok}
 use Rattle.std.specs.VecDeque.{deque_items}
@@ -7,10 +7,15 @@ use Rattle.op_base.specs.Timestamp.{entry}
 use Rattle.op_base.specs.Message.{number, id_of, fits}
 use Rattle.causal_model.specs.Receiving.{is_again, is_far, put_early}
 use Rattle.causal_model.specs.Stability.{noop_window}
-use Rattle.causal_model.proofs.Early.{All-put_early, IsNear-from_test, fits_member}
+use Rattle.causal_model.proofs.Early.{All-put_early, IsNew-from_test, IsNear-from_test, fits_member}
 use Rattle.causal_buffer.specs.Buffer.{Buffer, with_messages, AreAhead, AreNear}
+use Rattle.causal_buffer.specs.declared.buffer.Offer.TheVariants.{Kept, Again, Far}
 use Rattle.causal_buffer.proofs.Kept.{any_is_ok, has_room, kept_after_put, put_in_queue, offer_again, offer_far, offer_kept}
+use Rattle.causal_buffer.proofs.Standing.{answers_in_state, keeps_offered, offer_keeps_state}
 use Rattle.causal_buffer.proofs.buffer.CausalBuffer.offer.Goals as goal
+
+pub is_far-requires-clause-ahead : goal.is_far-requires-clause-ahead
+is_far-requires-clause-ahead c = (IsNew-from_test c.args.me c.args.counts.now c.args.message c.requires.new).ahead
 
 pub returns-in-Ok-clause-answer : goal.returns-in-Ok-clause-answer
 returns-in-Ok-clause-answer c =
@@ -54,7 +59,7 @@ put-requires-clause-room c =
     let far : is_far n w c.args.me counts m ≡ false = ap (λ (b : Buffer). is_far b.n b.w c.args.me counts m) c.self.view_is ∙ sym c.is_far.ensures ∙ c.if-is_far.false in
     let held_ahead : AreAhead counts (flat_map deque_items qs) = subst (λ (b : Buffer). AreAhead counts b.early) (sym c.self.view_is) c.requires.held_ahead in
     let held_near : AreNear n w counts (flat_map deque_items qs) = subst (λ (b : Buffer). AreNear b.n b.w counts b.early) (sym c.self.view_is) c.requires.held_near in
-    has_room n w qs c.self.invariant.kept c.args.me counts m q inside c.index_mut.ensures.value fresh c.requires.ahead far held_ahead held_near
+    has_room n w qs c.self.invariant.kept c.args.me counts m q inside c.index_mut.ensures.value fresh (IsNew-from_test c.args.me counts m c.requires.new).ahead far held_ahead held_near
 
 pub invariant_of-self : goal.invariant_of-self
 invariant_of-self c =
@@ -78,7 +83,7 @@ invariant_of-self c =
       few = c.self.invariant.few;
       narrow = c.self.invariant.narrow;
       count = length-set qs m.origin c.put.new.queue ∙ c.self.invariant.count;
-      kept = kept_after_put n w qs c.self.invariant.kept c.args.me counts m q inside c.index_mut.ensures.value fresh c.requires.ahead far held_ahead held_near c.put.new.queue fit c.put.ensures.put c.put.ensures.room;
+      kept = kept_after_put n w qs c.self.invariant.kept c.args.me counts m q inside c.index_mut.ensures.value fresh (IsNew-from_test c.args.me counts m c.requires.new).ahead far held_ahead held_near c.put.new.queue fit c.put.ensures.put c.put.ensures.room;
     }
 
 pub returns-clause-answer : goal.returns-clause-answer
@@ -108,7 +113,7 @@ returns-clause-early c =
 pub returns-clause-held_ahead : goal.returns-clause-held_ahead
 returns-clause-held_ahead c =
     let counts = c.args.counts.now in
-    subst (λ (b : Buffer). AreAhead counts b.early) (sym (returns-clause-early c)) (All-put_early (λ e. entry counts e.origin < number e) c.args.message c.args.self.now.early c.requires.ahead c.requires.held_ahead)
+    subst (λ (b : Buffer). AreAhead counts b.early) (sym (returns-clause-early c)) (All-put_early (λ e. entry counts e.origin < number e) c.args.message c.args.self.now.early (IsNew-from_test c.args.me counts c.args.message c.requires.new).ahead c.requires.held_ahead)
 
 pub returns-clause-held_near : goal.returns-clause-held_near
 returns-clause-held_near c =
@@ -117,3 +122,30 @@ returns-clause-held_near c =
     let counts = c.args.counts.now in
     let near = IsNear-from_test b.n b.w c.args.me counts m (sym c.is_far.ensures ∙ c.if-is_far.false) in
     subst (λ (b : Buffer). AreNear b.n b.w counts b.early) (sym (returns-clause-early c)) (All-put_early (λ e. number e ≤ entry counts e.origin + (b.w + noop_window b.n b.w)) m b.early near.within c.requires.held_near)
+
+pub returns-in-Ok-clause-answers : goal.returns-in-Ok-clause-answers
+returns-in-Ok-clause-answers c = answers_in_state c.args.me c.args.counts.now c.args.message c.args.self.now _ (returns-in-Ok-clause-answer c)
+
+pub returns-in-Ok-clause-stands : goal.returns-in-Ok-clause-stands
+returns-in-Ok-clause-stands c = keeps_offered c.args.message (Again c.args.message) c.args.self.now _ refl
+
+pub returns-in-Ok-clause-is_state : goal.returns-in-Ok-clause-is_state
+returns-in-Ok-clause-is_state c = offer_keeps_state c.args.me c.args.counts.now c.args.message c.args.self.now _ c.requires.fits c.requires.new (returns-in-Ok-clause-answer c)
+
+pub returns-then-is_far-clause-answers : goal.returns-then-is_far-clause-answers
+returns-then-is_far-clause-answers c = answers_in_state c.args.me c.args.counts.now c.args.message c.args.self.now _ (returns-then-is_far-clause-answer c)
+
+pub returns-then-is_far-clause-stands : goal.returns-then-is_far-clause-stands
+returns-then-is_far-clause-stands c = keeps_offered c.args.message (Far c.args.message) c.args.self.now _ refl
+
+pub returns-then-is_far-clause-is_state : goal.returns-then-is_far-clause-is_state
+returns-then-is_far-clause-is_state c = offer_keeps_state c.args.me c.args.counts.now c.args.message c.args.self.now _ c.requires.fits c.requires.new (returns-then-is_far-clause-answer c)
+
+pub returns-clause-answers : goal.returns-clause-answers
+returns-clause-answers c = answers_in_state c.args.me c.args.counts.now c.args.message c.args.self.now _ (returns-clause-answer c)
+
+pub returns-clause-stands : goal.returns-clause-stands
+returns-clause-stands c = keeps_offered c.args.message Kept c.args.self.now _ (returns-clause-early c)
+
+pub returns-clause-is_state : goal.returns-clause-is_state
+returns-clause-is_state c = offer_keeps_state c.args.me c.args.counts.now c.args.message c.args.self.now _ c.requires.fits c.requires.new (returns-clause-answer c)

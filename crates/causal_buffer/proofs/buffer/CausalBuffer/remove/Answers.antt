@@ -5,6 +5,7 @@ use Rattle.std.proofs.lemmas.List.{length-set}
 use Rattle.causal_model.specs.Receiving.{has_id, without}
 use Rattle.causal_buffer.specs.Buffer.{Buffer, with_messages, AreAhead, AreNear}
 use Rattle.causal_buffer.proofs.Kept.{kept_at, kept_set, kept_without, find_in_queue, without_in_queue, step_keeps_ahead, step_keeps_near}
+use Rattle.causal_buffer.proofs.Standing.{takes_next, keeps_step}
 use Rattle.causal_buffer.proofs.buffer.CausalBuffer.remove.Goals as goal
 
 pub invariant_of-self : goal.invariant_of-self
@@ -43,11 +44,17 @@ returns-clause-others c =
     ∙ ap (λ (b : Buffer). with_messages b (without c.args.id b.early)) c.self.view_is
 
 pub returns-clause-held_ahead : goal.returns-clause-held_ahead
-returns-clause-held_ahead c counted l next ahead =
-    subst (λ (b : Buffer). AreAhead (set counted c.args.id.origin c.args.id.seq) b.early) (sym (returns-clause-others c)) (step_keeps_ahead c.args.id counted c.args.self.now.early l next ahead)
+returns-clause-held_ahead c counted next ahead =
+    subst (λ (b : Buffer). AreAhead (set counted c.args.id.origin c.args.id.seq) b.early) (sym (returns-clause-others c)) (step_keeps_ahead c.args.id counted c.args.self.now.early next ahead)
 
 pub returns-clause-held_near : goal.returns-clause-held_near
-returns-clause-held_near c counted l next near =
+returns-clause-held_near c counted next near =
     let n = c.args.self.now.n in
     let w = c.args.self.now.w in
-    subst (λ (b : Buffer). AreNear b.n b.w (set counted c.args.id.origin c.args.id.seq) b.early) (sym (returns-clause-others c)) (step_keeps_near c.args.id counted c.args.self.now.early l next n w near)
+    subst (λ (b : Buffer). AreNear b.n b.w (set counted c.args.id.origin c.args.id.seq) b.early) (sym (returns-clause-others c)) (step_keeps_near c.args.id counted c.args.self.now.early next n w near)
+
+pub returns-clause-takes_next : goal.returns-clause-takes_next
+returns-clause-takes_next c = takes_next c.args.id c.args.self.now _ (returns-clause-taken c)
+
+pub returns-clause-stands : goal.returns-clause-stands
+returns-clause-stands c = keeps_step c.args.id c.args.self.now _ (returns-clause-others c)

@@ -1,0 +1,123 @@
+-- What the calls make of a state's buffer, and what is asked of them.
+use Rattle.std.proofs.Common.{◌≡◌, ℕ, ◌+◌, ◌<◌, ◌≤◌, Bool, true, false, IsTrue, List, refl, sym, ap, ap₂, subst, ◌∙◌, inl, inr, Option, Some, None, if◌then◌else◌, arith}
+use Rattle.std.specs.List.{find}
+use Rattle.std.specs.Option.{option_map}
+use Rattle.std.proofs.lemmas.List.Elements.{All-contains, All-weaker}
+use Rattle.op_base.specs.Timestamp.{entry}
+use Rattle.op_base.specs.Message.{number, id_of, fits}
+use Rattle.op_base.specs.declared.message.Message.{Message}
+use Rattle.op_base.specs.declared.tag.MessageId.{MessageId}
+use Rattle.causal_model.specs.Counts.{is_deliverable}
+use Rattle.causal_model.specs.Stability.{noop_window}
+use Rattle.causal_model.specs.Receiving.{State, counted, is_old, is_again, is_far, put_early, next_early, has_id, without}
+use Rattle.causal_model.specs.Journal.{with_own}
+use Rattle.causal_model.specs.States.{IsState}
+use Rattle.causal_model.specs.Laws.States.{next_of}
+use Rattle.causal_model.proofs.Counts.{length-counts}
+use Rattle.causal_model.proofs.Early.{StandsBefore, standing, IsNew-from_test, IsNear-from_test, fits_member}
+use Rattle.causal_model.proofs.Finds.{found}
+use Rattle.causal_model.proofs.Histories.{IsHistory-from_test}
+use Rattle.causal_model.proofs.Risings.{found_alike}
+use Rattle.causal_model.proofs.States.{accept_keeps_state, step_keeps_state, own_keeps_state, own_makes_none_deliverable}
+use Rattle.causal_model.proofs.Steps.{has_own_id}
+use Rattle.causal_buffer.specs.Buffer.{Buffer, with_messages, offer_of, after_offer, AreAhead, AreNear}
+use Rattle.causal_buffer.specs.Standing.{IsBufferOf, state_offered, AnswersInState, KeepsOffered, OfferKeepsState, IsNextInState, TakesNext, KeepsStep, OwnKeepsBuffer, MemberIsInStore, CountsAreOfStore, EarlyAreAhead, EarlyAreNear, NextIdIsOfMessage, NextIsOfMember}
+use Rattle.causal_buffer.specs.declared.buffer.Offer.{Offer}
+use Rattle.causal_buffer.specs.declared.buffer.Offer.TheVariants.{Kept, Again, Far}
+use Rattle.causal_buffer.proofs.Kept.{not_of_member}
+use Rattle.causal_buffer.proofs.OneQueue.{has_not}
+
+-- the buffer of a state
+abbrev buffer_in : ℕ → State → Buffer
+buffer_in w s = record { n = s.history.present.n; w = w; early = s.early }
+
+is_buffer_in : (w : ℕ) (s : State) (b : Buffer) → IsBufferOf w s b → b ≡ buffer_in w s
+is_buffer_in w s b of =
+    ap (λ early. record { n = b.n; w = b.w; early = early }) of.early ∙ ap₂ (λ k v. record { n = k; w = v; early = s.early }) of.members of.window
+
+-- ---- an offer
+
+pub answers_in_state : (me : ℕ) (counts : List ℕ) (m : Message) (b : Buffer) (answer : Offer) → answer ≡ offer_of b me counts m → AnswersInState me counts m b answer
+answers_in_state me counts m b answer e w s of member =
+    e ∙ ap (λ (b : Buffer). offer_of b me counts m) (is_buffer_in w s b of) ∙ ap₂ (λ x c. offer_of (buffer_in w s) x c m) member.member member.delivered
+
+pub keeps_offered : (m : Message) (answer : Offer) (old new : Buffer) → new ≡ with_messages old (after_offer old.early m answer) → KeepsOffered m answer old new
+keeps_offered m Kept old new e w s of = record { members = ap (λ (b : Buffer). b.n) e ∙ of.members; window = ap (λ (b : Buffer). b.w) e ∙ of.window; early = ap (λ (b : Buffer). b.early) e ∙ ap (put_early m) of.early }
+keeps_offered m (Again same) old new e w s of = record { members = ap (λ (b : Buffer). b.n) e ∙ of.members; window = ap (λ (b : Buffer). b.w) e ∙ of.window; early = ap (λ (b : Buffer). b.early) e ∙ of.early }
+keeps_offered m (Far same) old new e w s of = record { members = ap (λ (b : Buffer). b.n) e ∙ of.members; window = ap (λ (b : Buffer). b.w) e ∙ of.window; early = ap (λ (b : Buffer). b.early) e ∙ of.early }
+
+pub offer_keeps_state : (me : ℕ) (counts : List ℕ) (m : Message) (b : Buffer) (answer : Offer) → IsTrue (fits b.n m) → is_old me counts m ≡ false → answer ≡ offer_of b me counts m
+    → OfferKeepsState me counts m answer b
+offer_keeps_state me counts m b answer fit new e w limit s is of member carried =
+    subst (λ a. IsState w limit (state_offered s m a)) (sym (answers_in_state me counts m b answer e w s of member)) (by (is_again s.early m) (is_far s.history.present.n w s.history.present.me (counted s.history) m) refl refl) where
+      by : (again far : Bool) → is_again s.early m ≡ again → is_far s.history.present.n w s.history.present.me (counted s.history) m ≡ far
+          → IsState w limit (state_offered s m (if again then Again m else if far then Far m else Kept))
+      by true far a f = is
+      by false true a f = is
+      by false false a f =
+          accept_keeps_state w limit s m is (subst (λ n. IsTrue (fits n m)) of.members fit) carried (sym (ap₂ (λ x c. is_old x c m) member.member member.delivered) ∙ new) a f
+
+-- ---- what is next, and its removal
+
+pub is_next_in_state : (counts : List ℕ) (b : Buffer) (id : Option MessageId) → id ≡ option_map id_of (next_early b.n counts b.early) → IsNextInState counts b id
+is_next_in_state counts b id e w s of are =
+    e ∙ ap (λ (b : Buffer). option_map id_of (next_early b.n counts b.early)) (is_buffer_in w s b of) ∙ ap (λ c. option_map id_of (next_early s.history.present.n c s.early)) are
+
+-- what stands before a message is of another id
+before_has_not : (m y : Message) → StandsBefore y m → has_id (id_of m) y ≡ false
+before_has_not m y before = elim (standing y m before) [
+  | inl low ↦ not_of_member (id_of m) y (λ e. omega (arith, e, low))
+  | inr same ↦ has_not (id_of m) y (λ e. omega (arith, e, same.1))
+]
+
+pub takes_next : (id : MessageId) (old : Buffer) (taken : Option Message) → taken ≡ find (has_id id) old.early → TakesNext id old taken
+takes_next id old taken e w limit s m is of next same =
+    e ∙ ap₂ (λ i early. find (has_id i) early) same of.early
+    ∙ found_alike StandsBefore (is_deliverable s.history.present.n (counted s.history)) (has_id (id_of m)) s.early m is.are_early.rise next (has_own_id m) (before_has_not m)
+
+pub keeps_step : (id : MessageId) (old new : Buffer) → new ≡ with_messages old (without id old.early) → KeepsStep id old new
+keeps_step id old new e w limit s m is of next same = (
+  step_keeps_state w limit s m is next,
+  record { members = ap (λ (b : Buffer). b.n) e ∙ of.members; window = ap (λ (b : Buffer). b.w) e ∙ of.window; early = ap (λ (b : Buffer). b.early) e ∙ ap₂ without same of.early },
+)
+
+-- ---- laws
+
+pub own_keeps_buffer : OwnKeepsBuffer
+own_keeps_buffer w limit s o m b is of e room valid below = (
+  subst (λ own. IsState w limit (with_own s own)) (sym e) (own_keeps_state w limit s o is room valid below),
+  record { members = of.members; window = of.window; early = of.early },
+  own_makes_none_deliverable w limit s o is m (ap (λ (own : Message). own.origin) e),
+)
+
+pub member_is_in_store : MemberIsInStore
+member_is_in_store w limit s b is of = omega (arith, (IsHistory-from_test w s.history is.is_history).member, of.members)
+
+pub counts_are_of_store : CountsAreOfStore
+counts_are_of_store w s b of = length-counts s.history.present.n s.history.present.messages ∙ sym of.members
+
+pub early_are_ahead : EarlyAreAhead
+early_are_ahead w limit s b is of =
+    let me = s.history.present.me in
+    let counts = counted s.history in
+    subst (AreAhead counts) (sym of.early)
+    (All-weaker (λ m. is_old me counts m ≡ false) (λ m. entry counts m.origin < number m) (λ m new. (IsNew-from_test me counts m new).ahead) s.early is.are_early.new)
+
+pub early_are_near : EarlyAreNear
+early_are_near w limit s b is of =
+    let n = s.history.present.n in
+    let me = s.history.present.me in
+    let counts = counted s.history in
+    subst (λ (b : Buffer). AreNear b.n b.w counts b.early) (sym (is_buffer_in w s b of))
+    (All-weaker (λ m. is_far n w me counts m ≡ false) (λ m. number m ≤ entry counts m.origin + (w + noop_window n w)) (λ m near. (IsNear-from_test n w me counts m near).within) s.early is.are_early.near)
+
+pub next_id_is_of_message : NextIdIsOfMessage
+next_id_is_of_message s id e = by (next_of s) refl e where
+  by : (next : Option Message) → next_of s ≡ next → option_map id_of next ≡ Some id → (m : Message) × (next_of s ≡ Some m) × (id ≡ id_of m)
+  by None is same = cc
+  by (Some m) is same = (m, is, cc)
+
+pub next_is_of_member : NextIsOfMember
+next_is_of_member w limit s m b is of next =
+    let there = found (is_deliverable s.history.present.n (counted s.history)) s.early m next in
+    omega (arith, fits_member s.history.present.n m (All-contains (λ y. IsTrue (fits s.history.present.n y)) s.early m is.are_early.fit there.0), of.members)
