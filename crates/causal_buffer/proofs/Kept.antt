@@ -24,14 +24,10 @@ use Rattle.causal_model.proofs.Risings.{AllPairs-nil, rising_numbers}
 use Rattle.causal_buffer.specs.Buffer.{Buffer, offer_of, AreAhead, AreNear, IsNextId}
 use Rattle.causal_buffer.specs.declared.buffer.Offer.TheVariants.{Kept, Again, Far}
 use Rattle.causal_buffer.specs.Queue.{IsQueue, IsAt, IsGapFor, IsKept, AreKept}
-use Rattle.causal_buffer.proofs.OneQueue.{numbers_rise, has, find_in_gap, search_finds}
+use Rattle.causal_buffer.proofs.OneQueue.{numbers_rise, has, search_finds}
 use Rattle.causal_buffer.proofs.AllQueues.{AreOwn, All-part, any_is_found, find_flat, without_flat, put_flat}
 
 -- ---- one queue
-
--- where a message would stand, none of its id is early
-pub not_again : (m : Message) (q : List Message) (place : ℕ) → IsGapFor q (number m) place → is_again q m ≡ false
-not_again m q place gap = any_is_found (has_id (id_of m)) q ∙ ap is_some (find_in_gap (id_of m) q place gap)
 
 pub put_is_queue : (m : Message) (q : List Message) → IsQueue m.origin q → is_again q m ≡ false → IsQueue m.origin (put_early m q)
 put_is_queue m q is new = record {

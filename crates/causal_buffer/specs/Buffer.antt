@@ -45,10 +45,11 @@ pub record IsNextId (n : ℕ) (counted : List ℕ) (id : MessageId) : Type 0 whe
   pub of_member : id.origin < n
   pub numbered : id.seq ≡ entry counted id.origin + 1
 
--- what is asked of the counts holds of them once the message of such an id is taken out and counted
+-- none was delivered, where none was before, once the message of such an id is taken out and counted
 abbrev pub KeepsAhead : MessageId → Buffer → Buffer → Type 0
 KeepsAhead id old new = (counted : List ℕ) → IsNextId (length counted) counted id → AreAhead counted old.early → AreAhead (slice_set counted id.origin id.seq) new.early
 
+-- and no number is further above, where none was before
 abbrev pub KeepsNear : MessageId → Buffer → Buffer → Type 0
 KeepsNear id old new = (counted : List ℕ) → IsNextId (length counted) counted id → AreNear old.n old.w counted old.early
     → AreNear new.n new.w (slice_set counted id.origin id.seq) new.early

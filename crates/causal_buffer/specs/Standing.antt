@@ -43,7 +43,7 @@ state_offered s m Kept = with_early s m
 state_offered s m (Again same) = s
 state_offered s m (Far same) = s
 
--- the answer to a state's buffer is the state's
+-- an offer to a state's buffer is answered as in the state
 abbrev pub AnswersInState : ℕ → List ℕ → Message → Buffer → Offer → Type 0
 AnswersInState me counts m b answer = (w : ℕ) (s : State) → IsBufferOf w s b → IsMemberOf me counts s → answer ≡ answer_in w s m
 
@@ -58,7 +58,7 @@ OfferKeepsState me counts m answer old = (w limit : ℕ) (s : State) → IsState
 
 -- ---- what is next, and its removal
 
--- of a state's buffer that is next which is next in the state
+-- what is next of a state's buffer is what is next in the state
 abbrev pub IsNextInState : List ℕ → Buffer → Option MessageId → Type 0
 IsNextInState counts b id = (w : ℕ) (s : State) → IsBufferOf w s b → counts ≡ counted s.history → id ≡ option_map id_of (next_of s)
 

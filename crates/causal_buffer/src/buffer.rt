@@ -83,7 +83,7 @@ impl CausalBuffer {
         requires few { n ≤ MOST_MEMBERS }
         requires narrow { w ≤ MOST_WINDOW }
         ensures empty { IfOk result (λ buffer. buffer ≡ record { n = n; w = w; early = [] }) }
-        ensures starts { IfOk result (λ buffer. (me : ℕ) → IsBufferOf w (start n me) buffer) }
+        ensures stands { IfOk result (λ buffer. (me : ℕ) → IsBufferOf w (start n me) buffer) }
     {
         let room = most_unstable(n, w) as usize;
         let mut queues = Vec::with_capacity(alloc, n as usize)?;
@@ -110,7 +110,7 @@ impl CausalBuffer {
         ensures held_near { AreNear self.new.n self.new.w counts.now self.new.early }
 
         // Where it is a state's buffer:
-        ensures answers { AnswersInState me counts.now message self.old result }
+        ensures in_state { AnswersInState me counts.now message self.old result }
         ensures stands { KeepsOffered message result self.old self.new }
         ensures is_state { OfferKeepsState me counts.now message result self.old }
     {
@@ -145,7 +145,9 @@ impl CausalBuffer {
         requires held_ahead { AreAhead counts.now self.now.early }
         ensures next { result ≡ option_map id_of (next_early self.now.n counts.now self.now.early) }
         ensures is_next { IfSome result (IsNextId self.now.n counts.now) }
-        ensures next_in_state { IsNextInState counts.now self.now result }
+
+        // Where it is a state's buffer:
+        ensures in_state { IsNextInState counts.now self.now result }
     {
         for queue in &self.queues {
             if let Some(message) = queue.front() {
@@ -163,11 +165,12 @@ impl CausalBuffer {
         ensures taken { result ≡ find (has_id id) self.old.early }
         ensures others { self.new ≡ with_messages self.old (without id self.old.early) }
 
+        // What was asked of the messages that are held holds of them again, once a next message of its origin is counted.
         ensures held_ahead { KeepsAhead id self.old self.new }
         ensures held_near { KeepsNear id self.old self.new }
 
-        // Where it is the id of a state's next message:
-        ensures takes_next { TakesNext id self.old result }
+        // Where it is a state's buffer, and the id of its next message:
+        ensures in_state { TakesNext id self.old result }
         ensures stands { KeepsStep id self.old self.new }
     {
         take(&mut self.queues[id.origin as usize], id)
