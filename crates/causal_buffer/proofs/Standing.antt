@@ -1,5 +1,5 @@
 -- What the calls make of a state's buffer, and what is asked of them.
-use Rattle.std.proofs.Common.{◌≡◌, ℕ, ◌+◌, ◌<◌, ◌≤◌, Bool, true, false, IsTrue, List, refl, sym, ap, ap₂, subst, ◌∙◌, inl, inr, Option, Some, None, if◌then◌else◌, arith}
+use Rattle.std.proofs.Common.{◌≡◌, ℕ, ◌+◌, ◌<◌, ◌≤◌, Bool, true, false, IsTrue, List, length, refl, sym, ap, ap₂, subst, ◌∙◌, inl, inr, Option, Some, None, if◌then◌else◌, arith}
 use Rattle.std.specs.List.{find}
 use Rattle.std.specs.Option.{option_map}
 use Rattle.std.proofs.lemmas.List.Elements.{All-contains, All-weaker}
@@ -91,25 +91,23 @@ own_keeps_buffer w limit s o m b is of e room valid below = (
 )
 
 pub member_is_in_store : MemberIsInStore
-member_is_in_store w limit s b is of = omega (arith, (IsHistory-from_test w s.history is.is_history).member, of.members)
+member_is_in_store w limit me s b is of e = omega (arith, (IsHistory-from_test w s.history is.is_history).member, of.members, e)
 
 pub counts_are_of_store : CountsAreOfStore
-counts_are_of_store w s b of = length-counts s.history.present.n s.history.present.messages ∙ sym of.members
+counts_are_of_store w counts s b of e = ap length e ∙ length-counts s.history.present.n s.history.present.messages ∙ sym of.members
 
 pub early_are_ahead : EarlyAreAhead
-early_are_ahead w limit s b is of =
-    let me = s.history.present.me in
-    let counts = counted s.history in
-    subst (AreAhead counts) (sym of.early)
-    (All-weaker (λ m. is_old me counts m ≡ false) (λ m. entry counts m.origin < number m) (λ m new. (IsNew-from_test me counts m new).ahead) s.early is.are_early.new)
+early_are_ahead w limit counts s b is of e =
+    let was = counted s.history in
+    subst (λ c. AreAhead c b.early) (sym e) (subst (AreAhead was) (sym of.early)
+    (All-weaker (λ m. is_old s.history.present.me was m ≡ false) (λ m. entry was m.origin < number m) (λ m new. (IsNew-from_test s.history.present.me was m new).ahead) s.early is.are_early.new))
 
 pub early_are_near : EarlyAreNear
-early_are_near w limit s b is of =
+early_are_near w limit counts s b is of e =
     let n = s.history.present.n in
-    let me = s.history.present.me in
-    let counts = counted s.history in
-    subst (λ (b : Buffer). AreNear b.n b.w counts b.early) (sym (is_buffer_in w s b of))
-    (All-weaker (λ m. is_far n w me counts m ≡ false) (λ m. number m ≤ entry counts m.origin + (w + noop_window n w)) (λ m near. (IsNear-from_test n w me counts m near).within) s.early is.are_early.near)
+    let was = counted s.history in
+    subst (λ c. AreNear b.n b.w c b.early) (sym e) (subst (λ (b : Buffer). AreNear b.n b.w was b.early) (sym (is_buffer_in w s b of))
+    (All-weaker (λ m. is_far n w s.history.present.me was m ≡ false) (λ m. number m ≤ entry was m.origin + (w + noop_window n w)) (λ m near. (IsNear-from_test n w s.history.present.me was m near).within) s.early is.are_early.near))
 
 pub next_id_is_of_message : NextIdIsOfMessage
 next_id_is_of_message s id e = by (next_of s) refl e where

@@ -88,19 +88,21 @@ OwnKeepsBuffer = (w limit : ℕ) (s : State) (o : Op) (m : Message) (b : Buffer)
 
 -- the state's member is one of the buffer's store
 abbrev pub MemberIsInStore : Type 0
-MemberIsInStore = (w limit : ℕ) (s : State) (b : Buffer) → IsState w limit s → IsBufferOf w s b → s.history.present.me < b.n
+MemberIsInStore = (w limit me : ℕ) (s : State) (b : Buffer) → IsState w limit s → IsBufferOf w s b → me ≡ s.history.present.me → me < b.n
 
 -- there is a count for each member
 abbrev pub CountsAreOfStore : Type 0
-CountsAreOfStore = (w : ℕ) (s : State) (b : Buffer) → IsBufferOf w s b → length (counted s.history) ≡ b.n
+CountsAreOfStore = (w : ℕ) (counts : List ℕ) (s : State) (b : Buffer) → IsBufferOf w s b → counts ≡ counted s.history → length counts ≡ b.n
 
 -- none of the early messages was delivered
 abbrev pub EarlyAreAhead : Type 0
-EarlyAreAhead = (w limit : ℕ) (s : State) (b : Buffer) → IsState w limit s → IsBufferOf w s b → AreAhead (counted s.history) b.early
+EarlyAreAhead = (w limit : ℕ) (counts : List ℕ) (s : State) (b : Buffer) → IsState w limit s → IsBufferOf w s b → counts ≡ counted s.history
+    → AreAhead counts b.early
 
 -- each early message is within the two windows
 abbrev pub EarlyAreNear : Type 0
-EarlyAreNear = (w limit : ℕ) (s : State) (b : Buffer) → IsState w limit s → IsBufferOf w s b → AreNear b.n b.w (counted s.history) b.early
+EarlyAreNear = (w limit : ℕ) (counts : List ℕ) (s : State) (b : Buffer) → IsState w limit s → IsBufferOf w s b → counts ≡ counted s.history
+    → AreNear b.n b.w counts b.early
 
 -- where there is an id of what is next, it is the next message's
 abbrev pub NextIdIsOfMessage : Type 0
