@@ -30,9 +30,9 @@ pub enum Offer {
 
 /// The early messages of a store of 1 to 16 members with a window of at most 64, with room for all that can be early at once.
 ///
-/// It is a queue by number for each member. A message that comes in order or in reverse has its place at an end of its
-/// member's queue, where it is kept, found and removed at once. Any other costs a search by halving, and a move of what
-/// stands on the shorter side of its place. What is next is the first of a queue, so it is found by a look at each member.
+/// It is a queue by number for each member. A message that comes in order or in reverse is kept at an end of its member's
+/// queue at once, and the first of a queue is found and removed at once. Any other place costs a search by halving, and a
+/// move of what stands on its shorter side. What is next is the first of a queue, so it is found by a look at each member.
 /// Contracts see the early messages as one list, by origin and then by number; where that is a state's, they say what each
 /// call makes of the state.
 #[derive(Debug, Drop)]

@@ -22,8 +22,8 @@ pub fn number(message: &Message) -> u32
     }
 }
 
-/// The place of a number in a member's queue, or where it would stand. One that isn't between the first number and the last
-/// has its place at once.
+/// The place of a number in a member's queue, or where it would stand. It is told at once for one up to the first number and
+/// for one above the last.
 pub fn search(queue: &VecDeque<Message>, member: u8, seq: u32) -> Result<usize, usize>
     requires { IsQueue member queue.now.items }
     ensures found { IfOk result (IsAt queue.now.items seq) }
