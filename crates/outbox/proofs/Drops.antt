@@ -1,8 +1,6 @@
 -- What is left of an outbox's messages, and what it stands for.
-use Rattle.std.proofs.Common.{◌≡◌, ℕ, ◌==◌, ◌+◌, List, [], ◌∷◌, ◌++◌, drop, get_or, sym, ap, subst, ◌∙◌, inl, inr, if◌then◌else◌, append-nil, length-drop, arith}
-use Rattle.std.specs.Prelude.{AllPairs}
+use Rattle.std.proofs.Common.{◌≡◌, ℕ, ◌==◌, List, [], ◌∷◌, ◌++◌, sym, ap, ◌∙◌, inl, inr, if◌then◌else◌, append-nil}
 use Rattle.std.proofs.lemmas.Bool.{cases_eq, cond-true, cond-false, eq-eqb, ne_eqb}
-use Rattle.std.proofs.lemmas.List.{get_or-drop}
 use Rattle.op_base.specs.declared.message.Message.{Message}
 use Rattle.causal_model.specs.Sending.{outbox_of}
 use Rattle.causal_model.specs.Stability.{stable_vector}
@@ -21,7 +19,12 @@ drops_after stable old new is w me ms m l chapter before vector =
     ] in
     is ∙ ap (λ tag. unstable_in tag old.messages) vector ∙ ap (unstable_in (stable_vector old.n me (ms ++ m ∷ []))) held ∙ sym (outbox_of-push old.n w me ms m l chapter)
 
-pub AllPairs-drop : {X : Type 0} (R : X → X → Type 0) (i : ℕ) (xs : List X) → AllPairs R xs → AllPairs R (drop i xs)
-AllPairs-drop R i xs pairs k j d less within =
-    let both = pairs (i + k) (i + j) d (omega (arith, less)) (omega (arith, within, length-drop i xs)) in
-    subst (λ y. R y (get_or (drop i xs) j d)) (sym (get_or-drop i xs k d)) (subst (λ y. R (get_or xs (i + k) d) y) (sym (get_or-drop i xs j d)) both)
+abbrev pub with_messages : ℕ → ℕ → List Message → Sent
+with_messages n w messages = record { n = n; w = w; messages = messages }
+
+-- an outbox of which the unstable messages are left
+pub left_of : (n w : ℕ) (old : Sent) (messages left : List Message) (stable : List ℕ) → with_messages n w messages ≡ old → left ≡ unstable_in stable messages
+    → with_messages n w left ≡ with_messages old.n old.w (unstable_in stable old.messages)
+left_of n w old messages left stable was is =
+    let rest : Sent → Sent = λ sent. with_messages sent.n sent.w (unstable_in stable sent.messages) in
+    ap (with_messages n w) is ∙ ap rest was

@@ -1,2 +1,4 @@
 pub mod Risings
 pub mod Drops
+pub mod Husks
+pub mod Nexts

@@ -1,3 +1,4 @@
 pub mod Sent
 pub mod Fields
 pub mod Standing
+pub mod Laws

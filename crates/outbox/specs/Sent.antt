@@ -2,6 +2,7 @@
 use Rattle.std.specs.Prelude.{◌≡◌, ℕ, ◌+◌, ◌<◌, List, not, filter}
 use Rattle.op_base.specs.Message.{number}
 use Rattle.op_base.specs.declared.message.Message.{Message}
+use Rattle.op_base.specs.declared.operation.Op.TheVariants as op
 use Rattle.causal_model.specs.Stability.{is_stable, noop_window}
 
 -- an outbox: the numbers of its store, and the messages that it has, oldest first
@@ -18,6 +19,10 @@ room_of n w = w + noop_window n w
 pub record ComesAfter (earlier later : Message) : Type 0 where
   pub of_origin : earlier.origin ≡ later.origin
   pub rises : number earlier < number later
+
+-- what stays of a message that was dropped, until its room is needed: it carries no operation
+abbrev pub IsHusk : Message → Type 0
+IsHusk m = m.op ≡ op.NoOp
 
 -- the messages that aren't stable where these are the stable counts
 abbrev pub unstable_in : List ℕ → List Message → List Message

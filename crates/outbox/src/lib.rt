@@ -4,8 +4,10 @@
 //! project's own profile.
 #![tactic(auto)]
 
+mod laws;
 mod outbox;
 #[cfg(test)]
 mod tests;
 
+pub use laws::the_next_message_is_pushed;
 pub use outbox::Outbox;

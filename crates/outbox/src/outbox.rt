@@ -1,24 +1,33 @@
 //! A member's own messages that aren't stable.
 
-ghost use Rattle.std.specs.Prelude.{◌≡◌, ◌≢◌, ℕ, ◌<◌, ◌≤◌, List, [], ◌∷◌, ◌++◌, length, drop, IsTrue, IfOk, All, AllPairs};
+ghost use Rattle.std.specs.Prelude.{◌≡◌, ◌≢◌, ℕ, ◌<◌, ◌≤◌, List, [], ◌∷◌, ◌++◌, length, drop, take, IsTrue, IfOk, All, AllPairs};
 ghost use Rattle.op_base.specs.Message.{fits};
 ghost use Rattle.op_base.specs.declared.message.Message.{Message};
 ghost use Rattle.causal_model.specs.Chapter.{is_chapter};
 ghost use Rattle.causal_model.specs.Sending.{outbox_of};
 ghost use Rattle.causal_model.specs.Stability.{stable_vector};
-ghost use Rattle.outbox.specs.Sent.{ComesAfter, room_of, unstable_in};
+ghost use Rattle.outbox.specs.Sent.{ComesAfter, IsHusk, room_of, unstable_in};
 
-use op_base::{Message, NoMemory, Tag};
+use causal_model::{MOST_WINDOW, most_unstable};
+use op_base::{MOST_MEMBERS, Message, NoMemory, Op, Tag};
 use std::alloc::Global;
 use std::marker::Model;
 
 /// Own messages that aren't stable, oldest first: at most a window of operations and one of no-ops. Contracts see them with
 /// the numbers of their store.
+///
+/// A drop moves nothing. A message that goes leaves a husk in its place, which carries the no-op, so that its operation's
+/// memory is freed at once. There is room for twice as many as may be kept. When that is full at a push, the husks go and
+/// the messages move to the front; all of these were pushed since the last such move, so no message is ever moved twice.
+/// When a drop leaves no message, the husks go too.
 #[derive(Drop)]
 pub struct Outbox {
     n: u8,
     w: u8,
+    /// The husks, and behind them the messages.
     kept: Vec<Message>,
+    /// How many husks there are.
+    gone: usize,
 }
 
 impl Model for Outbox {
@@ -39,17 +48,18 @@ impl Outbox {
     /// The empty outbox of a member of a store of `n` members with a window `w`, with the memory for all that it may hold.
     pub fn create(alloc: Global, n: u8, w: u8) -> Result<Outbox, NoMemory>
         requires some { 1 ≤ n }
-        requires few { n ≤ 16 }
+        requires few { n ≤ MOST_MEMBERS }
         requires window { 1 ≤ w }
-        requires narrow { w ≤ 64 }
+        requires narrow { w ≤ MOST_WINDOW }
         ensures empty { IfOk result (λ o. o ≡ record { n = n; w = w; messages = [] }) }
         ensures sent { IfOk result (λ o. (me : ℕ) → o.messages ≡ outbox_of n me []) }
     {
-        let room = usize::from(w) + 2 * (usize::from(n) - 1) * usize::from(w) + 1;
+        let room = 2 * most_unstable(n, w) as usize;
         Ok(Outbox {
             n,
             w,
             kept: Vec::with_capacity(alloc, room)?,
+            gone: 0,
         })
     }
 
@@ -61,20 +71,25 @@ impl Outbox {
         ensures pushed { self.new ≡ record { n = self.old.n; w = self.old.w; messages = self.old.messages ++ message ∷ [] } }
         ensures sent { SendsNext message self.old.messages self.new.messages }
     {
-        // The room was taken by `create`, so this needs no memory.
+        if self.kept.len() == self.kept.capacity() {
+            drop(self.kept.drain(..self.gone));
+            self.gone = 0;
+        }
+        // There is room now, which `create` took, so this needs no memory.
         self.kept.push(message).unwrap();
     }
 
     /// Lets the messages go that are stable where these are the stable counts. It looks no further than the first that
-    /// stays; where any go, the others are moved once.
+    /// stays, and moves none.
     pub fn drop_stable(&mut self, stable: &Tag)
         requires { length stable.now ≡ self.old.n }
         ensures dropped { self.new ≡ record { n = self.old.n; w = self.old.w; messages = unstable_in stable.now self.old.messages } }
         ensures sent { DropsAfter stable.now self.old self.new }
     {
-        let gone = stable_len(self.kept.as_slice(), stable);
-        if gone > 0 {
-            drop(self.kept.drain(..gone));
+        self.gone += drop_front(&mut self.kept[self.gone..], stable);
+        if self.gone == self.kept.len() {
+            self.kept.clear();
+            self.gone = 0;
         }
     }
 
@@ -82,7 +97,29 @@ impl Outbox {
     pub fn messages(&self) -> &[Message]
         ensures { result.now ≡ self.now.messages }
     {
-        self.kept.as_slice()
+        &self.kept[self.gone..]
+    }
+}
+
+/// Leaves husks of the stable messages in front. How many they are.
+fn drop_front(messages: &mut [Message], stable: &Tag) -> usize
+    requires fit { All (λ m. IsTrue (fits (length stable.now) m)) messages.old }
+    requires rise { AllPairs ComesAfter messages.old }
+    ensures some { result ≤ length messages.new }
+    ensures husks { All IsHusk (take result messages.new) }
+    ensures rest { drop result messages.new ≡ unstable_in stable.now messages.old }
+{
+    let gone = stable_len(messages, stable);
+    make_husks(&mut messages[..gone]);
+    gone
+}
+
+/// Leaves a husk in each message's place: one that carries the no-op.
+fn make_husks(messages: &mut [Message])
+    ensures { All IsHusk messages.new }
+{
+    for message in messages.iter_mut() {
+        message.op = Op::NoOp;
     }
 }
 

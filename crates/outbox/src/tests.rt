@@ -4,7 +4,8 @@ ghost use Rattle.op_base.specs.Timestamp.{entry};
 ghost use Rattle.op_base.specs.Message.{fits, number};
 
 use crate::Outbox;
-use op_base::{Message, Op, Tag};
+use op_base::{Act, Key, Kind, Message, ObjectId, Op, Tag, Update};
+use std::alloc::Global;
 use std::test::Fail;
 
 /// What member 0 of two has seen once it has sent so many messages.
@@ -17,8 +18,18 @@ fn tag(sent: u32) -> Tag
     tag
 }
 
+/// An operation `inc` of a counter, by an amount.
+fn operation(alloc: Global, amount: u32) -> Result<Op, Fail> {
+    let object = ObjectId {
+        kind: Kind::Counter,
+        key: Key::read(alloc, b"c")?,
+    };
+    let update = Update::new(object, Act::Inc(amount)).ok();
+    Ok(update.map_or(Op::NoOp, Op::Update))
+}
+
 /// The own message of member 0 of two with a number.
-fn message(seq: u32) -> Message
+fn message(seq: u32, op: Op) -> Message
     requires { 1 ≤ seq }
     ensures fits { IsTrue (fits 2 result) }
     ensures origin { result.origin ≡ 0 }
@@ -27,7 +38,7 @@ fn message(seq: u32) -> Message
     Message {
         origin: 0,
         tag: tag(seq),
-        op: Op::NoOp,
+        op,
     }
 }
 
@@ -44,14 +55,14 @@ struct Sender {
 
 impl Sender {
     /// Sends the next message. It doesn't where the outbox is full.
-    fn send(&mut self) -> bool {
+    fn send(&mut self, op: Op) -> bool {
         let Some(seq) = self.sent.checked_add(1) else {
             return false;
         };
         if self.outbox.messages().len() >= 4 {
             return false;
         }
-        self.outbox.push(message(seq));
+        self.outbox.push(message(seq, op));
         self.sent = seq;
         true
     }
@@ -79,7 +90,7 @@ fn what_is_stable_goes_and_makes_room(rt: HostRuntime) -> Result<(), Fail> {
     ];
     for (count, left) in times {
         for _ in 0..4 {
-            sender.send();
+            sender.send(Op::NoOp);
         }
         assert_eq!(rt; sender.outbox.messages().len(), 4);
         sender.drop_stable(count);
@@ -87,6 +98,30 @@ fn what_is_stable_goes_and_makes_room(rt: HostRuntime) -> Result<(), Fail> {
         assert_eq!(rt; messages.len(), left.len(), "{count}");
         for (message, seq) in messages.iter().zip(left) {
             assert_eq!(rt; message.tag, tag(*seq), "{count}");
+        }
+    }
+    Ok(())
+}
+
+#[test]
+fn what_stays_is_the_same_through_many_rounds(rt: HostRuntime) -> Result<(), Fail> {
+    let alloc = rt.alloc();
+    for stay in 1..4u32 {
+        let mut sender = Sender {
+            sent: 0,
+            outbox: Outbox::create(alloc, 2, 1)?,
+        };
+        // the outbox has memory for 8 messages, those that go among them
+        for sent in 1..61u32 {
+            assert_eq!(rt; sender.send(operation(alloc, sent)?), true);
+            let mut seq = sent.saturating_sub(stay);
+            sender.drop_stable(seq);
+            for message in sender.outbox.messages() {
+                seq = seq.saturating_add(1);
+                assert_eq!(rt; message.tag, tag(seq), "{stay} stay");
+                assert_eq!(rt; message.op, operation(alloc, seq)?, "{stay} stay");
+            }
+            assert_eq!(rt; seq, sent, "{stay} stay");
         }
     }
     Ok(())
