@@ -3,3 +3,4 @@ pub mod Sender
 pub mod Told
 pub mod Kept
 pub mod Lines
+pub mod Nexts

@@ -3,3 +3,4 @@ pub mod Queue
 pub mod Check
 pub mod History
 pub mod Queues
+pub mod Laws

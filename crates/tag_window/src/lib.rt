@@ -4,10 +4,12 @@
 #![tactic(auto)]
 
 mod held;
+mod laws;
 mod queue;
 #[cfg(test)]
 mod tests;
 mod window;
 
 pub use held::Held;
-pub use window::{MOST_WINDOW, TagWindow};
+pub use laws::the_next_message_has_room;
+pub use window::TagWindow;

@@ -1,17 +1,21 @@
 //! The causes of messages that no member can have sent, with their numbers, and windows that are full. The values come from
 //! the four rules for crooked messages.
 
-ghost use Rattle.std.specs.Prelude.{◌≡◌, ◌≢◌, ℕ, ◌+◌, ◌<◌, ◌≤◌, [], length};
+ghost use Rattle.std.specs.Prelude.{◌≡◌, ◌≢◌, ℕ, ◌+◌, ◌<◌, ◌≤◌, [], length, IsTrue, slice_index};
+ghost use Rattle.op_base.specs.Timestamp.{entry};
 ghost use Rattle.causal_model.specs.Stability.{noop_window};
 ghost use Rattle.tag_window.specs.Window.{held_of};
 
 use crate::TagWindow;
+use crate::held::Held;
+use crate::queue::Queue;
 use op_base::{Act, Crook, Key, Kind, Message, ObjectId, Op, Tag, Update};
 use std::alloc::Global;
 use std::test::Fail;
 
 fn tag(numbers: [u32; 3]) -> Tag
-    ensures { length result ≡ 3 }
+    ensures entries { length result ≡ 3 }
+    ensures first { entry result 0 ≡ slice_index numbers 0 }
 {
     let mut tag = Tag::zero(3);
     tag.set(0, numbers[0]);
@@ -41,6 +45,40 @@ fn fill(window: &mut TagWindow, count: u32, noop: bool)
         let mut tag = Tag::zero(3);
         tag.set(0, done + 1);
         window.push(0, tag, noop);
+    }
+}
+
+/// Whether a queue holds nothing.
+fn is_empty(queue: &Queue) -> bool
+    ensures { IsTrue result → length queue.now.held ≡ 0 }
+{
+    queue.noops() == 0 && queue.operations() == 0
+}
+
+/// The timestamp of member 0 with a number: it has seen twice as many of member 2.
+fn numbered(seq: u32) -> Tag
+    ensures entries { length result ≡ 3 }
+    ensures number { entry result 0 ≡ seq }
+{
+    tag([seq, 0, seq.saturating_mul(2)])
+}
+
+/// Holds the next timestamps of member 0 in an empty queue: three, in the order of their numbers.
+fn hold_three(queue: &mut Queue, sent: u32)
+    requires members { queue.old.n ≡ 3 }
+    requires origin { queue.old.origin ≡ 0 }
+    requires room { 3 ≤ queue.old.room }
+    requires empty { length queue.old.held ≡ 0 }
+    requires few { sent ≤ 1000 }
+    ensures members { queue.new.n ≡ 3 }
+    ensures origin { queue.new.origin ≡ 0 }
+    ensures room { queue.new.room ≡ queue.old.room }
+{
+    for done in 0..3 {
+        queue.push(Held {
+            tag: numbered(sent + done + 1),
+            noop: false,
+        });
     }
 }
 
@@ -138,6 +176,32 @@ fn a_member_has_a_window_of_operations_and_one_of_no_ops(rt: HostRuntime) -> Res
         );
         window.drop_stable(&tag([held, 0, 0]));
         assert_eq!(rt; window.own_unstable(0, noops), 0);
+    }
+    Ok(())
+}
+
+#[test]
+fn timestamps_are_found_by_their_numbers_as_a_queue_wraps_round(
+    rt: HostRuntime,
+) -> Result<(), Fail> {
+    // with room for four, three at a time go past the end of the memory in the second round, and in later ones
+    let mut queue = Queue::create(rt.alloc(), 3, 0, 4)?;
+    for round in 0..9u32 {
+        let sent = round * 3;
+        assert!(rt; is_empty(&queue));
+        hold_three(&mut queue, sent);
+        queue.drop_stable(&numbered(sent + 1));
+        let cases = [
+            (sent, None),
+            (sent + 1, None),
+            (sent + 2, Some(numbered(sent + 2))),
+            (sent + 3, Some(numbered(sent + 3))),
+            (sent + 4, None),
+        ];
+        for (seq, found) in cases {
+            assert_eq!(rt; queue.find(seq).copied(), found, "{seq} of {round}");
+        }
+        queue.drop_stable(&numbered(sent + 3));
     }
     Ok(())
 }

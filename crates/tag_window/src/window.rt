@@ -14,12 +14,10 @@ ghost use Rattle.tag_window.specs.History.{IsWindowOf, IsWindowWith};
 
 use crate::held::Held;
 use crate::queue::Queue;
+use causal_model::{MOST_WINDOW, most_noops, most_unstable};
 use op_base::{Crook, MOST_MEMBERS, Message, NoMemory, Op, Tag};
 use std::alloc::Global;
 use std::marker::Model;
-
-/// The greatest window.
-pub const MOST_WINDOW: u8 = 64;
 
 /// The timestamps of the unstable messages of one epoch, each with whether it is a no-op.
 ///
@@ -43,17 +41,6 @@ impl Model for TagWindow {
     ghost view = { λ t. record { w = t.w; held = map (λ q. q.held) t.queues.items } };
 
     ghost invariant = { λ t. AreQueues t.w t.z t.queues.items };
-}
-
-/// How many no-ops of a member may be unstable, where so many operations may.
-fn most_noops(n: u8, w: u8) -> u32
-    requires some { 1 ≤ n }
-    requires few { n ≤ MOST_MEMBERS }
-    requires window { w ≤ MOST_WINDOW }
-    ensures value { result ≡ noop_window n w }
-    ensures few { result ≤ 1921 }
-{
-    2 * (n as u32 - 1) * w as u32 + 1
 }
 
 /// The least member at which a timestamp is below another of as many members.
@@ -89,7 +76,7 @@ fn is_unstable(message: &Message, stable: &Tag) -> bool
     requires stable { message.now.origin < length stable.now }
     ensures { result ≡ not (is_stable stable.now message.now) }
 {
-    message.tag.at(message.origin) > stable.at(message.origin)
+    !stable.covers_id(message.id())
 }
 
 /// How many operations a message adds to the unstable ones: one, or none.
@@ -131,7 +118,7 @@ impl TagWindow {
         ensures nothing { IfOk result (λ t. (me : ℕ) → IsWindowOf n w me [] t) }
     {
         let z = most_noops(n, w);
-        let room = w as usize + z as usize;
+        let room = most_unstable(n, w) as usize;
         let mut queues = Vec::with_capacity(alloc, n as usize)?;
         for origin in 0..n {
             queues.push(Queue::create(alloc, n, origin, room)?)?;
