@@ -1,4 +1,3 @@
 pub mod Minimums
 pub mod Entries
-pub mod Renewals
 pub mod Standing

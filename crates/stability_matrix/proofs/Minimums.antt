@@ -1,7 +1,6 @@
 -- The least of a list of numbers.
-use Rattle.std.proofs.Common.{◌≡◌, ℕ, zero, suc, ◌+◌, ◌<◌, ◌≤◌, ◌≢◌, min, List, [], ◌∷◌, length, get_or, set, length-set, get_or-set_other, refl, ◌∙◌, ap, inl, inr, below_more, arith}
-use Rattle.std.proofs.lemmas.Bool.{cases_lt, cases_eq}
-use Rattle.std.proofs.lemmas.Grind.{get_or-set_at}
+use Rattle.std.proofs.Common.{◌≡◌, ℕ, zero, suc, ◌+◌, ◌<◌, ◌≤◌, min, List, [], ◌∷◌, length, get_or, refl, inl, inr, below_more, arith}
+use Rattle.std.proofs.lemmas.Bool.{cases_lt}
 use Rattle.causal_model.specs.Stability.{minimum}
 
 minimum_below : (xs : List ℕ) (k : ℕ) → k < length xs → minimum xs ≤ get_or xs k 0
@@ -28,27 +27,14 @@ minimum_is (x ∷ xs) least below k l e =
     let there = minimum_there x xs in
     omega (arith, below there.0 there.1, there.2, minimum_below (x ∷ xs) k l, e)
 
--- it stays where a number above it becomes another above it
-pub minimum-set_above : (xs : List ℕ) (k v : ℕ) → k < length xs → minimum xs < get_or xs k 0 → minimum xs < v → minimum (set xs k v) ≡ minimum xs
-minimum-set_above [] k v l was now = absurd (omega (arith, l))
-minimum-set_above (x ∷ xs) k v l was now =
-    let there = minimum_there x xs in
-    let apart : there.0 ≢ k = λ e. absurd (omega (arith, there.2, was, ap (λ j. get_or (x ∷ xs) j 0) e)) in
-    minimum_is (set (x ∷ xs) k v) (minimum (x ∷ xs)) (λ i within. elim (cases_eq i k) [
-      | inl e ↦ omega (arith, get_or-set_at (x ∷ xs) k i v 0 e l, now)
-      | inr ne ↦ omega (arith, get_or-set_other (x ∷ xs) k i v 0 ne, minimum_below (x ∷ xs) i (omega (arith, within, length-set (x ∷ xs) k v)))
-    ]) there.0 (omega (arith, there.1, length-set (x ∷ xs) k v)) (get_or-set_other (x ∷ xs) k there.0 v 0 apart ∙ there.2)
-
 -- ---- a list gone through from its start, with the least so far
 
-pub record IsLeastSoFar (xs : List ℕ) (noted least i : ℕ) : Type 0 where
-  pub within : least ≤ noted
+pub record IsLeastSoFar (xs : List ℕ) (least i : ℕ) : Type 0 where
   pub below : (k : ℕ) → k < i → least ≤ get_or xs k 0
   pub there : (k : ℕ) × (k < length xs) × (get_or xs k 0 ≡ least)
 
-pub least-more : (xs : List ℕ) (noted least i v next : ℕ) → IsLeastSoFar xs noted least i → i < length xs → v ≡ get_or xs i 0 → next ≡ min least v → IsLeastSoFar xs noted next (i + 1)
-least-more xs noted least i v next so_far l at is = record {
-  within = omega (arith, so_far.within, is);
+pub least-more : (xs : List ℕ) (least i v next : ℕ) → IsLeastSoFar xs least i → i < length xs → v ≡ get_or xs i 0 → next ≡ min least v → IsLeastSoFar xs next (i + 1)
+least-more xs least i v next so_far l at is = record {
   below = below_more (λ k. next ≤ get_or xs k 0) i (λ k less. omega (arith, so_far.below k less, is)) (omega (arith, at, is));
   there = elim (cases_lt least v) [
     | inl less ↦ (so_far.there.0, so_far.there.1, omega (arith, so_far.there.2, is, less))
@@ -56,5 +42,5 @@ least-more xs noted least i v next so_far l at is = record {
   ];
 }
 
-pub least-done : (xs : List ℕ) (noted least i : ℕ) → IsLeastSoFar xs noted least i → length xs ≤ i → minimum xs ≡ least
-least-done xs noted least i so_far done = minimum_is xs least (λ k l. so_far.below k (omega (arith, l, done))) so_far.there.0 so_far.there.1 so_far.there.2
+pub least-done : (xs : List ℕ) (least i : ℕ) → IsLeastSoFar xs least i → length xs ≤ i → minimum xs ≡ least
+least-done xs least i so_far done = minimum_is xs least (λ k l. so_far.below k (omega (arith, l, done))) so_far.there.0 so_far.there.1 so_far.there.2

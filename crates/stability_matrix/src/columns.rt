@@ -1,26 +1,45 @@
-//! The least of a matrix's column, as it is once a message is noted.
+//! The rows of a matrix, as a message is noted in them, and the least of each of their columns.
 
-ghost use Rattle.std.specs.Prelude.{◌≡◌, ◌<◌, length, All};
-ghost use Rattle.causal_model.specs.Stability.{minimum};
-ghost use Rattle.stability_matrix.specs.Rows.{column_of, noted};
+ghost use Rattle.std.specs.Prelude.{◌≡◌, ◌<◌, ◌≤◌, ℕ, min, length, All};
+ghost use Rattle.op_base.specs.Timestamp.{entry};
+ghost use Rattle.stability_matrix.specs.Rows.{stable_of, noted};
 
 use op_base::Tag;
 
-/// The least entry at `x` of the rows after member `me` has noted a timestamp of `origin`.
-pub(crate) fn least_after(rows: &[Tag], me: u8, origin: u8, tag: &Tag, x: u8) -> u32
-    requires own { me < length rows.now }
-    requires origin { origin < length rows.now }
-    requires column { x < length rows.now }
-    requires entries { length tag.now ≡ length rows.now }
-    requires square { All (λ row. length row ≡ length rows.now) rows.now }
-    ensures { result ≡ minimum (column_of (noted me origin tag.now rows.now) x) }
+/// Puts the timestamp of a message of `origin` into its row, and its number into member `me`'s.
+pub(crate) fn note_in(rows: &mut [Tag], me: u8, origin: u8, tag: &Tag)
+    requires own { me < length rows.old }
+    requires origin { origin < length rows.old }
+    requires entries { length tag.now ≡ length rows.old }
+    requires square { All (λ row. length row ≡ length rows.old) rows.old }
+    ensures { rows.new ≡ noted me origin tag.now rows.old }
 {
-    let noted = tag.at(x);
-    let mut least = noted;
-    for (y, row) in rows.iter().enumerate() {
-        let is_noted = y == origin as usize || y == me as usize && x == origin;
-        let entry = if is_noted { noted } else { row.at(x) };
-        least = least.min(entry);
+    rows[origin as usize] = *tag;
+    let mut own = rows[me as usize];
+    own.set(origin, tag.at(origin));
+    rows[me as usize] = own;
+}
+
+/// The least entry of each column.
+pub(crate) fn least_of(rows: &[Tag]) -> Tag
+    requires some { 1 ≤ length rows.now }
+    requires square { All (λ row. length row ≡ length rows.now) rows.now }
+    ensures { result ≡ stable_of rows.now }
+{
+    let mut least = rows[0];
+    for row in rows {
+        lower(&mut least, row);
     }
     least
+}
+
+/// Lowers each number to another timestamp's where that is less.
+fn lower(least: &mut Tag, row: &Tag)
+    requires { length least.old ≡ length row.now }
+    ensures members { length least.new ≡ length least.old }
+    ensures entries { (x : ℕ) → x < length least.old → entry least.new x ≡ min (entry least.old x) (entry row.now x) }
+{
+    for x in 0..row.members() {
+        least.set(x, least.at(x).min(row.at(x)));
+    }
 }

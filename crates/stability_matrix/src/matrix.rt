@@ -6,11 +6,13 @@ ghost use Rattle.op_base.specs.Timestamp.{zero_tag, covers};
 ghost use Rattle.op_base.specs.declared.message.Message.{Message};
 ghost use Rattle.causal_model.specs.Stability.{known_vector, stable_vector, is_stable};
 
-use crate::columns::least_after;
+use crate::columns::{least_of, note_in};
 use op_base::{MOST_MEMBERS, MessageId, Tag};
 use std::marker::Model;
 
 /// What member `me` of a store knows that each member has: a row for each. Contracts see `me` and the rows.
+///
+/// The least of each column is kept. A message may move all of them, so all are computed together then, row by row.
 #[derive(Debug, Drop)]
 pub struct Matrix {
     n: u8,
@@ -100,7 +102,10 @@ impl Matrix {
         ensures least { result ≡ stable_of (noted self.now.me origin tag self.now.rows) }
         ensures known { StableAfter origin tag self.now result }
     {
-        self.renewed(origin, &tag)
+        let mut rows = self.rows;
+        let rows = &mut rows[..self.n as usize];
+        note_in(rows, self.me, origin, &tag);
+        least_of(rows)
     }
 
     /// Whether every member is known to have a message.
@@ -118,29 +123,8 @@ impl Matrix {
         requires entries { length tag.now ≡ length self.old.rows }
         ensures { self.new ≡ record { me = self.old.me; rows = noted self.old.me origin tag.now self.old.rows } }
     {
-        self.stable = self.renewed(origin, tag);
-        self.rows[origin as usize] = *tag;
-        let mut own = self.rows[self.me as usize];
-        own.set(origin, tag.at(origin));
-        self.rows[self.me as usize] = own;
-    }
-
-    /// The least entry of each column, as it is after a message of `origin` with this timestamp.
-    fn renewed(&self, origin: u8, tag: &Tag) -> Tag
-        requires origin { origin < length self.now.rows }
-        requires entries { length tag.now ≡ length self.now.rows }
-        ensures { result ≡ stable_of (noted self.now.me origin tag.now self.now.rows) }
-    {
-        let rows = &self.rows[..self.n as usize];
-        let row = &rows[origin as usize];
-        let mut stable = self.stable;
-        for x in 0..self.n {
-            let (was, now, least) = (row.at(x), tag.at(x), stable.at(x));
-            let stays = was == now || least < was && least < now;
-            if x == origin || !stays {
-                stable.set(x, least_after(rows, self.me, origin, tag, x));
-            }
-        }
-        stable
+        let rows = &mut self.rows[..self.n as usize];
+        note_in(rows, self.me, origin, tag);
+        self.stable = least_of(rows);
     }
 }
