@@ -5,19 +5,16 @@
 //! are. It prints how many messages went through the part.
 #![tactic(auto)]
 
-ghost use Rattle.std.specs.Prelude.{◌≡◌, ◌+◌, ◌≤◌};
-ghost use Rattle.causal_model.specs.Stability.{noop_window};
-
 mod buffer;
 mod matrix;
 mod sending;
 mod window;
 
 use anyhow::{Context, Result, bail, ensure};
+use causal_model::MOST_WINDOW;
 use op_base::MOST_MEMBERS;
 use std::env;
 use std::rt::Env;
-use tag_window::MOST_WINDOW;
 
 fn number(word: &str) -> Result<u32> {
     Ok(word.parse::<u32>().context("reading a number")?)
@@ -25,18 +22,6 @@ fn number(word: &str) -> Result<u32> {
 
 fn small(word: &str) -> Result<u8> {
     Ok(word.parse::<u8>().context("reading a small number")?)
-}
-
-/// How many messages of one member a part has room for.
-fn room(n: u8, w: u8) -> u32
-    requires some { 1 ≤ n }
-    requires few { n ≤ MOST_MEMBERS }
-    requires narrow { w ≤ MOST_WINDOW }
-    ensures room { result ≡ w + noop_window n w }
-    ensures bound { result ≤ 1985 }
-{
-    let window = u32::from(w);
-    window + 2 * (u32::from(n) - 1) * window + 1
 }
 
 fn main(rt: HostRuntime) -> Result<()> {

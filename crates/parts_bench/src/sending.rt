@@ -6,12 +6,11 @@ ghost use Rattle.op_base.specs.Message.{number};
 ghost use Rattle.op_base.specs.Timestamp.{entry};
 ghost use Rattle.causal_model.specs.Stability.{noop_window};
 
-use crate::room;
 use anyhow::{Result, bail};
+use causal_model::{MOST_WINDOW, most_unstable};
 use op_base::{MOST_MEMBERS, Message, Op, Tag};
 use outbox::Outbox;
 use std::alloc::Global;
-use tag_window::MOST_WINDOW;
 
 /// The first member of a store, which sends: its last timestamp, and what is stable.
 #[derive(Drop)]
@@ -60,7 +59,7 @@ pub fn measure(alloc: Global, n: u8, w: u8, filled: u32, turns: u32) -> Result<u
     requires narrow { w ≤ MOST_WINDOW }
     requires within { filled ≤ 100 }
 {
-    let room = room(n, w);
+    let room = most_unstable(n, w);
     let mut sender = Sender {
         room: room as usize,
         sent: Tag::zero(n),

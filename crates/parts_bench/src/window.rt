@@ -6,11 +6,11 @@ ghost use Rattle.op_base.specs.Timestamp.{entry};
 ghost use Rattle.causal_model.specs.Stability.{noop_window};
 ghost use Rattle.tag_window.specs.Window.{held_of};
 
-use crate::room;
 use anyhow::{Result, bail};
+use causal_model::{MOST_WINDOW, most_unstable};
 use op_base::{MOST_MEMBERS, Message, Op, Tag};
 use std::alloc::Global;
-use tag_window::{MOST_WINDOW, TagWindow};
+use tag_window::TagWindow;
 
 /// The timestamp of a member's message of a number: it has seen as many of each member before.
 fn tag_of(n: u8, origin: u8, seq: u32) -> Tag
@@ -92,7 +92,7 @@ pub fn measure(alloc: Global, n: u8, w: u8, filled: u32, turns: u32) -> Result<u
     requires narrow { w ≤ MOST_WINDOW }
     requires within { filled ≤ 100 }
 {
-    let most = room(n, w) * filled / 100;
+    let most = most_unstable(n, w) * filled / 100;
     let mut window = TagWindow::create(alloc, n, w)?;
     let mut held = 0u64;
     for _ in 0..turns {
