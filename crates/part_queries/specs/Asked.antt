@@ -10,6 +10,12 @@ has_values RwSet = true
 has_values MvReg = true
 has_values kind = false
 
+-- whether the objects of a kind are sets
+abbrev pub is_set : Kind → Bool
+is_set AwSet = true
+is_set RwSet = true
+is_set kind = false
+
 -- whether the objects of a kind are flags
 abbrev pub is_flag : Kind → Bool
 is_flag EwFlag = true
