@@ -1,1 +1,5 @@
 pub mod Logged
+pub mod Finds
+pub mod Merges
+pub mod SettledFinds
+pub mod Listed

@@ -5,7 +5,13 @@
 //! (arXiv 1710.04469); the kinds' queries are this project's own profile.
 #![tactic(auto)]
 
+mod found;
+mod listing;
 mod marks;
 mod membership;
+mod merging;
+#[cfg(test)]
+mod tests;
 
+pub use listing::values;
 pub use membership::has;

@@ -1,13 +1,13 @@
 //! What was put in and what was taken out, and what comes of the two in each kind. The kinds are this project's own
 //! profile.
 
-ghost use Rattle.std.specs.Prelude.{◌≡◌, option_copied};
+ghost use Rattle.std.specs.Prelude.{◌≡◌, ◌||◌, option_copied};
 ghost use Rattle.causal_model.specs.Parts.{is_in, puts, takes};
 
 use op_base::{Act, Kind, Value};
 
 /// Whether something was put in, and whether it was taken out.
-#[derive(Clone, Copy, Debug, PartialEq, Eq)]
+#[derive(Clone, Copy, Debug, PartialEq, Eq, PartialOrd, Ord)]
 pub struct Marks {
     /// A settled or logged act puts it in.
     pub put: bool,
@@ -16,6 +16,16 @@ pub struct Marks {
 }
 
 impl Marks {
+    /// The marks that are in the one or in the other.
+    pub fn join(self, other: Marks) -> Marks
+        ensures { result ≡ record { put = self.put || other.put; taken = self.taken || other.taken } }
+    {
+        Marks {
+            put: self.put || other.put,
+            taken: self.taken || other.taken,
+        }
+    }
+
     /// Whether it is in an object of a kind by these marks.
     pub fn is_in(self, kind: Kind) -> bool
         ensures { result ≡ is_in kind self.put self.taken }

@@ -1,0 +1,84 @@
+-- Lists of what is found: what they say with one find more, and their orders.
+use Rattle.std.proofs.Common.{◌≡◌, ℕ, ◌+◌, arith, length-append, Bool, true, false, ◌||◌, All, List, [], ◌∷◌, ◌++◌, refl, sym, ap, subst, ◌∙◌}
+use Rattle.std.specs.Prelude.{AllPairs}
+use Rattle.std.specs.List.{list_any, slice_index_or}
+use Rattle.std.specs.List.Sorted.{IsSorted, IsPermutation}
+use Rattle.std.specs.Cmp.{IsTotalOrder, IsStrictWeakOrder}
+use Rattle.std.specs.Ordering.{is_lt, is_eq, ordering_reverse, ordering_then, bool_cmp}
+use Rattle.std.specs.declared.cmp.Ordering.{Ordering}
+use Rattle.std.specs.declared.cmp.Ordering.TheVariants.{Less, Equal, Greater}
+use Rattle.std.proofs.lemmas.Bool.{false≢true, both_ways, false_from_ne_true}
+use Rattle.std.proofs.lemmas.Cmp.{nat_list_cmp_total}
+use Rattle.std.proofs.lemmas.List.{get_or_append_left}
+use Rattle.std.proofs.lemmas.List.Elements.{All-nil, All-cons, All-contains, Contains-push}
+use Rattle.std.proofs.lemmas.List.Folds.{list_any-append}
+use Rattle.std.proofs.lemmas.List.Kept.{AllPairs-cons}
+use Rattle.std.proofs.lemmas.List.Sorted.{ranks_by, sorted_far, Contains-permutation, IsPermutation-sym}
+use Rattle.op_base.specs.Order.{text_cmp}
+use Rattle.causal_model.proofs.Members.{pairs_head, pairs_tail, list_any_members}
+use Rattle.part_queries.specs.Finds.{AreRising, AreInOrder}
+use Rattle.part_queries.specs.declared.found.Found.{Found}
+
+pub or_none : (b : Bool) → (b || false) ≡ b
+or_none true = refl
+or_none false = refl
+
+-- ---- a list with one item more
+
+pub list_any_push : {X : Type 0} (p : X → Bool) (xs : List X) (x : X) → list_any p (xs ++ x ∷ []) ≡ (list_any p xs || p x)
+list_any_push p xs x = list_any-append p xs (x ∷ []) ∙ ap (λ b. list_any p xs || b) (or_none (p x))
+
+-- in a list of pairs each is before the last
+pub pairs_last : {X : Type 0} (R : X → X → Type 0) (xs : List X) (y : X) → AllPairs R (xs ++ y ∷ []) → All (λ x. R x y) xs
+pairs_last R [] y pairs = All-nil (λ x. R x y)
+pairs_last R (x ∷ xs) y pairs =
+    All-cons (λ z. R z y) x xs (All-contains (R x) (xs ++ y ∷ []) y (pairs_head R x (xs ++ y ∷ []) pairs) (Contains-push xs y)) (pairs_last R xs y (pairs_tail R x (xs ++ y ∷ []) pairs))
+
+pub all_front : {X : Type 0} (P : X → Type 0) (xs ys : List X) → All P (xs ++ ys) → All P xs
+all_front P xs ys each = λ k d l. subst P (get_or_append_left xs ys d k l) (each k d (omega (arith, l, length-append xs ys)))
+
+pub pairs_front : {X : Type 0} (R : X → X → Type 0) (xs ys : List X) → AllPairs R (xs ++ ys) → AllPairs R xs
+pairs_front R [] ys pairs = λ i j d l within. absurd (omega (arith, within))
+pairs_front R (x ∷ xs) ys pairs = AllPairs-cons R x xs (all_front (R x) xs ys (pairs_head R x (xs ++ ys) pairs)) (pairs_front R xs ys (pairs_tail R x (xs ++ ys) pairs))
+
+-- ---- the order of finds
+
+pub texts_total : IsTotalOrder text_cmp
+texts_total = nat_list_cmp_total
+
+pub finds_order : IsStrictWeakOrder (λ (a b : Found). is_lt (text_cmp a.value.now b.value.now))
+finds_order = ranks_by texts_total (λ (f : Found). f.value.now)
+
+-- what is neither before nor tied is after
+pub after_from : (a b : List ℕ) → is_lt (text_cmp b a) ≡ false → is_eq (text_cmp a b) ≡ false → text_cmp a b ≡ Less
+after_from a b after apart = by (text_cmp a b) refl (texts_total.antisymm b a) apart where
+  by : (o : Ordering) → text_cmp a b ≡ o → text_cmp b a ≡ ordering_reverse o → is_eq o ≡ false → o ≡ Less
+  by Less is back apart = refl
+  by Equal is back apart = absurd (false≢true (sym apart))
+  by Greater is back apart = absurd (false≢true (sym after ∙ ap is_lt back))
+
+-- what is at most another is not before by it
+pub not_before : (a b : List ℕ) → text_cmp a b ≡ Less → is_lt (text_cmp b a) ≡ false
+not_before a b less = ap is_lt (texts_total.antisymm b a ∙ ap ordering_reverse less)
+
+-- the order of finds by all that they have, which goes by value first
+abbrev pub found_cmp : Found → Found → Ordering
+found_cmp a b = ordering_then (text_cmp a.value.now b.value.now) (ordering_then (bool_cmp a.marks.put b.marks.put) (bool_cmp a.marks.taken b.marks.taken))
+
+less_first : (o p : Ordering) → is_lt o ≡ true → is_lt (ordering_then o p) ≡ true
+less_first Less p t = refl
+less_first Equal p t = absurd (false≢true t)
+less_first Greater p t = absurd (false≢true t)
+
+pub sorted_is_in_order : (finds : List Found) → IsSorted found_cmp finds → AreInOrder finds
+sorted_is_in_order finds sorted = λ i j d lt within. sorted_far (λ (a b : Found). is_lt (text_cmp a.value.now b.value.now)) finds_order finds (λ k e l m.
+    let a = slice_index_or finds (k + 1) e in
+    let b = slice_index_or finds k e in
+    false_from_ne_true (is_lt (text_cmp a.value.now b.value.now)) (λ t. both_ways (is_lt (found_cmp a b)) (sorted k e l m)
+    (less_first (text_cmp a.value.now b.value.now) (ordering_then (bool_cmp a.marks.put b.marks.put) (bool_cmp a.marks.taken b.marks.taken)) t))) i j d (omega (arith, lt)) within
+
+pub rising_is_in_order : (finds : List Found) → AreRising finds → AreInOrder finds
+rising_is_in_order finds rising = λ i j d lt within. not_before (slice_index_or finds i d).value.now (slice_index_or finds j d).value.now (rising i j d lt within)
+
+pub list_any_permuted : {X : Type 0} (p : X → Bool) (xs ys : List X) → IsPermutation xs ys → list_any p ys ≡ list_any p xs
+list_any_permuted p xs ys moved = list_any_members p ys xs (λ x. (Contains-permutation ys xs x (IsPermutation-sym xs ys moved), Contains-permutation xs ys x moved))

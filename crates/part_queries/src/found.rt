@@ -1,0 +1,93 @@
+//! What is found of the values of an object among its items and its entries. The kinds are this project's own profile.
+
+ghost use Rattle.std.specs.Prelude.{◌≡◌, ℕ, List, map, IfOk, Some};
+ghost use Rattle.std.specs.List.{list_any};
+ghost use Rattle.causal_model.specs.Items.{cell_in};
+ghost use Rattle.causal_model.specs.Log.{message_of};
+ghost use Rattle.causal_model.specs.Parts.{has_logged, puts, takes};
+ghost use Rattle.part_queries.specs.Finds.{puts_in, takes_out, IsFoundOf, AreRising, AreInOrder};
+
+use crate::marks::Marks;
+use causal_model::ItemView;
+use op_base::{Act, Entry, NoMemory, ObjectId, Value};
+use std::alloc::Global;
+
+/// A value, with what an item or an entry says of it.
+#[derive(Clone, Copy, Debug, PartialEq, Eq, PartialOrd, Ord)]
+pub struct Found<'a> {
+    /// The value.
+    pub value: &'a Value,
+    /// What was done with it.
+    pub marks: Marks,
+}
+
+/// What an act says of the value that it names.
+fn found_of(act: &Act) -> Option<Found<'_>>
+    ensures { IsFoundOf act.now result }
+{
+    match act {
+        Act::Add(value) | Act::Write(value) => Some(Found {
+            value,
+            marks: Marks {
+                put: true,
+                taken: false,
+            },
+        }),
+        Act::Rmv(value) => Some(Found {
+            value,
+            marks: Marks {
+                put: false,
+                taken: true,
+            },
+        }),
+        Act::Clear | Act::Enable | Act::Disable | Act::Inc(_) | Act::Dec(_) => None,
+    }
+}
+
+/// What the items of an object say of its values, by rising value. `NoMemory` leaves nothing behind.
+pub fn settled<'a, V: ItemView>(
+    alloc: Global,
+    items: &'a V,
+    object: &ObjectId,
+) -> Result<Vec<Found<'a>>, NoMemory>
+    ensures rise { IfOk result (λ finds. AreRising finds.items) }
+    ensures put { IfOk result (λ finds. (v : List ℕ) → list_any (puts_in v) finds.items ≡ (cell_in (V.items items.now) object.now (Some v)).on) }
+    ensures taken { IfOk result (λ finds. (v : List ℕ) → list_any (takes_out v) finds.items ≡ (cell_in (V.items items.now) object.now (Some v)).off) }
+{
+    let mut finds = Vec::new(alloc);
+    for place in 0..items.len() {
+        let (owner, value, cell) = items.item_at(place);
+        if let Some(value) = value {
+            if owner.is_same(object) {
+                let marks = Marks {
+                    put: cell.on,
+                    taken: cell.off,
+                };
+                finds.push(Found { value, marks })?;
+            }
+        }
+    }
+    Ok(finds)
+}
+
+/// What the entries of an object say of its values, none before a lesser one. `NoMemory` leaves nothing behind.
+pub fn logged<'a>(
+    alloc: Global,
+    entries: &'a [Entry],
+    object: &ObjectId,
+) -> Result<Vec<Found<'a>>, NoMemory>
+    ensures order { IfOk result (λ finds. AreInOrder finds.items) }
+    ensures put { IfOk result (λ finds. (v : List ℕ) → list_any (puts_in v) finds.items ≡ has_logged object.now (map message_of entries.now) (puts (Some v))) }
+    ensures taken { IfOk result (λ finds. (v : List ℕ) → list_any (takes_out v) finds.items ≡ has_logged object.now (map message_of entries.now) (takes (Some v))) }
+{
+    let mut finds = Vec::with_capacity(alloc, entries.len())?;
+    for entry in entries {
+        if entry.update.object().is_same(object) {
+            if let Some(found) = found_of(entry.update.act()) {
+                finds.push(found)?;
+            }
+        }
+    }
+    finds.sort_unstable();
+    Ok(finds)
+}
