@@ -5,5 +5,7 @@
 #![tactic(auto)]
 
 mod flag;
+mod register;
 
 pub use flag::flag_on;
+pub use register::mvreg_values;

@@ -6,4 +6,4 @@
 
 mod set;
 
-pub use set::set_contains;
+pub use set::{set_contains, set_values};
