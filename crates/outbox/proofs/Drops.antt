@@ -19,6 +19,7 @@ drops_after stable old new is w me ms m l chapter before vector =
     ] in
     is ∙ ap (λ tag. unstable_in tag old.messages) vector ∙ ap (unstable_in (stable_vector old.n me (ms ++ m ∷ []))) held ∙ sym (outbox_of-push old.n w me ms m l chapter)
 
+-- an outbox of its store's numbers and its messages
 abbrev pub with_messages : ℕ → ℕ → List Message → Sent
 with_messages n w messages = record { n = n; w = w; messages = messages }
 
