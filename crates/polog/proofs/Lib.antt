@@ -1,0 +1,13 @@
+pub mod Orders
+pub mod Tables
+pub mod Places
+pub mod Moves
+pub mod Laid
+pub mod Spans
+pub mod Sweeps
+pub mod Firsts
+pub mod Strips
+pub mod Prunes
+pub mod Items
+pub mod Fitting
+pub mod Standing

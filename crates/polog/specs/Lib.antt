@@ -1,0 +1,5 @@
+pub mod Value
+pub mod Standing
+pub mod Order
+pub mod Rows
+pub mod Laws

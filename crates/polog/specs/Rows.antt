@@ -1,0 +1,40 @@
+-- Rows of a log: entries beside the numbers of their arrival, side by side by object.
+use Rattle.std.specs.Prelude.{◌≡◌, ◌≢◌, ℕ, ◌<◌, ◌≤◌, ◌⊎◌, Bool, true, false, List, length, slice_index_or, Option, Some, None, IsTrue}
+use Rattle.std.specs.declared.cmp.Ordering.TheVariants.{Less, Equal}
+use Rattle.op_base.specs.Message.{fits}
+use Rattle.op_base.specs.Order.{object_cmp}
+use Rattle.op_base.specs.declared.message.Entry.{Entry}
+use Rattle.causal_model.specs.Log.{message_of}
+use Rattle.polog.specs.Order.{Each, Pairwise, in_order, items_of}
+
+-- rows, with room for so many
+pub record Table : Type 0 where
+  pub room : ℕ
+  pub rows : List (ℕ × Entry)
+
+-- a table with other rows
+abbrev pub with_rows : Table → List (ℕ × Entry) → Table
+with_rows table rows = record { room = table.room; rows = rows }
+
+-- of two rows the first stands before the second: by object, and within an object by arrival; and they arrived apart
+abbrev pub StandsBefore : ℕ × Entry → ℕ × Entry → Type 0
+StandsBefore a b =
+    ((object_cmp a.1.update.object b.1.update.object ≡ Less) ⊎ ((object_cmp a.1.update.object b.1.update.object ≡ Equal) × (a.0 < b.0)))
+    × (a.0 ≢ b.0)
+
+-- each entry of a store of n members beside its number, side by side by object, each number below the next one
+pub record IsLaid (n next : ℕ) (rs : List (ℕ × Entry)) : Type 0 where
+  pub grouped : Pairwise StandsBefore rs
+  pub below : Each (λ r. r.0 < next) rs
+  pub fit : Each (λ r. IsTrue (fits n (message_of r.1))) rs
+
+-- the entries in the order of their arrival
+abbrev pub arrived : List (ℕ × Entry) → List Entry
+arrived rs = items_of (in_order rs)
+
+-- a place is that of the row with the least number of those that pass; there is none where none passes
+abbrev pub IsFirst : (ℕ × Entry → Bool) → List (ℕ × Entry) → Option ℕ → Type 0
+IsFirst passes rs None = Each (λ r. passes r ≡ false) rs
+IsFirst passes rs (Some place) =
+    (place < length rs) × ((d : ℕ × Entry) → passes (slice_index_or rs place d) ≡ true)
+    × ((d : ℕ × Entry) → Each (λ r. passes r ≡ true → (slice_index_or rs place d).0 ≤ r.0) rs)

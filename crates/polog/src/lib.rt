@@ -1,0 +1,17 @@
+//! The log of a replica: what is neither stable nor covered, grouped by object.
+//!
+//! That a log is pruned by what makes its entries redundant, and stripped of what is stable, is the partially ordered log
+//! of Baquero, Almeida and Shoker (arXiv 1710.04469).
+#![tactic(auto)]
+
+mod ids;
+mod laws;
+mod polog;
+mod rows;
+mod search;
+mod sweep;
+
+pub use laws::{
+    a_pruned_log_has_room, what_is_not_kept_changes_nothing, what_was_handed_out_is_gone,
+};
+pub use polog::Polog;

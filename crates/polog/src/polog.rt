@@ -1,0 +1,168 @@
+//! The log.
+
+ghost use Rattle.std.specs.Prelude.{◌≡◌, ℕ, ◌+◌, ◌*◌, ◌^◌, ◌<◌, ◌≤◌, Bool, not, List, [], ◌∷◌, ◌++◌, length, map, filter, IfOk, IsTrue, true, Some, None};
+ghost use Rattle.std.specs.List.{find, list_any};
+ghost use Rattle.std.specs.Ordering.{is_le};
+ghost use Rattle.op_base.specs.Message.{fits, id_of};
+ghost use Rattle.op_base.specs.Order.{object_cmp};
+ghost use Rattle.op_base.specs.declared.message.Entry.{Entry};
+ghost use Rattle.op_base.specs.declared.message.Message.{Message as AMessage};
+ghost use Rattle.op_base.specs.declared.name.ObjectId.{ObjectId};
+ghost use Rattle.op_base.specs.declared.operation.Update.{Update};
+ghost use Rattle.causal_model.specs.Chapter.{is_chapter};
+ghost use Rattle.causal_model.specs.Log.{is_kept, message_of};
+ghost use Rattle.causal_model.specs.Stability.{stable_vector};
+ghost use Rattle.polog.specs.Value.{Log, with_entries, with_entry, with_stripped, without_stable, without_first, is_settled, is_of, stays};
+ghost use Rattle.polog.specs.Order.{Pairwise};
+ghost use Rattle.polog.specs.Standing.{IsLogOf, IsPruned, IsLogged, IsStripped};
+
+use crate::ids::{numbered_ids, without_numbers};
+use crate::rows::Rows;
+use crate::search::{count_through, span, span_of};
+use crate::sweep::{first_settled, keep_unstable, move_tail, prune_span, sort};
+use causal_model::TypeRule;
+use op_base::{Entry, IdList, Message, NoMemory, ObjectId, Op, Tag};
+use std::alloc::Global;
+use std::marker::Model;
+
+/// A log with room for `n * w` entries, all of which `create` takes.
+#[derive(Debug, Drop)]
+pub struct Polog {
+    n: u8,
+    /// The number that the next entry gets.
+    next: u64,
+    /// Side by side by object, and within an object in the order of arrival. Of two entries that with the lesser number
+    /// arrived first.
+    rows: Rows,
+    /// What was stripped and waits to be handed out, the last to arrive first.
+    leaving: Vec<(u64, Entry)>,
+}
+
+impl Model for Polog {
+    ghost use Rattle.std.specs.Prelude.{◌≤◌, length, reverse, vec_capacity};
+    ghost use Rattle.polog.specs.Order.{items_of};
+    ghost use Rattle.polog.specs.Rows.{IsLaid, arrived};
+    ghost use Rattle.polog.specs.Value.{Log};
+
+    ghost Value = { Log };
+
+    ghost view = { λ p. record { n = p.n; room = p.rows.room; pushed = p.next; entries = arrived p.rows.rows; stripped = reverse (items_of p.leaving.items) } };
+
+    ghost invariant = { λ p. IsLaid p.n p.next p.rows.rows × (length p.rows.rows ≤ p.rows.room) × (p.rows.room ≤ vec_capacity p.leaving) };
+}
+
+impl Polog {
+    /// An empty log of a store of `n` members, with room for `w` entries of each. `NoMemory` leaves nothing behind.
+    pub fn create(alloc: Global, n: u8, w: u8) -> Result<Polog, NoMemory>
+        requires some { 1 ≤ n }
+        requires few { n ≤ 16 }
+        requires open { 1 ≤ w }
+        requires narrow { w ≤ 64 }
+        ensures empty { IfOk result (λ log. log ≡ record { n = n; room = n * w; pushed = 0; entries = []; stripped = [] }) }
+        ensures nothing { IfOk result (λ log. (keeps : Update → Bool) (covers : Update → Update → Bool) (me : ℕ) → IsLogOf keeps covers n me [] log) }
+    {
+        let room = usize::from(n) * usize::from(w);
+        Ok(Polog {
+            n,
+            next: 0,
+            rows: Rows::create(alloc, room)?,
+            leaving: Vec::with_capacity(alloc, room)?,
+        })
+    }
+
+    /// How many entries there are.
+    pub fn len(&self) -> usize
+        ensures { result ≡ length self.now.entries }
+    {
+        self.rows.len()
+    }
+
+    /// Takes out the entries that happened before a message and that it covers. It looks at those of the message's object
+    /// alone, and takes no memory.
+    pub fn prune<T: TypeRule>(&mut self, message: &Message, rule: &T)
+        requires fits { IsTrue (fits self.old.n message.now) }
+        ensures kept { self.new ≡ with_entries self.old (filter (stays (T.covers rule.now) message.now) self.old.entries) }
+        // where it was the log of what a member delivered, it is the same without what the message covers
+        ensures pruned { (keeps : Update → Bool) (n me : ℕ) (ms : List AMessage) → IsLogOf keeps (T.covers rule.now) n me ms self.old → IsPruned keeps (T.covers rule.now) n me ms message.now self.new }
+    {
+        if let Op::Update(update) = &message.op {
+            let (from, to) = span_of(self.rows.entries(), &update.object);
+            prune_span(&mut self.rows, from, to, message, rule);
+        }
+    }
+
+    /// Puts an entry at the end.
+    pub fn push(&mut self, entry: Entry)
+        requires fits { IsTrue (fits self.old.n (message_of entry)) }
+        requires room { length self.old.entries < self.old.room }
+        requires numbers { self.old.pushed + 1 < 2 ^ 64 }
+        ensures put { self.new ≡ with_entry self.old entry }
+        // where the log was pruned for the entry's message, the message is in it
+        ensures logged { (keeps : Update → Bool) (covers : Update → Update → Bool) (n me : ℕ) (ms : List AMessage) (m : AMessage) → message_of entry ≡ m → IsTrue (is_kept keeps m.op) → IsPruned keeps covers n me ms m self.old → IsLogged keeps covers n me ms m self.new }
+    {
+        let at = count_through(self.rows.entries(), &entry.update.object);
+        self.rows.insert(at, self.next, entry);
+        self.next += 1;
+    }
+
+    /// Takes out all entries that are stable where these are the stable counts, in one pass and one move of what stays. They
+    /// wait to be handed out by `next_stripped`.
+    pub fn strip(&mut self, stable: &Tag)
+        requires tag { length stable.now ≡ self.old.n }
+        requires handed_out { self.old.stripped ≡ [] }
+        ensures taken { self.new ≡ without_stable self.old stable.now }
+        // where the log had the last message that a member delivered, what is stable with it is taken out
+        ensures stripped { (keeps : Update → Bool) (covers : Update → Update → Bool) (n w me : ℕ) (ms : List AMessage) (m : AMessage) → me < n → IsTrue (is_chapter n w me (ms ++ m ∷ [])) → stable.now ≡ stable_vector n me (ms ++ m ∷ []) → IsLogged keeps covers n me ms m self.old → IsStripped keeps covers n me ms m self.new }
+    {
+        let kept = keep_unstable(&mut self.rows, stable);
+        move_tail(&mut self.rows, kept, &mut self.leaving);
+        sort(&mut self.leaving);
+        self.leaving.reverse();
+    }
+
+    /// Hands out the first entry, in history order, of those that were stripped. It is `None` exactly where none is left.
+    pub fn next_stripped(&mut self) -> Option<Entry>
+        ensures none { self.old.stripped ≡ [] → (result ≡ None) × (self.new ≡ self.old) }
+        ensures first { (e : Entry) (rest : List Entry) → self.old.stripped ≡ e ∷ rest → (result ≡ Some e) × (self.new ≡ with_stripped self.old rest) }
+    {
+        let (_, entry) = self.leaving.pop()?;
+        Some(entry)
+    }
+
+    /// Takes out the first entry, in history order, that is stable where these are the stable counts. It is `None` exactly
+    /// where none is.
+    pub fn strip_one(&mut self, stable: &Tag) -> Option<Entry>
+        requires { length stable.now ≡ self.old.n }
+        ensures taken { result ≡ find (is_settled stable.now) self.old.entries }
+        ensures others { self.new ≡ with_entries self.old (without_first (is_settled stable.now) self.old.entries) }
+    {
+        let at = first_settled(&self.rows, stable)?;
+        Some(self.rows.remove(at))
+    }
+
+    /// The ids of all entries, in history order. `NoMemory` leaves nothing behind.
+    pub fn ids(&self, alloc: Global) -> Result<IdList, NoMemory>
+        ensures { IfOk result (λ ids. ids ≡ map (λ e. id_of (message_of e)) self.now.entries) }
+    {
+        let mut numbered = numbered_ids(&self.rows, alloc)?;
+        sort(&mut numbered);
+        without_numbers(&numbered, alloc)
+    }
+
+    /// The entries of an object, in history order.
+    pub fn of_object(&self, object: &ObjectId) -> &[Entry]
+        ensures { result.now ≡ filter (is_of object.now) self.now.entries }
+    {
+        span(self.rows.entries(), object)
+    }
+
+    /// Every entry once, side by side by object in the order of objects, and those of one object in history order.
+    pub fn grouped(&self) -> &[Entry]
+        ensures members { (object : ObjectId) → filter (is_of object) result.now ≡ filter (is_of object) self.now.entries }
+        ensures count { length result.now ≡ length self.now.entries }
+        ensures any { (passes : Entry → Bool) → list_any passes result.now ≡ list_any passes self.now.entries }
+        ensures by_object { Pairwise (λ a b. is_le (object_cmp a.update.object b.update.object) ≡ true) result.now }
+    {
+        self.rows.entries()
+    }
+}

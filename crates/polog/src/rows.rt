@@ -1,0 +1,128 @@
+//! Entries beside the numbers of their arrival.
+
+ghost use Rattle.std.specs.Prelude.{◌≡◌, ◌<◌, ◌≤◌, ℕ, [], ◌∷◌, ◌++◌, length, take, drop, slice_index_or, IfOk, IfNone};
+ghost use Rattle.std.specs.List.{insert, remove, swap};
+ghost use Rattle.std.specs.Option.{option_to_list};
+ghost use Rattle.op_base.specs.declared.message.Entry.{Entry};
+ghost use Rattle.polog.specs.Order.{items_of};
+ghost use Rattle.polog.specs.Rows.{Table, with_rows};
+
+use op_base::{Entry, NoMemory};
+use std::alloc::Global;
+use std::marker::Model;
+
+/// Rows of a number and an entry, with room for so many, all of which `create` takes. The entries stand side by side in
+/// memory, so that some of them can be lent as a slice.
+#[derive(Debug, Drop)]
+pub struct Rows {
+    room: usize,
+    entries: Vec<Entry>,
+    /// The number of each entry.
+    numbers: Vec<u64>,
+}
+
+impl Model for Rows {
+    ghost use Rattle.std.specs.Prelude.{◌≡◌, ◌≤◌, length, vec_capacity};
+    ghost use Rattle.polog.specs.Order.{rows};
+    ghost use Rattle.polog.specs.Rows.{Table};
+
+    ghost Value = { Table };
+
+    ghost view = { λ t. record { room = t.room; rows = rows t.numbers.items t.entries.items } };
+
+    ghost invariant = { λ t. (length t.numbers.items ≡ length t.entries.items)
+        × (t.room ≤ vec_capacity t.entries) × (t.room ≤ vec_capacity t.numbers) };
+}
+
+impl Rows {
+    /// No rows, with room for so many.
+    pub fn create(alloc: Global, room: usize) -> Result<Rows, NoMemory>
+        ensures { IfOk result (λ t. t ≡ record { room = room; rows = [] }) }
+    {
+        Ok(Rows {
+            room,
+            entries: Vec::with_capacity(alloc, room)?,
+            numbers: Vec::with_capacity(alloc, room)?,
+        })
+    }
+
+    /// How many rows there are.
+    pub fn len(&self) -> usize
+        ensures { result ≡ length self.now.rows }
+    {
+        self.entries.len()
+    }
+
+    /// The entries, row by row.
+    pub fn entries(&self) -> &[Entry]
+        ensures { result.now ≡ items_of self.now.rows }
+    {
+        &self.entries
+    }
+
+    /// The entry of a row.
+    pub fn entry(&self, at: usize) -> &Entry
+        requires { at < length self.now.rows }
+        ensures { (d : ℕ × Entry) → result.now ≡ (slice_index_or self.now.rows at d).1 }
+    {
+        &self.entries[at]
+    }
+
+    /// The number of a row.
+    pub fn number(&self, at: usize) -> u64
+        requires { at < length self.now.rows }
+        ensures { (d : ℕ × Entry) → result ≡ (slice_index_or self.now.rows at d).0 }
+    {
+        self.numbers[at]
+    }
+
+    /// Puts a row in at a place.
+    pub fn insert(&mut self, at: usize, number: u64, entry: Entry)
+        requires place { at ≤ length self.old.rows }
+        requires room { length self.old.rows < self.old.room }
+        ensures { self.new ≡ with_rows self.old (insert self.old.rows at (number, entry)) }
+    {
+        // There is room for both, so this needs no memory.
+        self.entries.insert(at, entry).unwrap();
+        self.numbers.insert(at, number).unwrap();
+    }
+
+    /// Exchanges two rows.
+    pub fn swap(&mut self, a: usize, b: usize)
+        requires first { a < length self.old.rows }
+        requires second { b < length self.old.rows }
+        ensures { self.new ≡ with_rows self.old (swap self.old.rows a b) }
+    {
+        self.entries.swap(a, b);
+        self.numbers.swap(a, b);
+    }
+
+    /// Lets go of the rows from one place up to another.
+    pub fn cut(&mut self, from: usize, to: usize)
+        requires order { from ≤ to }
+        requires places { to ≤ length self.old.rows }
+        ensures { self.new ≡ with_rows self.old (take from self.old.rows ++ drop to self.old.rows) }
+    {
+        drop(self.entries.drain(from..to));
+        drop(self.numbers.drain(from..to));
+    }
+
+    /// Takes out a row, and hands out its entry.
+    pub fn remove(&mut self, at: usize) -> Entry
+        requires { at < length self.old.rows }
+        ensures entry { (d : ℕ × Entry) → result ≡ (slice_index_or self.old.rows at d).1 }
+        ensures others { self.new ≡ with_rows self.old (remove self.old.rows at) }
+    {
+        self.numbers.remove(at);
+        self.entries.remove(at)
+    }
+
+    /// Takes out the last row. It is `None` exactly where there is no row.
+    pub fn pop(&mut self) -> Option<(u64, Entry)>
+        ensures none { IfNone result (self.old.rows ≡ []) }
+        ensures room { self.new.room ≡ self.old.room }
+        ensures rows { self.old.rows ≡ self.new.rows ++ option_to_list result }
+    {
+        Some((self.numbers.pop()?, self.entries.pop()?))
+    }
+}
