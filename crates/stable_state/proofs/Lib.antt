@@ -1,0 +1,4 @@
+pub mod Filters
+pub mod Slots
+pub mod Places
+pub mod Ordered

@@ -1,0 +1,228 @@
+-- Slots in order while an item is put in, some are let go, or one gets another cell.
+use Rattle.std.proofs.Common.{◌≡◌, ◌≢◌, ◌⊎◌, ℕ, zero, suc, ◌+◌, ◌<◌, ◌≤◌, Bool, true, false, All, Contains, List, [], ◌∷◌, ◌++◌, length, take, drop, get_or, set, cond, refl, sym, ap, subst, ◌∙◌, inl, inr, length-drop, length-append, length-take-le, drop-cons, arith}
+use Rattle.std.specs.Prelude.{Option, Some, None, unwrap_or, is_some, IsTrue, slice_range}
+use Rattle.std.specs.List.{filter, insert, remove, remove_range}
+use Rattle.std.proofs.lemmas.Bool.{cases_eq, cases_lt}
+use Rattle.std.proofs.lemmas.List.{length-map, get_or_default, get_or-take, get_or-drop, take-map, drop-map, map-append, set_split, length-set, take-append-drop, get_or-set_same, get_or-set_other, get_or_past}
+use Rattle.std.proofs.lemmas.List.Edits.{length-insert, length-between, get_or-between}
+use Rattle.std.proofs.lemmas.List.Elements.{All-append, All-cons, All-take, All-drop, All-set}
+use Rattle.std.proofs.lemmas.List.Sums.{sum_by-set}
+use Rattle.op_base.specs.Order.{item_cmp}
+use Rattle.op_base.specs.declared.outcome.Cell.{Cell}
+use Rattle.op_base.specs.declared.outcome.Item.{Item}
+use Rattle.causal_model.specs.Items.{is_filled, Rise}
+use Rattle.causal_model.proofs.Elements.{AllPairs-append}
+use Rattle.slab.specs.Slab.{Slab, get, ContainsKey, slab_len, with_value, Updates}
+use Rattle.stable_state.specs.Places.{marked_of, with_cell}
+use Rattle.stable_state.specs.Slots.{no_item, item_in, items_in, is_marked, IsOrdered}
+use Rattle.stable_state.proofs.Filters.{filter-map, filter_same, passing, filter-insert, filter-remove_range, filter_stays, filter_gains, filter_loses}
+use Rattle.stable_state.proofs.Places.{IsLess, AllPairs-take, AllPairs-drop}
+use Rattle.stable_state.proofs.Slots.{IsKept, items_kept, marks_agree, held_kept, item_is, item_at_place, slots_apart, items_in-insert, items_in-remove_range}
+
+-- more room changes nothing else
+pub more_room : (old new : Slab Item) (order order' marked marked' : List ℕ) → new ≡ record old { capacity = new.capacity } → order' ≡ order → marked' ≡ marked → IsOrdered old order marked → IsOrdered new order' marked'
+more_room old new order order' marked marked' is order_is marked_is ordered =
+    subst (λ slots. IsOrdered slots order' marked') (sym is) (subst (λ xs. IsOrdered (record old { capacity = new.capacity }) xs marked') (sym order_is) (subst (IsOrdered (record old { capacity = new.capacity }) order) (sym marked_is)
+    (record { held = ordered.held; counted = ordered.counted; rise = ordered.rise; filled = ordered.filled; marks = ordered.marks })))
+
+-- how many of the first items have an off mark, by their slots
+pub marks_in_front : (slots : Slab Item) (order : List ℕ) (items : List Item) (place : ℕ) → items_in slots order ≡ items → length (marked_of (take place items)) ≡ passing (is_marked slots) place order
+marks_in_front slots order items place is =
+    ap (λ xs. length (marked_of (take place xs))) (sym is)
+    ∙ ap (λ xs. length (marked_of xs)) (take-map (item_in slots) place order)
+    ∙ ap length (filter-map (item_in slots) (λ item. item.cell.off) (take place order))
+    ∙ length-map (filter (is_marked slots) (take place order)) (item_in slots)
+
+-- ---- an item is put into a slot that had none
+
+module _ (old new : Slab Item) (order marked : List ℕ) (place slot : ℕ) (item : Item) (ordered : IsOrdered old order marked) (within : place ≤ length order) (vacant : get old slot ≡ None) (changes : Updates old new slot (Some item)) where
+  kept : All (IsKept old new) order
+  kept k d l = changes.others (get_or order k d) (λ same. differ (ordered.held k d l) (ap is_some (ap (get old) same ∙ vacant))) where
+    differ : {b : Bool} → b ≡ true → b ≡ false → ⊥
+    differ t f = cc
+
+  pub items-insert : items_in new (insert order place slot) ≡ insert (items_in old order) place item
+  items-insert = items_in-insert new order place slot ∙ (λ i. insert (items_kept old new order kept i) place (item_is new slot item changes.changed i))
+
+  marks-insert : filter (is_marked new) (insert order place slot) ≡ cond item.cell.off (insert marked (passing (is_marked old) place order) slot) marked
+  marks-insert =
+      let agree = marks_agree old new order kept in
+      let same : filter (is_marked new) order ≡ marked = filter_same (is_marked new) (is_marked old) order agree ∙ sym ordered.marks in
+      let front : passing (is_marked new) place order ≡ passing (is_marked old) place order = ap length (filter_same (is_marked new) (is_marked old) (take place order) (All-take (λ s. is_marked new s ≡ is_marked old s) place order agree)) in
+      let off : is_marked new slot ≡ item.cell.off = ap (λ o. (unwrap_or o no_item).cell.off) changes.changed in
+      filter-insert (is_marked new) place order slot ∙ (λ i. cond (off i) (insert (same i) (front i) slot) (same i))
+
+  pub ordered-insert : (marked' : List ℕ) → slab_len new ≡ slab_len old + 1 → IsTrue (is_filled item.cell) → Rise (insert (items_in old order) place item)
+      → marked' ≡ cond item.cell.off (insert marked (passing (is_marked old) place order) slot) marked → IsOrdered new (insert order place slot) marked'
+  ordered-insert marked' len filled rise marks =
+      let held = held_kept old new order kept ordered.held in
+      record {
+        held = All-append (ContainsKey new) (take place order) (slot ∷ drop place order) (All-take (ContainsKey new) place order held) (All-cons (ContainsKey new) slot (drop place order) (ap is_some changes.changed) (All-drop (ContainsKey new) place order held));
+        counted = omega (arith, len, ordered.counted, length-insert order place slot within);
+        rise = subst Rise (sym items-insert) rise;
+        filled =
+            let P = λ (x : Item). IsTrue (is_filled x.cell) in
+            let items = items_in old order in
+            subst (All P) (sym items-insert) (All-append P (take place items) (item ∷ drop place items) (All-take P place items ordered.filled) (All-cons P item (drop place items) filled (All-drop P place items ordered.filled)));
+        marks = marks ∙ sym marks-insert;
+      }
+
+-- ---- some items are let go
+
+module _ (old new : Slab Item) (order marked : List ℕ) (from to : ℕ) (ordered : IsOrdered old order marked) (le : from ≤ to) (within : to ≤ length order)
+    (others : (slot : ℕ) → (Contains (slice_range order from to) slot → ⊥) → get new slot ≡ get old slot) where
+  -- a slot of the order that stands elsewhere than in the span isn't in it
+  away : (k d : ℕ) → k < length order → ((k < from) ⊎ (to ≤ k)) → IsKept old new (get_or order k d)
+  away k d l where_is = others (get_or order k d) (λ found.
+      let slot = get_or order k d in
+      let j = found.0 in
+      let apart = slots_apart old order ordered.rise in
+      let inside : from + j < to = omega (arith, found.1, length-between order from to within) in
+      let at : get_or order (from + j) slot ≡ slot = sym (get_or-between order from to j slot inside) ∙ found.2 in
+      let here : get_or order k slot ≡ slot = get_or_default order k slot d l in
+      elim where_is [
+        | inl before ↦ apart k (from + j) slot (omega (arith, before)) (omega (arith, inside, within)) (here ∙ sym at)
+        | inr after ↦ apart (from + j) k slot (omega (arith, inside, after)) l (at ∙ sym here)
+      ])
+
+  others_kept : All (IsKept old new) (remove_range order from to)
+  others_kept = All-append (IsKept old new) (take from order) (drop to order) (λ k d l.
+      let below : k < from = omega (arith, l, length-take-le from order (omega (arith, le, within))) in
+      subst (IsKept old new) (sym (get_or-take from order k d below)) (away k d (omega (arith, below, le, within)) (inl below))) (λ k d l.
+      subst (IsKept old new) (sym (get_or-drop to order k d)) (away (to + k) d (omega (arith, l, length-drop to order)) (inr (omega arith))))
+
+  pub items-remove : items_in new (remove_range order from to) ≡ remove_range (items_in old order) from to
+  items-remove = items_kept old new (remove_range order from to) others_kept ∙ items_in-remove_range old order from to
+
+  pub ordered-remove : slab_len new + length (slice_range order from to) ≡ slab_len old → IsOrdered new (remove_range order from to) (remove_range marked (passing (is_marked old) from order) (passing (is_marked old) to order))
+  ordered-remove len =
+      let items = items_in old order in
+      let P = λ (x : Item). IsTrue (is_filled x.cell) in
+      let long : length items ≡ length order = length-map order (item_in old) in
+      record {
+        held = held_kept old new (remove_range order from to) others_kept (All-append (ContainsKey old) (take from order) (drop to order) (All-take (ContainsKey old) from order ordered.held) (All-drop (ContainsKey old) to order ordered.held));
+        counted = omega (arith, len, le, within, ordered.counted, length-between order from to within, length-append (take from order) (drop to order), length-take-le from order (omega (arith, le, within)), length-drop to order);
+        rise = subst Rise (sym items-remove) (AllPairs-append IsLess (take from items) (drop to items) (AllPairs-take IsLess from items (omega (arith, le, within, long)) ordered.rise) (AllPairs-drop IsLess to items ordered.rise) (λ k d l j e m.
+            let below : k < from = omega (arith, l, length-take-le from items (omega (arith, le, within, long))) in
+            let past : to + j < length items = omega (arith, m, length-drop to items) in
+            subst (λ y. IsLess y (get_or (drop to items) j e)) (sym (get_or-take from items k d below ∙ get_or_default items k d e (omega (arith, below, le, within, long))))
+            (subst (IsLess (get_or items k e)) (sym (get_or-drop to items j e)) (ordered.rise k (to + j) e (omega (arith, below, le)) past))));
+        filled = subst (All P) (sym items-remove) (All-append P (take from items) (drop to items) (All-take P from items ordered.filled) (All-drop P to items ordered.filled));
+        marks =
+            (λ i. remove_range (ordered.marks i) (passing (is_marked old) from order) (passing (is_marked old) to order))
+            ∙ sym (filter_same (is_marked new) (is_marked old) (remove_range order from to) (marks_agree old new (remove_range order from to) others_kept) ∙ filter-remove_range (is_marked old) from to order);
+      }
+
+-- ---- an item gets another cell
+
+with_cell_set : (place : ℕ) (cell : Cell) (items : List Item) (d : Item) → with_cell place cell items ≡ set items place (record (get_or items place d) { cell = cell })
+with_cell_set place cell [] d = refl
+with_cell_set zero cell (item ∷ items) d = refl
+with_cell_set (suc place) cell (item ∷ items) d = ap (λ xs. item ∷ xs) (with_cell_set place cell items d)
+
+-- the items are of the same objects and values
+with_cell_names : (place : ℕ) (cell : Cell) (items : List Item) (k : ℕ) (d : Item) → ((get_or (with_cell place cell items) k d).object ≡ (get_or items k d).object) × ((get_or (with_cell place cell items) k d).value ≡ (get_or items k d).value)
+with_cell_names place cell [] k d = (refl, refl)
+with_cell_names zero cell (item ∷ items) zero d = (refl, refl)
+with_cell_names zero cell (item ∷ items) (suc k) d = (refl, refl)
+with_cell_names (suc place) cell (item ∷ items) zero d = (refl, refl)
+with_cell_names (suc place) cell (item ∷ items) (suc k) d = with_cell_names place cell items k d
+
+rise-with_cell : (place : ℕ) (cell : Cell) (items : List Item) → Rise items → Rise (with_cell place cell items)
+rise-with_cell place cell items rise i j d less within =
+    let x = with_cell_names place cell items i d in
+    let y = with_cell_names place cell items j d in
+    let long : length (with_cell place cell items) ≡ length items = ap length (with_cell_set place cell items d) ∙ length-set items place (record (get_or items place d) { cell = cell }) in
+    (λ t. item_cmp (x.0 t) (x.1 t) (y.0 t) (y.1 t)) ∙ rise i j d less (omega (arith, within, long))
+
+module _ (old : Slab Item) (order marked : List ℕ) (place slot : ℕ) (cell : Cell) (ordered : IsOrdered old order marked) (within : place < length order) (at : get_or order place slot ≡ slot) where
+  abbrev pub changed : Item
+  changed = record (item_in old slot) { cell = cell }
+
+  abbrev pub written : Slab Item
+  written = with_value old slot changed
+
+  here : ContainsKey old slot
+  here = subst (ContainsKey old) at (ordered.held place slot within)
+
+  bound : slot < length old.slots
+  bound = elim (cases_lt slot (length old.slots)) [
+    | inl less ↦ less
+    | inr past ↦ absurd (differ here (ap is_some (get_or_past old.slots slot None past)))
+  ] where
+    differ : {b : Bool} → b ≡ true → b ≡ false → ⊥
+    differ t f = cc
+
+  found : get written slot ≡ Some changed
+  found = get_or-set_same old.slots slot (Some changed) None bound
+
+  elsewhere : (other : ℕ) → other ≢ slot → IsKept old written other
+  elsewhere other ne = get_or-set_other old.slots slot other (Some changed) None ne
+
+  not_here : (k d : ℕ) → k < length order → k ≢ place → IsKept old written (get_or order k d)
+  not_here k d l ne = elsewhere (get_or order k d) (λ same.
+      let apart = slots_apart old order ordered.rise in
+      let is : get_or order k slot ≡ slot = get_or_default order k slot d l ∙ same in
+      elim (cases_lt k place) [
+        | inl before ↦ apart k place slot before within (is ∙ sym at)
+        | inr past ↦ apart place k slot (omega (arith, past, ne)) l (at ∙ sym is)
+      ])
+
+  first : All (IsKept old written) (take place order)
+  first k d l =
+      let below : k < place = omega (arith, l, length-take-le place order (omega (arith, within))) in
+      subst (IsKept old written) (sym (get_or-take place order k d below)) (not_here k d (omega (arith, below, within)) (omega (arith, below)))
+
+  last : All (IsKept old written) (drop (suc place) order)
+  last k d l = subst (IsKept old written) (sym (get_or-drop (suc place) order k d)) (not_here (suc place + k) d (omega (arith, l, length-drop (suc place) order)) (omega arith))
+
+  pub items-write : items_in written order ≡ with_cell place cell (items_in old order)
+  items-write =
+      let items = items_in old order in
+      let rest = drop (suc place) order in
+      let split : order ≡ take place order ++ slot ∷ rest = sym (take-append-drop place order) ∙ ap (λ xs. take place order ++ xs) (drop-cons order place slot within) ∙ ap (λ s. take place order ++ s ∷ rest) at in
+      let was : get_or items place no_item ≡ item_in old slot = item_at_place old order place slot no_item within ∙ ap (item_in old) at in
+      ap (items_in written) split ∙ map-append (item_in written) (take place order) (slot ∷ rest)
+      ∙ (λ i. items_kept old written (take place order) first i ++ item_is written slot changed found i ∷ items_kept old written rest last i)
+      ∙ (λ i. sym (take-map (item_in old) place order) i ++ changed ∷ sym (drop-map (item_in old) (suc place) order) i)
+      ∙ sym (set_split items place changed (omega (arith, within, length-map order (item_in old))))
+      ∙ ap (λ item. set items place (record item { cell = cell })) (sym was) ∙ sym (with_cell_set place cell items no_item)
+
+  is_now : is_marked written (get_or order place slot) ≡ cell.off
+  is_now = ap (is_marked written) at ∙ ap (λ o. (unwrap_or o no_item).cell.off) found
+
+  pub marks_stay : (item_in old slot).cell.off ≡ cell.off → marked ≡ filter (is_marked written) order
+  marks_stay same =
+      ordered.marks ∙ sym (filter_stays (is_marked old) (is_marked written) place order slot within (marks_agree old written (take place order) first) (marks_agree old written (drop (suc place) order) last)
+      (is_now ∙ sym same ∙ ap (is_marked old) (sym at)))
+
+  pub marks_gain : (item_in old slot).cell.off ≡ false → cell.off ≡ true → insert marked (passing (is_marked old) place order) slot ≡ filter (is_marked written) order
+  marks_gain was is =
+      (λ i. insert (ordered.marks i) (passing (is_marked old) place order) (sym at i))
+      ∙ sym (filter_gains (is_marked old) (is_marked written) place order slot within (marks_agree old written (take place order) first) (marks_agree old written (drop (suc place) order) last) (ap (is_marked old) at ∙ was) (is_now ∙ is))
+
+  pub marks_lose : (item_in old slot).cell.off ≡ true → cell.off ≡ false → remove marked (passing (is_marked old) place order) ≡ filter (is_marked written) order
+  marks_lose was is =
+      (λ i. remove (ordered.marks i) (passing (is_marked old) place order))
+      ∙ sym (filter_loses (is_marked old) (is_marked written) place order slot within (marks_agree old written (take place order) first) (marks_agree old written (drop (suc place) order) last) (ap (is_marked old) at ∙ was) (is_now ∙ is))
+
+  pub len-write : slab_len written ≡ slab_len old
+  len-write =
+      let one : Option Item → ℕ = λ o. cond (is_some o) 1 0 in
+      let had : one (get old slot) ≡ 1 = ap (λ b. cond b 1 0) here in
+      omega (arith, sum_by-set one old.slots slot (Some changed) None bound, had)
+
+  pub ordered-write : (marked' : List ℕ) → IsTrue (is_filled cell) → marked' ≡ filter (is_marked written) order → IsOrdered written order marked'
+  ordered-write marked' filled marks =
+      let items = items_in old order in
+      let P = λ (x : Item). IsTrue (is_filled x.cell) in
+      record {
+        held = λ k d l. elim (cases_eq (get_or order k d) slot) [
+          | inl same ↦ subst (ContainsKey written) (sym same) (ap is_some found)
+          | inr ne ↦ ap is_some (elsewhere (get_or order k d) ne) ∙ ordered.held k d l
+        ];
+        counted = len-write ∙ ordered.counted;
+        rise = subst Rise (sym items-write) (rise-with_cell place cell items ordered.rise);
+        filled = subst (All P) (sym (items-write ∙ with_cell_set place cell items no_item)) (All-set P items place (record (get_or items place no_item) { cell = cell }) filled ordered.filled);
+        marks = marks;
+      }

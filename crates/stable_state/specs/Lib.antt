@@ -1,0 +1,5 @@
+pub mod Shelf
+pub mod Slots
+pub mod Places
+pub mod Fields
+pub mod Standing

@@ -1,0 +1,16 @@
+-- Items in their one order, with how many more there is room for.
+use Rattle.std.specs.Prelude.{ℕ, List, ◌∷◌, ◌++◌, take, drop}
+use Rattle.op_base.specs.declared.outcome.Item.{Item}
+
+-- items, lowest first, and how many more can be put among them without memory
+pub record Shelved : Type 0 where
+  pub items : List Item
+  pub spare : ℕ
+
+-- the items with one put at a place
+abbrev pub put_at : ℕ → Item → List Item → List Item
+put_at place item items = take place items ++ item ∷ drop place items
+
+-- the items without those at places from the first up to the second
+abbrev pub without_span : ℕ → ℕ → List Item → List Item
+without_span from to items = take from items ++ drop to items

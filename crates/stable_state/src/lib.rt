@@ -1,0 +1,4 @@
+//! Settled items, in their one order.
+#![tactic(auto)]
+
+mod shelf;

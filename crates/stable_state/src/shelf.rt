@@ -1,0 +1,272 @@
+//! Settled items in their one order, in slots that don't move.
+//!
+//! An index in order over records that stay where they are is a textbook rule.
+
+ghost use Rattle.std.specs.Prelude.{◌≡◌, ◌≢◌, ℕ, ◌+◌, ◌-◌, ◌<◌, ◌≤◌, true, false, [], length, take, drop, map, insert, remove, slice_get, slice_set, filter, Some, IsTrue, IfOk, IfErr, OnOk, All, AllPairs, Contains, HoldsAt, option_copied, vec_len, vec_capacity};
+ghost use Rattle.std.specs.List.{AllWithin, remove_range};
+ghost use Rattle.std.specs.List.Sorted.{IsPartitionPoint};
+ghost use Rattle.causal_model.specs.Items.{is_at, is_filled, Rise};
+ghost use Rattle.op_base.specs.declared.outcome.Item.{Item};
+ghost use Rattle.slab.specs.Slab.{get, ContainsKey, slab_len, with_value};
+ghost use Rattle.stable_state.specs.Shelf.{put_at, without_span};
+ghost use Rattle.stable_state.specs.Slots.{items_in};
+ghost use Rattle.stable_state.specs.Places.{is_before, is_up_to, marked_of, with_cell, IsGapFor, IsSpan};
+
+use op_base::{Cell, Item, NoMemory, ObjectId, Value, item_order};
+use slab::Slab;
+use std::alloc::Global;
+use std::marker::Model;
+
+/// Settled items in their one order. Each stands in a slot that doesn't move, and lists of slots have the order.
+/// Contracts see the items, and how many more can be put among them without memory. `reserve` alone takes memory.
+#[derive(Drop)]
+pub struct Shelf {
+    slots: Slab<Item>,
+    // The slots of the items, lowest item first.
+    order: Vec<usize>,
+    // The slots of the items whose cell has an off mark, in the same order.
+    marked: Vec<usize>,
+}
+
+impl Model for Shelf {
+    ghost use Rattle.stable_state.specs.Shelf.{Shelved};
+
+    ghost Value = { Shelved };
+
+    ghost use Rattle.stable_state.specs.Fields.{shelved, IsShelved};
+
+    ghost view = { shelved };
+
+    ghost invariant = { IsShelved };
+}
+
+impl Shelf {
+    /// A shelf with no items and no room. It takes no memory.
+    pub fn new(alloc: Global) -> Shelf
+        ensures { result ≡ record { items = []; spare = 0 } }
+    {
+        Shelf {
+            slots: Slab::new(alloc),
+            order: Vec::new(alloc),
+            marked: Vec::new(alloc),
+        }
+    }
+
+    /// Takes room for `k` items more. `NoMemory` leaves the items and the room as they were, or more room.
+    pub fn reserve(&mut self, k: usize) -> Result<(), NoMemory>
+        ensures room { OnOk result (k ≤ self.new.spare) }
+        ensures items { self.new.items ≡ self.old.items }
+        ensures spare { self.old.spare ≤ self.new.spare }
+    {
+        self.slots.reserve(k)?;
+        self.order.reserve(k)?;
+        self.marked.reserve(k)?;
+        Ok(())
+    }
+
+    /// How many items there are.
+    pub fn len(&self) -> usize
+        ensures length { result ≡ length self.now.items }
+        ensures rise { Rise self.now.items }
+        ensures filled { All (λ item. IsTrue (is_filled item.cell)) self.now.items }
+    {
+        self.order.len()
+    }
+
+    /// The item at a place, counted from 0.
+    pub fn at(&self, place: usize) -> &Item
+        requires { place < length self.now.items }
+        ensures { slice_get self.now.items place ≡ Some result.now }
+    {
+        &self.slots[self.order[place]]
+    }
+
+    /// The place of the item of an object and a value, or `Err` with the place where it would stand.
+    pub fn find(&self, object: &ObjectId, value: Option<&Value>) -> Result<usize, usize>
+        ensures within { IfOk result (λ place. place < length self.now.items) }
+        ensures found { IfOk result (HoldsAt (λ item. is_at object.now (option_copied value.entry) item ≡ true) self.now.items) }
+        ensures absent { IfErr result (IsGapFor object.now (option_copied value.entry) self.now.items) }
+        ensures rises { IfErr result (λ place. (item : Item) → item.object ≡ object.now → item.value ≡ option_copied value.entry → Rise (put_at place item self.now.items)) }
+    {
+        let place = place_of(&self.slots, self.order.as_slice(), object, value);
+        if place < self.len() && is_of(self.at(place), object, value) {
+            Ok(place)
+        } else {
+            Err(place)
+        }
+    }
+
+    /// The places of an object's items: the first, and the one behind the last.
+    pub fn span(&self, object: &ObjectId) -> (usize, usize)
+        ensures { IsSpan object.now self.now.items result.0 result.1 }
+    {
+        (
+            place_of(&self.slots, self.order.as_slice(), object, None),
+            place_behind(&self.slots, self.order.as_slice(), object),
+        )
+    }
+
+    /// Puts an item at its place among the others. It takes no memory.
+    pub fn insert(&mut self, place: usize, item: Item)
+        requires spare { 1 ≤ self.old.spare }
+        requires within { place ≤ length self.old.items }
+        requires filled { IsTrue (is_filled item.cell) }
+        requires rise { Rise (put_at place item self.old.items) }
+        ensures items { self.new.items ≡ put_at place item self.old.items }
+        ensures spare { self.old.spare ≤ self.new.spare + 1 }
+    {
+        let slot = self.slots.vacant_key();
+        if item.cell.off {
+            let mark = self.marks_before(place);
+            put(&mut self.marked, mark, slot);
+        }
+        put(&mut self.order, place, slot);
+        self.slots.insert_reserved(item);
+    }
+
+    /// Lets the items go that stand at places from the first up to, and not with, the second. The others keep their
+    /// order, and are moved once.
+    pub fn remove_span(&mut self, from: usize, to: usize)
+        requires ordered { from ≤ to }
+        requires within { to ≤ length self.old.items }
+        ensures items { self.new.items ≡ without_span from to self.old.items }
+        ensures spare { self.old.spare ≤ self.new.spare }
+    {
+        let first_mark = self.marks_before(from);
+        let last_mark = self.marks_before(to);
+        empty_slots(&mut self.slots, &self.order[from..to]);
+        cut(&mut self.order, from, to);
+        cut(&mut self.marked, first_mark, last_mark);
+    }
+
+    /// Gives the item at a place another cell. It takes no memory.
+    pub fn set_cell(&mut self, place: usize, cell: Cell)
+        requires within { place < length self.old.items }
+        requires filled { IsTrue (is_filled cell) }
+        requires spare { IsTrue cell.off → 1 ≤ self.old.spare }
+        ensures items { self.new.items ≡ with_cell place cell self.old.items }
+        ensures spare { self.old.spare ≤ self.new.spare + 1 }
+        ensures kept { cell.off ≡ false → self.old.spare ≤ self.new.spare }
+    {
+        let slot = self.order[place];
+        if self.slots[slot].cell.off != cell.off {
+            let mark = self.marks_before(place);
+            if cell.off {
+                put(&mut self.marked, mark, slot);
+            } else {
+                self.marked.remove(mark);
+            }
+        }
+        write_cell(&mut self.slots, slot, cell);
+    }
+
+    /// How many items have an off mark in their cell.
+    pub fn marked_len(&self) -> usize
+        ensures { result ≡ length (marked_of self.now.items) }
+    {
+        self.marked.len()
+    }
+
+    /// One of the items with an off mark, counted from 0 in the order of items.
+    pub fn marked_at(&self, k: usize) -> &Item
+        requires { k < length (marked_of self.now.items) }
+        ensures { slice_get (marked_of self.now.items) k ≡ Some result.now }
+    {
+        &self.slots[self.marked[k]]
+    }
+
+    /// How many of the items before a place have an off mark.
+    fn marks_before(&self, place: usize) -> usize
+        requires { place ≤ length self.now.items }
+        ensures { result ≡ length (marked_of (take place self.now.items)) }
+    {
+        if place == self.len() {
+            return self.marked_len();
+        }
+        let item = self.at(place);
+        place_of(
+            &self.slots,
+            self.marked.as_slice(),
+            &item.object,
+            item.value.as_ref(),
+        )
+    }
+}
+
+/// Whether an item is of an object and a value.
+fn is_of(item: &Item, object: &ObjectId, value: Option<&Value>) -> bool
+    ensures { result ≡ is_at object.now (option_copied value.entry) item.now }
+{
+    item_order(&item.object, item.value.as_ref(), object, value).is_eq()
+}
+
+/// How many of the items in slots are before an object and a value. The items rise.
+fn place_of(slots: &Slab<Item>, order: &[usize], object: &ObjectId, value: Option<&Value>) -> usize
+    requires held { All (ContainsKey slots.now) order.now }
+    requires rise { Rise (items_in slots.now order.now) }
+    ensures within { result ≤ length order.now }
+    ensures place { IsPartitionPoint (λ item. is_before object.now (option_copied value.entry) item ≡ true) (λ item. is_before object.now (option_copied value.entry) item ≡ false) (items_in slots.now order.now) result }
+{
+    order.partition_point(|slot| match slots.get(*slot) {
+        Some(item) => item_order(&item.object, item.value.as_ref(), object, value).is_lt(),
+        None => false,
+    })
+}
+
+/// How many of the items in slots are of an object, or of one before it. The items rise.
+fn place_behind(slots: &Slab<Item>, order: &[usize], object: &ObjectId) -> usize
+    requires held { All (ContainsKey slots.now) order.now }
+    requires rise { Rise (items_in slots.now order.now) }
+    ensures within { result ≤ length order.now }
+    ensures place { IsPartitionPoint (λ item. is_up_to object.now item ≡ true) (λ item. is_up_to object.now item ≡ false) (items_in slots.now order.now) result }
+{
+    order.partition_point(|slot| match slots.get(*slot) {
+        Some(item) => item.object <= *object,
+        None => false,
+    })
+}
+
+/// Puts a slot into a list that has room for it.
+fn put(list: &mut Vec<usize>, place: usize, slot: usize)
+    requires within { place ≤ vec_len list.old }
+    requires room { vec_len list.old < vec_capacity list.old }
+    ensures items { list.new.items ≡ insert list.old.items place slot }
+    ensures len { vec_len list.new ≡ vec_len list.old + 1 }
+    ensures capacity { vec_capacity list.old ≤ vec_capacity list.new }
+{
+    let Ok(()) = list.insert(place, slot) else {
+        unreachable!()
+    };
+}
+
+/// Takes the slots out of a list that stand at places from the first up to, and not with, the second.
+fn cut(list: &mut Vec<usize>, from: usize, to: usize)
+    requires ordered { from ≤ to }
+    requires within { to ≤ vec_len list.old }
+    ensures items { list.new.items ≡ remove_range list.old.items from to }
+    ensures len { vec_len list.new + (to - from) ≡ vec_len list.old }
+    ensures capacity { vec_capacity list.old ≤ vec_capacity list.new }
+{
+    drop(list.drain(from..to));
+}
+
+/// Lets the items in some slots go.
+fn empty_slots(slots: &mut Slab<Item>, gone: &[usize])
+    requires held { All (ContainsKey slots.old) gone.now }
+    requires apart { AllPairs (λ a b. a ≢ b) gone.now }
+    ensures others { (slot : ℕ) → (Contains gone.now slot → ⊥) → get slots.new slot ≡ get slots.old slot }
+    ensures len { slab_len slots.new + length gone.now ≡ slab_len slots.old }
+    ensures capacity { slots.new.capacity ≡ slots.old.capacity }
+{
+    for slot in gone {
+        slots.remove(*slot);
+    }
+}
+
+/// Gives the item in a slot another cell.
+fn write_cell(slots: &mut Slab<Item>, slot: usize, cell: Cell)
+    requires { ContainsKey slots.old slot }
+    ensures written { (item : Item) → get slots.old slot ≡ Some item → slots.new ≡ with_value slots.old slot (record item { cell = cell }) }
+{
+    slots[slot].cell = cell;
+}
