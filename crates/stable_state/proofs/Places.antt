@@ -23,7 +23,7 @@ use Rattle.causal_model.specs.Items.{is_at, Rise}
 use Rattle.causal_model.proofs.Elements.{AllPairs-append}
 use Rattle.causal_model.proofs.Places.{places_total}
 use Rattle.slab.specs.Slab.{Slab, get, ContainsKey}
-use Rattle.stable_state.specs.Places.{is_before, is_up_to, marked_of, IsGapFor, IsSpan}
+use Rattle.stable_state.specs.Places.{is_before, is_up_to, marked_of, IsParted, RisesWithOneAt, IsGapFor, IsSpan}
 use Rattle.stable_state.specs.Slots.{no_item, item_in, items_in}
 use Rattle.stable_state.proofs.Filters.{filter_split}
 use Rattle.stable_state.proofs.Slots.{held_item, item_at_place}
@@ -112,7 +112,7 @@ module _ (p : Item → Bool) (slots : Slab Item) (order : List ℕ) (held : All 
       test_at i d no_item first ∙ parted i j no_item le second (sym (test_at j d no_item within) ∙ t)
 
   pub items_parted : (r : ℕ) → r ≤ length order → IsPartitionPoint (λ slot. slot_passes slot ≡ true) (λ slot. slot_passes slot ≡ false) order r
-      → IsPartitionPoint (λ item. p item ≡ true) (λ item. p item ≡ false) (items_in slots order) r
+      → IsParted p (items_in slots order) r
   items_parted r le point = (
     λ k d from less. sym (test_at k 0 d (omega (arith, le, less))) ∙ point.0 k 0 from less,
     λ k d from less.
@@ -122,14 +122,14 @@ module _ (p : Item → Bool) (slots : Slab Item) (order : List ℕ) (held : All 
 
 -- the point where a test parts the items of slots, at other names of them
 pub point_moves : (p : Item → Bool) (slots : Slab Item) (order : List ℕ) (items : List Item) (r : ℕ) → items_in slots order ≡ items → r ≤ length order
-    → IsPartitionPoint (λ item. p item ≡ true) (λ item. p item ≡ false) (items_in slots order) r → (r ≤ length items) × IsPartitionPoint (λ item. p item ≡ true) (λ item. p item ≡ false) items r
+    → IsParted p (items_in slots order) r → (r ≤ length items) × IsParted p items r
 point_moves p slots order items r is le point =
-    (omega (arith, le, ap length is, length-map order (item_in slots)), subst (λ xs. IsPartitionPoint (λ item. p item ≡ true) (λ item. p item ≡ false) xs r) is point)
+    (omega (arith, le, ap length is, length-map order (item_in slots)), subst (λ xs. IsParted p xs r) is point)
 
 -- ---- a gap, and a span
 
 module _ (object : ObjectId) (items : List Item) (rise : Rise items) where
-  pub gap_is : (value : Option (List ℕ)) (place : ℕ) → place ≤ length items → IsPartitionPoint (λ item. is_before object value item ≡ true) (λ item. is_before object value item ≡ false) items place
+  pub gap_is : (value : Option (List ℕ)) (place : ℕ) → place ≤ length items → IsParted (is_before object value) items place
       → ((d : Item) → place < length items → is_at object value (get_or items place d) ≡ false) → IsGapFor object value items place
   gap_is value place le point none = record {
     within = le;
@@ -148,8 +148,8 @@ module _ (object : ObjectId) (items : List Item) (rise : Rise items) where
   }
 
   pub span_is : (from to : ℕ) → from ≤ length items → to ≤ length items
-      → IsPartitionPoint (λ item. is_before object None item ≡ true) (λ item. is_before object None item ≡ false) items from
-      → IsPartitionPoint (λ item. is_up_to object item ≡ true) (λ item. is_up_to object item ≡ false) items to → IsSpan object items from to
+      → IsParted (is_before object None) items from
+      → IsParted (is_up_to object) items to → IsSpan object items from to
   span_is from to from_le to_le first last =
       let cmp : ℕ → Item → Ordering = λ k d. object_cmp (get_or items k d).object object in
       let less : (k : ℕ) (d : Item) → k < from → cmp k d ≡ Less = λ k d l. is_less (cmp k d) (sym (before_none (cmp k d) (get_or items k d).value) ∙ first.0 k d (omega arith) l) in
@@ -196,7 +196,7 @@ AllPairs-insert R n xs x le pairs before after =
     let pair = pairs k (n + j) e (omega (arith, below)) within in
     subst (λ y. R y (get_or (drop n xs) j e)) (sym (get_or-take n xs k d below ∙ get_or_default xs k d e (omega (arith, below, le)))) (subst (λ y. R (get_or xs k e) y) (sym (get_or-drop n xs j e)) pair)))
 
-pub gap_rises : (object : ObjectId) (value : Option (List ℕ)) (items : List Item) (place : ℕ) → Rise items → IsGapFor object value items place → (item : Item) → item.object ≡ object → item.value ≡ value → Rise (insert items place item)
+pub gap_rises : (object : ObjectId) (value : Option (List ℕ)) (items : List Item) (place : ℕ) → Rise items → IsGapFor object value items place → RisesWithOneAt object value items place
 gap_rises object value items place rise gap item of_object of_value =
     AllPairs-insert IsLess place items item gap.within rise (λ k d l.
     let below : k < place = omega (arith, l, length-take-le place items gap.within) in
@@ -227,7 +227,7 @@ parted_at p xs ys d r pass fail le point = elim (cases_lt r (length xs)) [
 
 -- the marked items before an item's place are those of the marked ones that are before it
 pub marks_parted : (items : List Item) (place : ℕ) (x : Item) → Rise items → slice_get items place ≡ Some x → (r : ℕ) → r ≤ length (marked_of items)
-    → IsPartitionPoint (λ item. is_before x.object x.value item ≡ true) (λ item. is_before x.object x.value item ≡ false) (marked_of items) r → r ≡ length (marked_of (take place items))
+    → IsParted (is_before x.object x.value) (marked_of items) r → r ≡ length (marked_of (take place items))
 marks_parted items place x rise here r le point =
     let p = is_before x.object x.value in
     let off = λ (item : Item). item.cell.off in
@@ -247,6 +247,6 @@ marks_parted items place x rise here r le point =
     ]) in
     let split : marked_of items ≡ marked_of (take place items) ++ marked_of (drop place items) = filter_split off place items in
     parted_at p (marked_of (take place items)) (marked_of (drop place items)) no_item r (All-filter off (λ item. p item ≡ true) (take place items) first) (All-filter off (λ item. p item ≡ false) (drop place items) others)
-    (omega (arith, le, ap length split)) (subst (λ xs. IsPartitionPoint (λ item. p item ≡ true) (λ item. p item ≡ false) xs r) split point) where
+    (omega (arith, le, ap length split)) (subst (λ xs. IsParted p xs r) split point) where
       add_none : (n k : ℕ) → k ≡ 0 → n + k ≡ n
       add_none n k zero = omega arith

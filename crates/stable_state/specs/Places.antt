@@ -1,12 +1,15 @@
 -- Places among items in their one order.
-use Rattle.std.specs.Prelude.{◌≡◌, ℕ, zero, suc, ◌≤◌, Bool, List, [], ◌∷◌, Option, length, not, filter}
+use Rattle.std.specs.Prelude.{◌≡◌, ℕ, zero, suc, ◌≤◌, Bool, true, false, List, [], ◌∷◌, Option, length, not, filter}
 use Rattle.std.specs.List.{AllWithin}
+use Rattle.std.specs.List.Sorted.{IsPartitionPoint}
 use Rattle.std.specs.Ordering.{is_lt, is_gt}
 use Rattle.std.specs.declared.cmp.Ordering.TheVariants.{Less, Greater}
 use Rattle.op_base.specs.Order.{object_cmp, item_cmp}
 use Rattle.op_base.specs.declared.name.ObjectId.{ObjectId}
 use Rattle.op_base.specs.declared.outcome.Cell.{Cell}
 use Rattle.op_base.specs.declared.outcome.Item.{Item}
+use Rattle.causal_model.specs.Items.{Rise}
+use Rattle.stable_state.specs.Shelf.{put_at}
 
 -- whether an item is before an object and a value
 abbrev pub is_before : ObjectId → Option (List ℕ) → Item → Bool
@@ -25,6 +28,14 @@ abbrev pub with_cell : ℕ → Cell → List Item → List Item
 with_cell place cell [] = []
 with_cell zero cell (item ∷ items) = record item { cell = cell } ∷ items
 with_cell (suc place) cell (item ∷ items) = item ∷ with_cell place cell items
+
+-- items that a test parts at a place: those before it pass, and the others don't
+abbrev pub IsParted : (Item → Bool) → List Item → ℕ → Type 0
+IsParted passes items place = IsPartitionPoint (λ item. passes item ≡ true) (λ item. passes item ≡ false) items place
+
+-- with an item of an object and a value at a place, items still rise
+abbrev pub RisesWithOneAt : ObjectId → Option (List ℕ) → List Item → ℕ → Type 0
+RisesWithOneAt object value items place = (item : Item) → item.object ≡ object → item.value ≡ value → Rise (put_at place item items)
 
 -- no item is of an object and a value, and one of them would stand at this place
 pub record IsGapFor (object : ObjectId) (value : Option (List ℕ)) (items : List Item) (place : ℕ) : Type 0 where

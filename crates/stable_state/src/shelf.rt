@@ -2,15 +2,16 @@
 //!
 //! An index in order over records that stay where they are is a textbook rule.
 
-ghost use Rattle.std.specs.Prelude.{◌≡◌, ◌≢◌, ℕ, ◌+◌, ◌-◌, ◌<◌, ◌≤◌, true, false, [], length, take, drop, map, insert, remove, slice_get, slice_set, filter, Some, IsTrue, IfOk, IfErr, OnOk, All, AllPairs, Contains, HoldsAt, option_copied, vec_len, vec_capacity};
-ghost use Rattle.std.specs.List.{AllWithin, remove_range};
-ghost use Rattle.std.specs.List.Sorted.{IsPartitionPoint};
+ghost use Rattle.std.specs.Prelude.{◌≡◌, ◌≢◌, ℕ, ◌+◌, ◌-◌, ◌<◌, ◌≤◌, true, false, [], length, take, insert, slice_get};
+ghost use Rattle.std.specs.Prelude.{Some, IsTrue, IfOk, OnOk, IfErr, All, AllPairs, Contains, HoldsAt, option_copied};
+ghost use Rattle.std.specs.Prelude.{vec_len, vec_capacity};
+ghost use Rattle.std.specs.List.{remove_range};
 ghost use Rattle.causal_model.specs.Items.{is_at, is_filled, Rise};
 ghost use Rattle.op_base.specs.declared.outcome.Item.{Item};
 ghost use Rattle.slab.specs.Slab.{get, ContainsKey, slab_len, with_value};
+ghost use Rattle.stable_state.specs.Places.{is_before, is_up_to, marked_of, with_cell, RisesWithOneAt, IsGapFor, IsSpan, IsParted};
 ghost use Rattle.stable_state.specs.Shelf.{put_at, without_span};
 ghost use Rattle.stable_state.specs.Slots.{items_in};
-ghost use Rattle.stable_state.specs.Places.{is_before, is_up_to, marked_of, with_cell, IsGapFor, IsSpan};
 
 use op_base::{Cell, Item, NoMemory, ObjectId, Value, item_order};
 use slab::Slab;
@@ -84,9 +85,10 @@ impl Shelf {
     /// The place of the item of an object and a value, or `Err` with the place where it would stand.
     pub fn find(&self, object: &ObjectId, value: Option<&Value>) -> Result<usize, usize>
         ensures within { IfOk result (λ place. place < length self.now.items) }
-        ensures found { IfOk result (HoldsAt (λ item. is_at object.now (option_copied value.entry) item ≡ true) self.now.items) }
+        ensures found { IfOk result
+            (HoldsAt (λ item. is_at object.now (option_copied value.entry) item ≡ true) self.now.items) }
         ensures absent { IfErr result (IsGapFor object.now (option_copied value.entry) self.now.items) }
-        ensures rises { IfErr result (λ place. (item : Item) → item.object ≡ object.now → item.value ≡ option_copied value.entry → Rise (put_at place item self.now.items)) }
+        ensures rises { IfErr result (RisesWithOneAt object.now (option_copied value.entry) self.now.items) }
     {
         let place = place_of(&self.slots, self.order.as_slice(), object, value);
         if place < self.len() && is_of(self.at(place), object, value) {
@@ -205,7 +207,7 @@ fn place_of(slots: &Slab<Item>, order: &[usize], object: &ObjectId, value: Optio
     requires held { All (ContainsKey slots.now) order.now }
     requires rise { Rise (items_in slots.now order.now) }
     ensures within { result ≤ length order.now }
-    ensures place { IsPartitionPoint (λ item. is_before object.now (option_copied value.entry) item ≡ true) (λ item. is_before object.now (option_copied value.entry) item ≡ false) (items_in slots.now order.now) result }
+    ensures place { IsParted (is_before object.now (option_copied value.entry)) (items_in slots.now order.now) result }
 {
     order.partition_point(|slot| match slots.get(*slot) {
         Some(item) => item_order(&item.object, item.value.as_ref(), object, value).is_lt(),
@@ -218,7 +220,7 @@ fn place_behind(slots: &Slab<Item>, order: &[usize], object: &ObjectId) -> usize
     requires held { All (ContainsKey slots.now) order.now }
     requires rise { Rise (items_in slots.now order.now) }
     ensures within { result ≤ length order.now }
-    ensures place { IsPartitionPoint (λ item. is_up_to object.now item ≡ true) (λ item. is_up_to object.now item ≡ false) (items_in slots.now order.now) result }
+    ensures place { IsParted (is_up_to object.now) (items_in slots.now order.now) result }
 {
     order.partition_point(|slot| match slots.get(*slot) {
         Some(item) => item.object <= *object,
@@ -266,7 +268,8 @@ fn empty_slots(slots: &mut Slab<Item>, gone: &[usize])
 /// Gives the item in a slot another cell.
 fn write_cell(slots: &mut Slab<Item>, slot: usize, cell: Cell)
     requires { ContainsKey slots.old slot }
-    ensures written { (item : Item) → get slots.old slot ≡ Some item → slots.new ≡ with_value slots.old slot (record item { cell = cell }) }
+    ensures written { (item : Item) → get slots.old slot ≡ Some item
+        → slots.new ≡ with_value slots.old slot (record item { cell = cell }) }
 {
     slots[slot].cell = cell;
 }

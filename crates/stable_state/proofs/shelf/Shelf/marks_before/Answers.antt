@@ -1,10 +1,9 @@
-use Rattle.std.proofs.Common.{◌≡◌, refl, true, false, ap, sym, subst, ◌∙◌, All}
-use Rattle.std.specs.List.Sorted.{IsPartitionPoint}
+use Rattle.std.proofs.Common.{refl, ap, sym, subst, ◌∙◌, All}
 use Rattle.std.specs.Prelude.{option_copied}
 use Rattle.std.proofs.lemmas.List.Kept.{AllPairs-filter}
 use Rattle.causal_model.specs.Items.{Rise}
 use Rattle.slab.specs.Slab.{ContainsKey}
-use Rattle.stable_state.specs.Places.{is_before, marked_of}
+use Rattle.stable_state.specs.Places.{is_before, marked_of, IsParted}
 use Rattle.stable_state.specs.Slots.{items_in}
 use Rattle.stable_state.proofs.Places.{IsLess, point_moves, marks_parted}
 use Rattle.stable_state.proofs.Slots.{marked_items, marked_held}
@@ -32,4 +31,4 @@ returns c =
     let is = ap (items_in s.slots) c.as_slice.ensures.value ∙ marked_items s.slots s.order.items s.marked.items items c.self.invariant.marks items_are in
     let point = point_moves (is_before x.object (option_copied c.as_ref.result)) s.slots c.as_slice.result.now (marked_of items) r is c.place_of.ensures.within c.place_of.ensures.place in
     marks_parted items c.args.place x (subst Rise items_are c.self.invariant.rise) c.at-item.ensures r point.0
-    (subst (λ value. IsPartitionPoint (λ item. is_before x.object value item ≡ true) (λ item. is_before x.object value item ≡ false) (marked_of items) r) c.as_ref.ensures.value point.1)
+    (subst (λ value. IsParted (is_before x.object value) (marked_of items) r) c.as_ref.ensures.value point.1)
