@@ -2,3 +2,10 @@ pub mod Filters
 pub mod Slots
 pub mod Places
 pub mod Ordered
+pub mod Cells
+pub mod Spans
+pub mod Changes
+pub mod Covers
+pub mod Marks
+pub mod Moves
+pub mod Views

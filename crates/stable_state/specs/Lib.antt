@@ -3,3 +3,7 @@ pub mod Slots
 pub mod Places
 pub mod Fields
 pub mod Standing
+pub mod Picked
+pub mod Settling
+pub mod View
+pub mod Laws

@@ -2,7 +2,7 @@
 //!
 //! An index in order over records that stay where they are is a textbook rule.
 
-ghost use Rattle.std.specs.Prelude.{◌≡◌, ◌≢◌, ℕ, ◌+◌, ◌-◌, ◌<◌, ◌≤◌, true, false, [], length, take, insert, slice_get};
+ghost use Rattle.std.specs.Prelude.{◌≡◌, ◌≢◌, ℕ, ◌+◌, ◌-◌, ◌^◌, ◌<◌, ◌≤◌, true, false, [], length, take, insert, slice_get};
 ghost use Rattle.std.specs.Prelude.{Some, IsTrue, IfOk, OnOk, IfErr, All, AllPairs, Contains, HoldsAt, option_copied};
 ghost use Rattle.std.specs.Prelude.{vec_len, vec_capacity};
 ghost use Rattle.std.specs.List.{remove_range};
@@ -85,6 +85,7 @@ impl Shelf {
     /// The place of the item of an object and a value, or `Err` with the place where it would stand.
     pub fn find(&self, object: &ObjectId, value: Option<&Value>) -> Result<usize, usize>
         ensures within { IfOk result (λ place. place < length self.now.items) }
+        ensures few { length self.now.items < 2 ^ 64 }
         ensures found { IfOk result
             (HoldsAt (λ item. is_at object.now (option_copied value.entry) item ≡ true) self.now.items) }
         ensures absent { IfErr result (IsGapFor object.now (option_copied value.entry) self.now.items) }

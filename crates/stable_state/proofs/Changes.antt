@@ -1,0 +1,213 @@
+-- Items with one more, with another cell at a place, or without an item: their cells, order and marks.
+use Rattle.std.proofs.Common.{◌≡◌, ℕ, ◌+◌, ◌<◌, All, Bool, true, false, not, ◌||◌, IsTrue, List, [], ◌∷◌, ◌++◌, length, take, drop, get_or, zero, suc, pos, refl, sym, ap, subst, ◌∙◌, inl, inr, Option, Some, arith, add-one, if◌then◌else◌}
+use Rattle.std.specs.List.{HoldsAt, slice_get}
+use Rattle.std.specs.Ordering.{int_eq}
+use Rattle.std.specs.declared.cmp.Ordering.TheVariants.{Less}
+use Rattle.std.proofs.lemmas.Bool.{cases_Bool, cond-true, cond-false, cond_both, or_parts, not-false}
+use Rattle.std.proofs.lemmas.Bool.Decides.{Decides-int_eq}
+use Rattle.std.proofs.lemmas.List.{drop_all, drop_more, get_or-take, get_or_default, length-take, take-append-drop, take-take, take_more}
+use Rattle.std.proofs.lemmas.Option.{get_or_from_slice_get, slice_get_within}
+use Rattle.std.proofs.lemmas.List.Elements.{All-append, All-cons, All-drop, All-nil, All-take, filter-append}
+use Rattle.op_base.specs.Order.{item_cmp}
+use Rattle.op_base.specs.declared.name.ObjectId.{ObjectId}
+use Rattle.op_base.specs.declared.outcome.Cell.{Cell}
+use Rattle.op_base.specs.declared.outcome.Item.{Item}
+use Rattle.op_base.specs.declared.operation.Op.TheVariants as op
+use Rattle.op_base.specs.declared.operation.Update.{Update}
+use Rattle.causal_model.specs.Acts.{value_of}
+use Rattle.causal_model.specs.CellSteps.{with_act, cell_with}
+use Rattle.causal_model.specs.Items.{zero_cell, is_at, cell_in, is_filled, Rise}
+use Rattle.causal_model.specs.Laws.Cells.{AreFilled}
+use Rattle.stable_state.specs.Picked.{ArePicked, is_place, replaced}
+use Rattle.stable_state.specs.Places.{with_cell, marked_of, IsGapFor}
+use Rattle.stable_state.specs.Shelf.{put_at, without_span}
+use Rattle.stable_state.specs.Slots.{no_item}
+use Rattle.stable_state.proofs.Cells.{place_itself, same_place}
+use Rattle.stable_state.proofs.Spans.{cell_swapped, cell_without, rise_without, one_is_picked, none_is_picked}
+
+-- the cell that isn't filled is the one with no mark and the sum 0
+pub unfilled_is_zero : (cell : Cell) → is_filled cell ≡ false → cell ≡ zero_cell
+unfilled_is_zero cell t =
+    let marks = or_parts (cell.on || cell.off) (not (int_eq cell.sum (pos 0))) t in
+    let both = or_parts cell.on cell.off marks.0 in
+    let sum = (Decides-int_eq cell.sum (pos 0)).0 (not-false (int_eq cell.sum (pos 0)) marks.1) in
+    λ i. record { on = both.0 i; off = both.1 i; sum = sum i }
+
+-- a choice that is made twice
+chosen_once : {X : Type 0} (b : Bool) (x y z : X) → (if b then (if b then x else y) else z) ≡ (if b then x else z)
+chosen_once true x y z = refl
+chosen_once false x y z = refl
+
+-- where one item stands in the place of those that pass, the cell of its object and value is its cell
+cell_of_one : (items : List Item) (from to : ℕ) (item : Item) → ArePicked (is_place item.object item.value) items from to → (object : ObjectId) (value : Option (List ℕ))
+    → cell_in (take from items ++ item ∷ drop to items) object value ≡ (if is_place item.object item.value object value then item.cell else cell_in items object value)
+cell_of_one items from to item picked object value =
+    let passes = is_place item.object item.value in
+    cell_swapped passes items from to picked (item ∷ []) (All-cons (λ (x : Item). passes x.object x.value ≡ true) item [] (place_itself item.object item.value) (All-nil (λ (x : Item). passes x.object x.value ≡ true))) object value
+    ∙ chosen_once (passes object value) item.cell zero_cell (cell_in items object value)
+
+abbrev Filled : Item → Type 0
+Filled item = IsTrue (is_filled item.cell)
+
+abbrev is_marked : Item → Bool
+is_marked item = item.cell.off
+
+-- ---- one item more
+
+abbrev put_if_filled : ℕ → Item → List Item → List Item
+put_if_filled place item items = if is_filled item.cell then put_at place item items else items
+
+pub cell_put : (items : List Item) (place : ℕ) (item : Item) → IsGapFor item.object item.value items place → (object : ObjectId) (value : Option (List ℕ))
+    → cell_in (put_if_filled place item items) object value ≡ (if is_place item.object item.value object value then item.cell else cell_in items object value)
+cell_put items place item gap object value =
+    let picked = none_is_picked item.object item.value items place gap in
+    cond_both (is_filled item.cell) (put_at place item items) items
+    (λ new. cell_in new object value ≡ (if is_place item.object item.value object value then item.cell else cell_in items object value))
+    (λ _. cell_of_one items place place item picked object value)
+    (λ f. ap (λ xs. cell_in xs object value) (sym (take-append-drop place items))
+    ∙ cell_without (is_place item.object item.value) items place place picked object value
+    ∙ ap (λ c. if is_place item.object item.value object value then c else cell_in items object value) (sym (unfilled_is_zero item.cell f)))
+
+pub filled_put : (items : List Item) (place : ℕ) (item : Item) → AreFilled items → AreFilled (put_if_filled place item items)
+filled_put items place item each = cond_both (is_filled item.cell) (put_at place item items) items AreFilled
+    (λ t. All-append Filled (take place items) (item ∷ drop place items) (All-take Filled place items each) (All-cons Filled item (drop place items) t (All-drop Filled place items each)))
+    (λ _. each)
+
+pub rise_put : (items : List Item) (place : ℕ) (item : Item) → Rise items → Rise (put_at place item items) → Rise (put_if_filled place item items)
+rise_put items place item rise rises = cond_both (is_filled item.cell) (put_at place item items) items Rise (λ _. rises) (λ _. rise)
+
+-- items in front, and the next one put behind them
+pub put_next : (items : List Item) (place : ℕ) (item : Item) → place < length items → get_or items place item ≡ item → put_at place item (take place items) ≡ take (place + 1) items
+put_next items place item within at =
+    (λ i. take-take place place items (omega arith) i ++ item ∷ drop_all place (take place items) (omega (arith, length-take place items)) i)
+    ∙ ap (λ (x : Item). take place items ++ x ∷ []) (sym at) ∙ sym (take_more items place item within)
+
+pub rise_take : (items : List Item) (n : ℕ) → Rise items → Rise (take n items)
+rise_take items n rise = λ i j d lt l.
+    let low : j < n = omega (arith, l, length-take n items) in
+    let Before : Item → Item → Type 0 = λ a b. item_cmp a.object a.value b.object b.value ≡ Less in
+    subst (λ (a : Item). Before a (get_or (take n items) j d)) (sym (get_or-take n items i d (omega arith)))
+    (subst (λ (b : Item). Before (get_or items i d) b) (sym (get_or-take n items j d low)) (rise i j d lt (omega (arith, l, length-take n items))))
+
+-- ---- another cell at a place
+
+with_cell_split : (items : List Item) (place : ℕ) (item : Item) (cell : Cell) → place < length items → get_or items place item ≡ item
+    → with_cell place cell items ≡ take place items ++ record item { cell = cell } ∷ drop (suc place) items
+with_cell_split [] place item cell within at = absurd (omega (arith, within))
+with_cell_split (x ∷ xs) zero item cell within at = ap (λ (z : Item). record z { cell = cell } ∷ xs) at
+with_cell_split (x ∷ xs) (suc place) item cell within at = ap (λ ys. x ∷ ys) (with_cell_split xs place item cell (omega (arith, within)) at)
+
+-- items stay where they are
+same_places : (items : List Item) (place : ℕ) (cell : Cell) (k : ℕ) (d : Item)
+    → ((get_or (with_cell place cell items) k d).object ≡ (get_or items k d).object) × ((get_or (with_cell place cell items) k d).value ≡ (get_or items k d).value)
+same_places [] place cell k d = (refl, refl)
+same_places (x ∷ xs) zero cell zero d = (refl, refl)
+same_places (x ∷ xs) zero cell (suc k) d = (refl, refl)
+same_places (x ∷ xs) (suc place) cell zero d = (refl, refl)
+same_places (x ∷ xs) (suc place) cell (suc k) d = same_places xs place cell k d
+
+length-with_cell : (items : List Item) (place : ℕ) (cell : Cell) → length (with_cell place cell items) ≡ length items
+length-with_cell [] place cell = refl
+length-with_cell (x ∷ xs) zero cell = refl
+length-with_cell (x ∷ xs) (suc place) cell = ap suc (length-with_cell xs place cell)
+
+rise_with_cell : (items : List Item) (place : ℕ) (cell : Cell) → Rise items → Rise (with_cell place cell items)
+rise_with_cell items place cell rise = λ i j d lt within.
+    let a = same_places items place cell i d in
+    let b = same_places items place cell j d in
+    (λ t. item_cmp (a.0 t) (a.1 t) (b.0 t) (b.1 t)) ∙ rise i j d lt (omega (arith, within, length-with_cell items place cell))
+
+module _ (items : List Item) (place : ℕ) (item : Item) (rise : Rise items) (within : place < length items) (at : get_or items place item ≡ item) where
+  abbrev here : ObjectId → Option (List ℕ) → Bool
+  here object value = is_place item.object item.value object value
+
+  -- the item has the cell of its object and value
+  pub cell_there : cell_in items item.object item.value ≡ item.cell
+  cell_there =
+      let picked = one_is_picked items place item rise within at in
+      let split : items ≡ take place items ++ item ∷ drop (place + 1) items = sym (take-append-drop place items) ∙ ap (λ ys. take place items ++ ys) (drop_more items place item within ∙ ap (λ (z : Item). z ∷ drop (place + 1) items) at) in
+      ap (λ xs. cell_in xs item.object item.value) split
+      ∙ cell_of_one items place (place + 1) item picked item.object item.value
+      ∙ cond-true (here item.object item.value) item.cell (cell_in items item.object item.value) (place_itself item.object item.value)
+
+  module _ (cell : Cell) where
+    split : with_cell place cell items ≡ take place items ++ record item { cell = cell } ∷ drop (place + 1) items
+    split = with_cell_split items place item cell within at ∙ ap (λ n. take place items ++ record item { cell = cell } ∷ drop n items) (sym (add-one place))
+
+    pub cell_replaced : (object : ObjectId) (value : Option (List ℕ)) → cell_in (replaced place cell items) object value ≡ (if here object value then cell else cell_in items object value)
+    cell_replaced object value =
+        let picked = one_is_picked items place item rise within at in
+        cond_both (is_filled cell) (with_cell place cell items) (without_span place (place + 1) items)
+        (λ new. cell_in new object value ≡ (if here object value then cell else cell_in items object value))
+        (λ _. ap (λ xs. cell_in xs object value) split ∙ cell_of_one items place (place + 1) (record item { cell = cell }) picked object value)
+        (λ f. cell_without here items place (place + 1) picked object value ∙ ap (λ c. if here object value then c else cell_in items object value) (sym (unfilled_is_zero cell f)))
+
+    pub rise_replaced : Rise (replaced place cell items)
+    rise_replaced = cond_both (is_filled cell) (with_cell place cell items) (without_span place (place + 1) items) Rise
+        (λ _. rise_with_cell items place cell rise)
+        (λ _. rise_without here items place (place + 1) (one_is_picked items place item rise within at) rise)
+
+    pub filled_replaced : AreFilled items → AreFilled (replaced place cell items)
+    filled_replaced each = cond_both (is_filled cell) (with_cell place cell items) (without_span place (place + 1) items) AreFilled
+        (λ t. subst AreFilled (sym split) (All-append Filled (take place items) (record item { cell = cell } ∷ drop (place + 1) items) (All-take Filled place items each) (All-cons Filled (record item { cell = cell }) (drop (place + 1) items) t (All-drop Filled (place + 1) items each))))
+        (λ _. All-append Filled (take place items) (drop (place + 1) items) (All-take Filled place items each) (All-drop Filled (place + 1) items each))
+
+    -- without an off mark in the cell, the marked items are those before and those behind
+    pub marked_replaced : cell.off ≡ false → marked_of (replaced place cell items) ≡ marked_of (take place items) ++ marked_of (drop (place + 1) items)
+    marked_replaced off = cond_both (is_filled cell) (with_cell place cell items) (without_span place (place + 1) items)
+        (λ new. marked_of new ≡ marked_of (take place items) ++ marked_of (drop (place + 1) items))
+        (λ _. ap marked_of split
+        ∙ filter-append is_marked (take place items) (record item { cell = cell } ∷ drop (place + 1) items)
+        ∙ ap (λ xs. marked_of (take place items) ++ xs) (cond-false cell.off (record item { cell = cell } ∷ marked_of (drop (place + 1) items)) (marked_of (drop (place + 1) items)) off))
+        (λ _. filter-append is_marked (take place items) (drop (place + 1) items))
+
+-- the item that stands at a place
+module _ (items : List Item) (place : ℕ) (rise : Rise items) (within : place < length items) (cell : Cell) where
+  some_item : Item
+  some_item = get_or items place no_item
+
+  at_place : get_or items place some_item ≡ some_item
+  unfolding some_item
+  at_place = get_or_default items place some_item no_item within
+
+  pub rise_at : Rise (replaced place cell items)
+  rise_at = rise_replaced items place some_item rise within at_place cell
+
+  pub filled_at : AreFilled items → AreFilled (replaced place cell items)
+  filled_at = filled_replaced items place some_item rise within at_place cell
+
+-- the item that was found at an object and a value
+module _ (object : ObjectId) (value : Option (List ℕ)) (items : List Item) (place : ℕ) (item : Item) (rise : Rise items) (found : HoldsAt (λ x. is_at object value x ≡ true) items place) (at : slice_get items place ≡ Some item) where
+  stands : get_or items place item ≡ item
+  stands = get_or_from_slice_get items place item item at
+
+  within : place < length items
+  within = slice_get_within items place item at
+
+  same : (item.object ≡ object) × (item.value ≡ value)
+  same = same_place item.object object item.value value (subst (λ (x : Item). is_at object value x ≡ true) stands (found item))
+
+  pub cell_found : cell_in items object value ≡ item.cell
+  cell_found = (λ i. cell_in items (sym same.0 i) (sym same.1 i)) ∙ cell_there items place item rise within stands
+
+  pub cell_replaced_at : (cell : Cell) (other : ObjectId) (other_value : Option (List ℕ))
+      → cell_in (replaced place cell items) other other_value ≡ (if is_place object value other other_value then cell else cell_in items other other_value)
+  cell_replaced_at cell other other_value =
+      cell_replaced items place item rise within stands cell other other_value
+      ∙ (λ i. if is_place (same.0 i) (same.1 i) other other_value then cell else cell_in items other other_value)
+
+-- ---- one update
+
+-- where an update's cell is put, each cell is that with the update
+pub cell_changed : (old new : List Item) (u : Update) (cell : Cell) → cell ≡ with_act u.act (cell_in old u.object (value_of u.act))
+    → ((object : ObjectId) (value : Option (List ℕ)) → cell_in new object value ≡ (if is_place u.object (value_of u.act) object value then cell else cell_in old object value))
+    → (object : ObjectId) (value : Option (List ℕ)) → cell_in new object value ≡ cell_with object value (cell_in old object value) (op.Update u)
+cell_changed old new u cell is cells object value =
+    let at : Bool = is_place u.object (value_of u.act) object value in
+    cells object value ∙ elim (cases_Bool at) [
+      | inl t ↦
+          let same = same_place u.object object (value_of u.act) value t in
+          cond-true at cell (cell_in old object value) t ∙ is ∙ (λ i. with_act u.act (cell_in old (same.0 i) (same.1 i)))
+          ∙ sym (cond-true at (with_act u.act (cell_in old object value)) (cell_in old object value) t)
+      | inr f ↦ cond-false at cell (cell_in old object value) f ∙ sym (cond-false at (with_act u.act (cell_in old object value)) (cell_in old object value) f)
+    ]

@@ -1,0 +1,44 @@
+use Rattle.std.proofs.Common.{◌≡◌, ◌^◌, ◌+ℤ◌, true, ap, sym, subst, ◌∙◌, if◌then◌else◌}
+use Rattle.std.specs.List.{HoldsAt}
+use Rattle.op_base.specs.declared.name.ObjectId.{ObjectId}
+use Rattle.op_base.specs.declared.outcome.Cell.{Cell}
+use Rattle.op_base.specs.declared.outcome.Item.{Item}
+use Rattle.causal_model.specs.Acts.{value_of}
+use Rattle.causal_model.specs.CellSteps.{with_act}
+use Rattle.causal_model.specs.Items.{cell_in, is_at}
+use Rattle.causal_model.specs.Query.{amount_of, IsWithin}
+use Rattle.stable_state.specs.Picked.{is_place}
+use Rattle.stable_state.specs.Places.{IsGapFor}
+use Rattle.stable_state.proofs.Changes.{cell_changed, cell_found, cell_put, cell_replaced_at}
+use Rattle.stable_state.proofs.Spans.{cell_of_gap}
+use Rattle.stable_state.proofs.items.Items.change.Goals as goal
+
+pub with_act-cell-requires : goal.with_act-cell-requires
+with_act-cell-requires c =
+    let u = c.args.update in
+    let items = c.args.self.now.shelf.items in
+    let found = subst (λ v. HoldsAt (λ x. is_at u.object v x ≡ true) items c.in-Ok.place) c.value_of.ensures c.in-Ok.ensures.found in
+    subst (λ (cell : Cell). IsWithin (2 ^ 127) (cell.sum +ℤ amount_of u.act)) (cell_found u.object (value_of u.act) items c.in-Ok.place c.at.result.now c.args.self.now.rise found c.at.ensures) c.requires.range
+
+pub returns-in-Ok-clause-cells : goal.returns-in-Ok-clause-cells
+returns-in-Ok-clause-cells c =
+    let u = c.args.update in
+    let items = c.args.self.now.shelf.items in
+    let found = subst (λ v. HoldsAt (λ x. is_at u.object v x ≡ true) items c.in-Ok.place) c.value_of.ensures c.in-Ok.ensures.found in
+    let is = cell_found u.object (value_of u.act) items c.in-Ok.place c.at.result.now c.args.self.now.rise found c.at.ensures in
+    cell_changed items c.replace.new.self.shelf.items u c.with_act-cell.result (c.with_act-cell.ensures ∙ ap (with_act u.act) (sym is)) (λ object value.
+    ap (λ xs. cell_in xs object value) c.replace.ensures.items
+    ∙ cell_replaced_at u.object (value_of u.act) items c.in-Ok.place c.at.result.now c.args.self.now.rise found c.at.ensures c.with_act-cell.result object value)
+
+pub returns-in-Err-clause-cells : goal.returns-in-Err-clause-cells
+returns-in-Err-clause-cells c =
+    let u = c.args.update in
+    let items = c.args.self.now.shelf.items in
+    let cell = c.with_act-cell-in-Err.result in
+    let item : Item = record { object = u.object; value = c.into_value-value.result; cell = cell } in
+    let gap = subst (λ v. IsGapFor u.object v items c.in-Err.place) c.value_of.ensures c.in-Err.ensures.absent in
+    let gap_of_item = subst (λ v. IsGapFor u.object v items c.in-Err.place) (sym c.into_value-value.ensures) gap in
+    cell_changed items c.put.new.self.shelf.items u cell (c.with_act-cell-in-Err.ensures ∙ ap (with_act u.act) (sym (cell_of_gap u.object (value_of u.act) items c.in-Err.place gap))) (λ object value.
+    ap (λ xs. cell_in xs object value) c.put.ensures.items
+    ∙ cell_put items c.in-Err.place item gap_of_item object value
+    ∙ ap (λ v. if is_place u.object v object value then cell else cell_in items object value) c.into_value-value.ensures)

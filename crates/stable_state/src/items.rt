@@ -1,0 +1,305 @@
+//! Settled items, and the steps that move one message more into them.
+//!
+//! That a message first covers what is settled, and that stable entries of the log are then absorbed without their
+//! timestamps, is the idea of Baquero, Almeida and Shoker (arXiv 1710.04469); the cells are this project's own profile.
+
+ghost use Rattle.std.specs.Prelude.{◌≡◌, ℕ, ◌+◌, ◌^◌, ◌<◌, ◌≤◌, false, ◌+ℤ◌, [], List, length, map, filter, Some, Option, IsTrue, IfOk, OnOk, IfSome, None, HoldsAt, slice_get, option_copied, if◌then◌else◌, All};
+ghost use Rattle.std.specs.List.{AllWithin, between, list_any};
+ghost use Rattle.op_base.specs.Object.{same_object};
+ghost use Rattle.op_base.specs.declared.message.Message.{Message};
+ghost use Rattle.op_base.specs.declared.name.ObjectId.{ObjectId};
+ghost use Rattle.op_base.specs.declared.outcome.Item.{Item};
+ghost use Rattle.op_base.specs.declared.operation.Op.TheVariants as op;
+ghost use Rattle.causal_model.specs.Acts.{acts_on, value_of};
+ghost use Rattle.causal_model.specs.CellSteps.{covers_place, cell_uncovered, cell_with, cell_settled, with_act, puts_in, is_put_in, log_of, stripped_of};
+ghost use Rattle.causal_model.specs.History.{History, no_history, with_message, is_history};
+ghost use Rattle.causal_model.specs.Items.{cell_in, is_filled, zero_cell, Rise};
+ghost use Rattle.causal_model.specs.Laws.Cells.{AreFilled};
+ghost use Rattle.causal_model.specs.Log.{message_of};
+ghost use Rattle.causal_model.specs.Query.{amount_of, IsWithin};
+ghost use Rattle.stable_state.specs.Laws.{HasRange};
+ghost use Rattle.stable_state.specs.Picked.{ArePicked, is_set, is_place, replaced};
+ghost use Rattle.stable_state.specs.Places.{marked_of};
+ghost use Rattle.stable_state.specs.Settling.{remove_wins, waits, IsSettled, IsLooseAt};
+ghost use Rattle.stable_state.specs.Shelf.{put_at};
+ghost use Rattle.stable_state.specs.Standing.{AreSettledOf, AreAbsorbed, AreMoved};
+
+use crate::cell::{NO_CELL, into_value, is_filled, puts_in, value_of, with_act, without_pending};
+use crate::shelf::Shelf;
+use crate::view::ItemSpan;
+use causal_model::ItemView;
+use op_base::{Act, Cell, Entry, Item, Kind, NoMemory, ObjectId, Update, Value};
+use std::alloc::Global;
+
+/// Settled items: a finite map from an object, and a value or none, to a cell that has a mark or a sum, in the one order of
+/// items. `reserve` and `copy` alone take memory.
+#[derive(Drop)]
+pub struct Items {
+    shelf: Shelf,
+    ghost rise: { Rise shelf.items },
+    ghost filled: { AreFilled shelf.items },
+}
+
+impl Items {
+    /// No items, and no room. It takes no memory.
+    pub fn new(alloc: Global) -> Items
+        ensures none { result.shelf ≡ record { items = []; spare = 0 } }
+        ensures settled { (n me : ℕ) → AreSettledOf (no_history n me) result.shelf }
+    {
+        Items {
+            shelf: Shelf::new(alloc),
+        }
+    }
+
+    /// Takes room for `k` items more. `NoMemory` leaves the items, and no less room.
+    pub fn reserve(&mut self, k: usize) -> Result<(), NoMemory>
+        ensures room { OnOk result (k ≤ self.new.shelf.spare) }
+        ensures items { self.new.shelf.items ≡ self.old.shelf.items }
+        ensures spare { self.old.shelf.spare ≤ self.new.shelf.spare }
+    {
+        self.shelf.reserve(k)
+    }
+
+    /// Lets exactly what an update covers go. It takes no memory, and touches its object's items alone.
+    pub fn cover(&mut self, update: &Update)
+        ensures cells { (object : ObjectId) (value : Option (List ℕ)) → cell_in self.new.shelf.items object value ≡ cell_uncovered object value (op.Update update.now) (cell_in self.old.shelf.items object value) }
+        ensures of { (h : History) (m : Message) → m.op ≡ op.Update update.now → AreSettledOf h self.old.shelf → AreAbsorbed h m 0 self.new.shelf }
+        ensures spare { self.old.shelf.spare ≤ self.new.shelf.spare }
+    {
+        let (from, to) = self.covered_span(update);
+        self.shelf.remove_span(from, to);
+    }
+
+    /// The places of the items that an update covers.
+    fn covered_span(&self, update: &Update) -> (usize, usize)
+        ensures { ArePicked (covers_place (op.Update update.now)) self.now.shelf.items result.0 result.1 }
+    {
+        match (update.object.kind, value_of(&update.act)) {
+            (kind, Some(value)) if is_set(kind) => self.place_span(&update.object, Some(value)),
+            (Kind::Counter, _) => (0, 0),
+            (Kind::RCounter, _) if !matches!(update.act, Act::Clear) => (0, 0),
+            _ => self.span(&update.object),
+        }
+    }
+
+    /// The place of the item of an object and a value, as the span of one item or of none.
+    fn place_span(&self, object: &ObjectId, value: Option<&Value>) -> (usize, usize)
+        ensures { ArePicked (is_place object.now (option_copied value.entry)) self.now.shelf.items result.0 result.1 }
+    {
+        match self.shelf.find(object, value) {
+            Ok(place) => (place, place + 1),
+            Err(place) => (place, place),
+        }
+    }
+
+    /// The places of an object's items: the first, and the one behind the last.
+    pub fn span(&self, object: &ObjectId) -> (usize, usize)
+        ensures { ArePicked (λ other value. same_object object.now other) self.now.shelf.items result.0 result.1 }
+    {
+        self.shelf.span(object)
+    }
+
+    /// An object's items. They have its cells.
+    pub fn of_object(&self, object: &ObjectId) -> ItemSpan<'_>
+        ensures items { between result.from result.to result.shelf.now.items ≡ filter (λ item. same_object object.now item.object) self.now.shelf.items }
+        ensures cells { (value : Option (List ℕ)) → cell_in (between result.from result.to result.shelf.now.items) object.now value ≡ cell_in self.now.shelf.items object.now value }
+    {
+        let (from, to) = self.span(object);
+        ItemSpan::new(&self.shelf, from, to)
+    }
+
+    /// Equal items. `NoMemory` leaves nothing behind.
+    pub fn copy(&self, alloc: Global) -> Result<Items, NoMemory>
+        ensures { IfOk result (λ copy. copy.shelf.items ≡ self.now.shelf.items) }
+    {
+        let mut copy = Items::new(alloc);
+        copy.reserve(self.shelf.len())?;
+        for place in 0..self.shelf.len() {
+            copy.put(place, copy_of(self.shelf.at(place), alloc)?);
+        }
+        Ok(copy)
+    }
+
+    /// Absorbs an entry that goes from the log: its mark is set, or its amount added. It takes no memory.
+    pub fn absorb(&mut self, entry: Entry)
+        requires spare { 1 ≤ self.old.shelf.spare }
+        requires range { HasRange self.old.shelf entry.update }
+        ensures cells { (object : ObjectId) (value : Option (List ℕ)) → cell_in self.new.shelf.items object value ≡ cell_with object value (cell_in self.old.shelf.items object value) (op.Update entry.update) }
+        ensures of { (h : History) (m : Message) (k : ℕ) → slice_get (stripped_of h m) k ≡ Some (message_of entry) → AreAbsorbed h m k self.old.shelf → AreAbsorbed h m (k + 1) self.new.shelf }
+        ensures spare { self.old.shelf.spare ≤ self.new.shelf.spare + 1 }
+    {
+        self.change(entry.update);
+    }
+
+    /// Applies an update of a counter that can't be cleared, which no log keeps. It takes no memory.
+    pub fn apply(&mut self, update: Update)
+        requires counter { update.object.kind ≡ Kind.Counter }
+        requires spare { 1 ≤ self.old.shelf.spare }
+        requires range { HasRange self.old.shelf update }
+        ensures cells { (object : ObjectId) (value : Option (List ℕ)) → cell_in self.new.shelf.items object value ≡ cell_with object value (cell_in self.old.shelf.items object value) (op.Update update) }
+        ensures of { (h : History) (m : Message) → m.op ≡ op.Update update → AreAbsorbed h m (length (stripped_of h m)) self.old.shelf → AreMoved h m self.new.shelf }
+        ensures spare { self.old.shelf.spare ≤ self.new.shelf.spare + 1 }
+    {
+        self.change(update);
+    }
+
+    /// Sets the mark of an update, or adds its amount.
+    fn change(&mut self, update: Update)
+        requires spare { 1 ≤ self.old.shelf.spare }
+        requires range { HasRange self.old.shelf update }
+        ensures cells { (object : ObjectId) (value : Option (List ℕ)) → cell_in self.new.shelf.items object value ≡ cell_with object value (cell_in self.old.shelf.items object value) (op.Update update) }
+        ensures spare { self.old.shelf.spare ≤ self.new.shelf.spare + 1 }
+    {
+        let Update { object, act } = update;
+        match self.shelf.find(&object, value_of(&act)) {
+            Ok(place) => {
+                let cell = with_act(&act, self.shelf.at(place).cell);
+                self.replace(place, cell);
+            }
+            Err(place) => {
+                let cell = with_act(&act, NO_CELL);
+                let value = into_value(act);
+                self.put(place, Item { object, value, cell });
+            }
+        }
+    }
+
+    /// Gives the item at a place another cell, or lets the item go where the cell has no mark and no sum.
+    fn replace(&mut self, place: usize, cell: Cell)
+        requires within { place < length self.old.shelf.items }
+        requires few { length self.old.shelf.items < 2 ^ 64 }
+        requires spare { IsTrue cell.off → 1 ≤ self.old.shelf.spare }
+        ensures items { self.new.shelf.items ≡ replaced place cell self.old.shelf.items }
+        ensures spare { self.old.shelf.spare ≤ self.new.shelf.spare + 1 }
+        ensures kept { cell.off ≡ false → self.old.shelf.spare ≤ self.new.shelf.spare }
+    {
+        if is_filled(&cell) {
+            self.shelf.set_cell(place, cell);
+        } else {
+            self.shelf.remove_span(place, place + 1);
+        }
+    }
+
+    /// Puts an item at its place, where its cell has a mark or a sum.
+    fn put(&mut self, place: usize, item: Item)
+        requires spare { 1 ≤ self.old.shelf.spare }
+        requires within { place ≤ length self.old.shelf.items }
+        requires rise { Rise (put_at place item self.old.shelf.items) }
+        ensures items { self.new.shelf.items ≡ (if is_filled item.cell then put_at place item self.old.shelf.items else self.old.shelf.items) }
+        ensures spare { self.old.shelf.spare ≤ self.new.shelf.spare + 1 }
+    {
+        if is_filled(&item.cell) {
+            self.shelf.insert(place, item);
+        }
+    }
+
+    /// Settles the marks of the kinds in which a remove wins, by the log's entries: an off mark stays while an add is
+    /// pending, and otherwise goes with the on mark. It takes no memory, and looks at the marked items alone.
+    pub fn settle_marks(&mut self, entries: &[Entry])
+        ensures cells { (object : ObjectId) (value : Option (List ℕ)) → cell_in self.new.shelf.items object value ≡ cell_settled object.kind (is_put_in (map message_of entries.now) object value) (cell_in self.old.shelf.items object value) }
+        ensures of { (w : ℕ) (h : History) (m : Message) → IsTrue (is_history w (with_message h m)) → ((object : ObjectId) (value : Option (List ℕ)) → is_put_in (map message_of entries.now) object value ≡ is_put_in (log_of (with_message h m)) object value) → AreMoved h m self.old.shelf → AreSettledOf (with_message h m) self.new.shelf }
+        ensures spare { self.old.shelf.spare ≤ self.new.shelf.spare }
+    {
+        for k in (0..self.shelf.marked_len()).rev() {
+            self.settle_marked(k, entries);
+        }
+    }
+
+    /// Settles the marks of one of the marked items. Those after it are settled.
+    fn settle_marked(&mut self, k: usize, entries: &[Entry])
+        requires within { k < length (marked_of self.old.shelf.items) }
+        requires after { AllWithin (IsSettled (is_put_in (map message_of entries.now))) (marked_of self.old.shelf.items) (k + 1) (length (marked_of self.old.shelf.items)) }
+        ensures within { k ≤ length (marked_of self.new.shelf.items) }
+        ensures after { AllWithin (IsSettled (is_put_in (map message_of entries.now))) (marked_of self.new.shelf.items) k (length (marked_of self.new.shelf.items)) }
+        ensures cells { (object : ObjectId) (value : Option (List ℕ)) → cell_settled object.kind (is_put_in (map message_of entries.now) object value) (cell_in self.new.shelf.items object value) ≡ cell_settled object.kind (is_put_in (map message_of entries.now) object value) (cell_in self.old.shelf.items object value) }
+        ensures spare { self.old.shelf.spare ≤ self.new.shelf.spare }
+    {
+        if let Some(place) = self.loose_place(k, entries) {
+            let cell = without_pending(self.shelf.at(place).cell);
+            self.replace(place, cell);
+        }
+    }
+
+    /// The place of one of the marked items, where its off mark goes.
+    fn loose_place(&self, k: usize, entries: &[Entry]) -> Option<usize>
+        requires { k < length (marked_of self.now.shelf.items) }
+        ensures stays { result ≡ None → HoldsAt (IsSettled (is_put_in (map message_of entries.now))) (marked_of self.now.shelf.items) k }
+        ensures few { IfSome result (λ _. length self.now.shelf.items < 2 ^ 64) }
+        ensures goes { IfSome result (IsLooseAt (is_put_in (map message_of entries.now)) self.now.shelf.items k) }
+    {
+        let item = self.shelf.marked_at(k);
+        if does_wait(item, entries) {
+            return None;
+        }
+        self.shelf.find(&item.object, item.value.as_ref()).ok()
+    }
+}
+
+impl ItemView for Items {
+    ghost items = { λ all. all.shelf.items };
+
+    fn cell(&self, object: &ObjectId, value: Option<&Value>) -> Cell {
+        match self.shelf.find(object, value) {
+            Ok(place) => self.shelf.at(place).cell,
+            Err(_) => NO_CELL,
+        }
+    }
+
+    fn len(&self) -> usize {
+        self.shelf.len()
+    }
+
+    fn item_at(&self, place: usize) -> (&ObjectId, Option<&Value>, Cell) {
+        let item = self.shelf.at(place);
+        (&item.object, item.value.as_ref(), item.cell)
+    }
+
+    ghost rise = { λ all. all.rise };
+
+    ghost filled = { λ all. all.filled };
+}
+
+/// Whether a kind is a set's, in which a value that is added or removed is covered alone.
+fn is_set(kind: Kind) -> bool
+    ensures { result ≡ is_set kind }
+{
+    matches!(kind, Kind::AwSet | Kind::RwSet)
+}
+
+/// An equal item. `NoMemory` leaves nothing behind.
+fn copy_of(item: &Item, alloc: Global) -> Result<Item, NoMemory>
+    ensures { IfOk result (λ copy. copy ≡ item.now) }
+{
+    let value = match &item.value {
+        Some(value) => Some(value.copy(alloc)?),
+        None => None,
+    };
+    Ok(Item {
+        object: item.object.copy(alloc)?,
+        value,
+        cell: item.cell,
+    })
+}
+
+/// Whether a remove wins in a kind.
+fn remove_wins(kind: Kind) -> bool
+    ensures { result ≡ remove_wins kind }
+{
+    matches!(kind, Kind::RwSet | Kind::DwFlag)
+}
+
+/// Whether an item's off mark stays: a remove doesn't win in its kind, or an add is pending.
+fn does_wait(item: &Item, entries: &[Entry]) -> bool
+    ensures { result ≡ waits (is_put_in (map message_of entries.now)) item.now }
+{
+    !remove_wins(item.object.kind) || is_put_in(&item.object, item.value.as_ref(), entries)
+}
+
+/// Whether an entry puts in what an object's value says, or turns the object on.
+fn is_put_in(object: &ObjectId, value: Option<&Value>, entries: &[Entry]) -> bool
+    ensures { result ≡ list_any (λ e. acts_on object.now (puts_in (option_copied value.entry)) (message_of e).op) entries.now }
+{
+    entries
+        .iter()
+        .any(|entry| entry.update.object.is_same(object) && puts_in(value, &entry.update.act))
+}

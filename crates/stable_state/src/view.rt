@@ -1,0 +1,69 @@
+//! Settled items as their readers see them: all, or those that stand side by side.
+//!
+//! A finite map as a sorted list is a textbook rule.
+
+ghost use Rattle.std.specs.Prelude.{◌≡◌, ◌≤◌, length};
+ghost use Rattle.std.specs.List.{between};
+ghost use Rattle.causal_model.specs.Items.{Rise};
+ghost use Rattle.causal_model.specs.Laws.Cells.{AreFilled};
+
+use crate::cell::NO_CELL;
+use crate::shelf::Shelf;
+use causal_model::ItemView;
+use op_base::{Cell, ObjectId, Value};
+
+/// Items that stand side by side, as those of one object do.
+#[derive(Clone, Copy)]
+pub struct ItemSpan<'a> {
+    shelf: &'a Shelf,
+    from: usize,
+    to: usize,
+    ghost ordered: { from ≤ to },
+    ghost within: { to ≤ length shelf.now.items },
+    ghost rise: { Rise shelf.now.items },
+    ghost filled: { AreFilled shelf.now.items },
+}
+
+impl<'a> ItemSpan<'a> {
+    /// The items at places from the first up to, and not with, the second.
+    pub fn new(shelf: &'a Shelf, from: usize, to: usize) -> ItemSpan<'a>
+        requires ordered { from ≤ to }
+        requires within { to ≤ length shelf.now.items }
+        requires rise { Rise shelf.now.items }
+        requires filled { AreFilled shelf.now.items }
+        ensures { between result.from result.to result.shelf.now.items ≡ between from to shelf.now.items }
+    {
+        ItemSpan { shelf, from, to }
+    }
+}
+
+impl ItemView for ItemSpan<'_> {
+    ghost use Rattle.std.specs.List.{between};
+    ghost use Rattle.stable_state.specs.View.{rise_between, filled_between};
+
+    ghost items = { λ span. between span.from span.to span.shelf.now.items };
+
+    fn cell(&self, object: &ObjectId, value: Option<&Value>) -> Cell {
+        let Ok(place) = self.shelf.find(object, value) else {
+            return NO_CELL;
+        };
+        if (self.from..self.to).contains(&place) {
+            self.shelf.at(place).cell
+        } else {
+            NO_CELL
+        }
+    }
+
+    fn len(&self) -> usize {
+        self.to - self.from
+    }
+
+    fn item_at(&self, place: usize) -> (&ObjectId, Option<&Value>, Cell) {
+        let item = self.shelf.at(self.from + place);
+        (&item.object, item.value.as_ref(), item.cell)
+    }
+
+    ghost rise = { λ span. rise_between span.shelf.now.items span.from span.to span.ordered span.within span.rise };
+
+    ghost filled = { λ span. filled_between span.shelf.now.items span.from span.to span.within span.filled };
+}
