@@ -1,5 +1,5 @@
 -- The cell of an object and a value in a list of items that is put together of parts.
-use Rattle.std.proofs.Common.{◌≡◌, ℕ, All, Bool, true, false, not, List, [], ◌∷◌, ◌++◌, append-nil, refl, sym, ap, ◌∙◌, Option, if◌then◌else◌}
+use Rattle.std.proofs.Common.{◌≡◌, ℕ, All, true, false, List, [], ◌∷◌, ◌++◌, append-nil, refl, sym, ap, ◌∙◌, Option, if◌then◌else◌}
 use Rattle.std.specs.Ordering.{is_eq}
 use Rattle.std.proofs.lemmas.Bool.{cond-true, cond-false}
 use Rattle.std.proofs.lemmas.Cmp.{tied_itself}

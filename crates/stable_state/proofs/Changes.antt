@@ -1,14 +1,12 @@
 -- Items with one more, with another cell at a place, or without an item: their cells, order and marks.
-use Rattle.std.proofs.Common.{◌≡◌, ℕ, ◌+◌, ◌<◌, All, Bool, true, false, not, ◌||◌, IsTrue, List, [], ◌∷◌, ◌++◌, length, take, drop, get_or, zero, suc, pos, refl, sym, ap, subst, ◌∙◌, inl, inr, Option, Some, arith, add-one, if◌then◌else◌}
+use Rattle.std.proofs.Common.{◌≡◌, ℕ, ◌+◌, ◌<◌, Bool, true, false, not, ◌||◌, IsTrue, List, [], ◌∷◌, ◌++◌, length, take, drop, get_or, set, pos, refl, sym, ap, subst, ◌∙◌, inl, inr, Option, Some, arith, add-one, if◌then◌else◌}
 use Rattle.std.specs.List.{HoldsAt, slice_get}
 use Rattle.std.specs.Ordering.{int_eq}
-use Rattle.std.specs.declared.cmp.Ordering.TheVariants.{Less}
 use Rattle.std.proofs.lemmas.Bool.{cases_Bool, cond-true, cond-false, cond_both, or_parts, not-false}
 use Rattle.std.proofs.lemmas.Bool.Decides.{Decides-int_eq}
-use Rattle.std.proofs.lemmas.List.{drop_all, drop_more, get_or-take, get_or_default, length-take, take-append-drop, take-take, take_more}
+use Rattle.std.proofs.lemmas.List.{drop_all, drop_more, get_or_default, length-take, set_split, take-append-drop, take-take, take_more}
 use Rattle.std.proofs.lemmas.Option.{get_or_from_slice_get, slice_get_within}
 use Rattle.std.proofs.lemmas.List.Elements.{All-append, All-cons, All-drop, All-nil, All-take, filter-append}
-use Rattle.op_base.specs.Order.{item_cmp}
 use Rattle.op_base.specs.declared.name.ObjectId.{ObjectId}
 use Rattle.op_base.specs.declared.outcome.Cell.{Cell}
 use Rattle.op_base.specs.declared.outcome.Item.{Item}
@@ -23,6 +21,7 @@ use Rattle.stable_state.specs.Places.{with_cell, marked_of, IsGapFor}
 use Rattle.stable_state.specs.Shelf.{put_at, without_span}
 use Rattle.stable_state.specs.Slots.{no_item}
 use Rattle.stable_state.proofs.Cells.{place_itself, same_place}
+use Rattle.stable_state.proofs.Ordered.{with_cell_set, rise-with_cell}
 use Rattle.stable_state.proofs.Spans.{cell_swapped, cell_without, rise_without, one_is_picked, none_is_picked}
 
 -- the cell that isn't filled is the one with no mark and the sum 0
@@ -82,40 +81,7 @@ put_next items place item within at =
     (λ i. take-take place place items (omega arith) i ++ item ∷ drop_all place (take place items) (omega (arith, length-take place items)) i)
     ∙ ap (λ (x : Item). take place items ++ x ∷ []) (sym at) ∙ sym (take_more items place item within)
 
-pub rise_take : (items : List Item) (n : ℕ) → Rise items → Rise (take n items)
-rise_take items n rise = λ i j d lt l.
-    let low : j < n = omega (arith, l, length-take n items) in
-    let Before : Item → Item → Type 0 = λ a b. item_cmp a.object a.value b.object b.value ≡ Less in
-    subst (λ (a : Item). Before a (get_or (take n items) j d)) (sym (get_or-take n items i d (omega arith)))
-    (subst (λ (b : Item). Before (get_or items i d) b) (sym (get_or-take n items j d low)) (rise i j d lt (omega (arith, l, length-take n items))))
-
 -- ---- another cell at a place
-
-with_cell_split : (items : List Item) (place : ℕ) (item : Item) (cell : Cell) → place < length items → get_or items place item ≡ item
-    → with_cell place cell items ≡ take place items ++ record item { cell = cell } ∷ drop (suc place) items
-with_cell_split [] place item cell within at = absurd (omega (arith, within))
-with_cell_split (x ∷ xs) zero item cell within at = ap (λ (z : Item). record z { cell = cell } ∷ xs) at
-with_cell_split (x ∷ xs) (suc place) item cell within at = ap (λ ys. x ∷ ys) (with_cell_split xs place item cell (omega (arith, within)) at)
-
--- items stay where they are
-same_places : (items : List Item) (place : ℕ) (cell : Cell) (k : ℕ) (d : Item)
-    → ((get_or (with_cell place cell items) k d).object ≡ (get_or items k d).object) × ((get_or (with_cell place cell items) k d).value ≡ (get_or items k d).value)
-same_places [] place cell k d = (refl, refl)
-same_places (x ∷ xs) zero cell zero d = (refl, refl)
-same_places (x ∷ xs) zero cell (suc k) d = (refl, refl)
-same_places (x ∷ xs) (suc place) cell zero d = (refl, refl)
-same_places (x ∷ xs) (suc place) cell (suc k) d = same_places xs place cell k d
-
-length-with_cell : (items : List Item) (place : ℕ) (cell : Cell) → length (with_cell place cell items) ≡ length items
-length-with_cell [] place cell = refl
-length-with_cell (x ∷ xs) zero cell = refl
-length-with_cell (x ∷ xs) (suc place) cell = ap suc (length-with_cell xs place cell)
-
-rise_with_cell : (items : List Item) (place : ℕ) (cell : Cell) → Rise items → Rise (with_cell place cell items)
-rise_with_cell items place cell rise = λ i j d lt within.
-    let a = same_places items place cell i d in
-    let b = same_places items place cell j d in
-    (λ t. item_cmp (a.0 t) (a.1 t) (b.0 t) (b.1 t)) ∙ rise i j d lt (omega (arith, within, length-with_cell items place cell))
 
 module _ (items : List Item) (place : ℕ) (item : Item) (rise : Rise items) (within : place < length items) (at : get_or items place item ≡ item) where
   abbrev here : ObjectId → Option (List ℕ) → Bool
@@ -132,7 +98,10 @@ module _ (items : List Item) (place : ℕ) (item : Item) (rise : Rise items) (wi
 
   module _ (cell : Cell) where
     split : with_cell place cell items ≡ take place items ++ record item { cell = cell } ∷ drop (place + 1) items
-    split = with_cell_split items place item cell within at ∙ ap (λ n. take place items ++ record item { cell = cell } ∷ drop n items) (sym (add-one place))
+    split =
+        with_cell_set place cell items item ∙ ap (λ (x : Item). set items place (record x { cell = cell })) at
+        ∙ set_split items place (record item { cell = cell }) within
+        ∙ ap (λ n. take place items ++ record item { cell = cell } ∷ drop n items) (sym (add-one place))
 
     pub cell_replaced : (object : ObjectId) (value : Option (List ℕ)) → cell_in (replaced place cell items) object value ≡ (if here object value then cell else cell_in items object value)
     cell_replaced object value =
@@ -144,7 +113,7 @@ module _ (items : List Item) (place : ℕ) (item : Item) (rise : Rise items) (wi
 
     pub rise_replaced : Rise (replaced place cell items)
     rise_replaced = cond_both (is_filled cell) (with_cell place cell items) (without_span place (place + 1) items) Rise
-        (λ _. rise_with_cell items place cell rise)
+        (λ _. rise-with_cell place cell items rise)
         (λ _. rise_without here items place (place + 1) (one_is_picked items place item rise within at) rise)
 
     pub filled_replaced : AreFilled items → AreFilled (replaced place cell items)

@@ -115,7 +115,7 @@ module _ (old new : Slab Item) (order marked : List ℕ) (from to : ℕ) (ordere
 
 -- ---- an item gets another cell
 
-with_cell_set : (place : ℕ) (cell : Cell) (items : List Item) (d : Item) → with_cell place cell items ≡ set items place (record (get_or items place d) { cell = cell })
+pub with_cell_set : (place : ℕ) (cell : Cell) (items : List Item) (d : Item) → with_cell place cell items ≡ set items place (record (get_or items place d) { cell = cell })
 with_cell_set place cell [] d = refl
 with_cell_set zero cell (item ∷ items) d = refl
 with_cell_set (suc place) cell (item ∷ items) d = ap (λ xs. item ∷ xs) (with_cell_set place cell items d)
@@ -128,7 +128,7 @@ with_cell_names zero cell (item ∷ items) (suc k) d = (refl, refl)
 with_cell_names (suc place) cell (item ∷ items) zero d = (refl, refl)
 with_cell_names (suc place) cell (item ∷ items) (suc k) d = with_cell_names place cell items k d
 
-rise-with_cell : (place : ℕ) (cell : Cell) (items : List Item) → Rise items → Rise (with_cell place cell items)
+pub rise-with_cell : (place : ℕ) (cell : Cell) (items : List Item) → Rise items → Rise (with_cell place cell items)
 rise-with_cell place cell items rise i j d less within =
     let x = with_cell_names place cell items i d in
     let y = with_cell_names place cell items j d in

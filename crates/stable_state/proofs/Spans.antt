@@ -1,5 +1,5 @@
 -- Items that stand side by side: what taking them out, or putting others there, does to each cell.
-use Rattle.std.proofs.Common.{◌≡◌, ℕ, ◌+◌, ◌-◌, ◌<◌, ◌≤◌, All, AllPairs, IsTrue, Bool, true, false, not, List, [], ◌∷◌, ◌++◌, append-nil, length, take, drop, get_or, refl, sym, ap, subst, ◌∙◌, inl, inr, Option, None, arith, if◌then◌else◌}
+use Rattle.std.proofs.Common.{◌≡◌, ℕ, ◌+◌, ◌<◌, ◌≤◌, All, IsTrue, Bool, true, false, not, List, [], ◌++◌, append-nil, length, take, drop, get_or, refl, sym, ap, subst, ◌∙◌, inl, inr, Option, None, arith, if◌then◌else◌}
 use Rattle.std.specs.List.{filter, AllWithin, HoldsAt, between}
 use Rattle.std.specs.Ordering.{ordering_reverse, ordering_then, is_eq}
 use Rattle.std.specs.declared.cmp.Ordering.{Ordering}
@@ -7,7 +7,7 @@ use Rattle.std.specs.declared.cmp.Ordering.TheVariants.{Less, Equal, Greater}
 use Rattle.std.proofs.lemmas.Bool.{and_parts, both_ways, cases_Bool, cases_order, cond-true, cond-false, false_from_ne_true, not_from_true, not_from_false}
 use Rattle.std.proofs.lemmas.List.{length-take, length-drop, get_or-take, get_or-drop, get_or_default, take-append-drop}
 use Rattle.std.proofs.lemmas.List.Edits.{length-between, get_or-between, split_between}
-use Rattle.std.proofs.lemmas.List.Elements.{All-append, All-filter, All-nil, All-weaker, filter-append}
+use Rattle.std.proofs.lemmas.List.Elements.{All-filter, All-nil, All-weaker, filter-append}
 use Rattle.std.proofs.lemmas.List.Kept.{AllPairs-filter}
 use Rattle.op_base.specs.Object.{same_object}
 use Rattle.op_base.specs.Order.{item_cmp, object_cmp}
@@ -24,7 +24,7 @@ use Rattle.stable_state.specs.Picked.{ArePicked, is_place}
 use Rattle.stable_state.specs.Places.{IsGapFor, IsSpan}
 use Rattle.stable_state.specs.Shelf.{without_span}
 use Rattle.stable_state.specs.Slots.{no_item}
-use Rattle.stable_state.proofs.Cells.{IsAway, place_itself, same_place, cell-none, cell-around, cell-within}
+use Rattle.stable_state.proofs.Cells.{IsAway, place_itself, same_place, cell-around, cell-within}
 
 -- ---- parts of a list
 

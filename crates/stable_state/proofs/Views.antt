@@ -6,7 +6,7 @@ use Rattle.std.specs.Ordering.{is_eq, is_le, is_lt, nat_cmp}
 use Rattle.std.proofs.lemmas.Bool.{cases_lt, false_from_ne_true}
 use Rattle.std.proofs.lemmas.Bool.Decides.{nat_tests}
 use Rattle.std.proofs.lemmas.List.Edits.{length-between, get_or-between}
-use Rattle.std.proofs.lemmas.Option.{get_or_from_slice_get, slice_get-get_or, slice_get_within}
+use Rattle.std.proofs.lemmas.Option.{get_or_from_slice_get, slice_get-get_or}
 use Rattle.op_base.specs.declared.name.ObjectId.{ObjectId}
 use Rattle.op_base.specs.declared.outcome.Item.{Item}
 use Rattle.causal_model.specs.Items.{zero_cell, is_at, cell_in, Rise}

@@ -1,5 +1,5 @@
 -- What holds of items while a message is moved into them. Each statement is the contract of a function of laws.rt.
-use Rattle.std.specs.Prelude.{◌≡◌, ◌≢◌, ℕ, ◌+◌, ◌≤◌, ◌^◌, length, IsTrue, Option, List, Some, slice_get, ◌+ℤ◌}
+use Rattle.std.specs.Prelude.{◌≡◌, ◌≢◌, ℕ, ◌≤◌, ◌^◌, length, IsTrue, Some, slice_get, ◌+ℤ◌}
 use Rattle.op_base.specs.declared.message.Entry.{Entry}
 use Rattle.op_base.specs.declared.message.Message.{Message}
 use Rattle.op_base.specs.declared.name.Kind.TheVariants.{Counter}

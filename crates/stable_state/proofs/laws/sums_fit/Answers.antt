@@ -1,4 +1,4 @@
-use Rattle.std.proofs.Common.{◌+◌, length, sym, ◌∙◌}
+use Rattle.std.proofs.Common.{◌+◌, length}
 use Rattle.causal_model.specs.Acts.{value_of}
 use Rattle.causal_model.specs.CellSteps.{cell_absorbed, cell_moved, stripped_of}
 use Rattle.causal_model.specs.Log.{message_of}

@@ -1,6 +1,5 @@
 use Rattle.std.proofs.Common.{◌≡◌, ◌^◌, ◌+ℤ◌, true, ap, sym, subst, ◌∙◌, if◌then◌else◌}
 use Rattle.std.specs.List.{HoldsAt}
-use Rattle.op_base.specs.declared.name.ObjectId.{ObjectId}
 use Rattle.op_base.specs.declared.outcome.Cell.{Cell}
 use Rattle.op_base.specs.declared.outcome.Item.{Item}
 use Rattle.causal_model.specs.Acts.{value_of}

@@ -1,11 +1,14 @@
 use Rattle.std.proofs.Common.{◌≡◌, ◌+◌, true, ap, arith, length, length-take, sym, subst, ◌∙◌}
+use Rattle.std.specs.declared.cmp.Ordering.TheVariants.{Less}
 use Rattle.std.proofs.lemmas.Bool.{cond-true}
 use Rattle.std.proofs.lemmas.List.{take_all}
 use Rattle.std.proofs.lemmas.Option.{get_or_from_slice_get, slice_get_within}
+use Rattle.op_base.specs.Order.{item_cmp}
 use Rattle.op_base.specs.declared.outcome.Item.{Item}
 use Rattle.causal_model.specs.Items.{is_filled, Rise}
 use Rattle.stable_state.specs.Shelf.{put_at, Shelved}
-use Rattle.stable_state.proofs.Changes.{put_next, rise_take}
+use Rattle.stable_state.proofs.Changes.{put_next}
+use Rattle.stable_state.proofs.Places.{AllPairs-take}
 use Rattle.stable_state.proofs.items.Items.copy.Goals as goal
 
 pub loop-place-init : goal.loop-place-init
@@ -27,7 +30,7 @@ put-requires-clause-rise c =
     let item = c.in_ok-copy_of.field-0 in
     let within = slice_get_within items place c.at.result.now c.at.ensures in
     let at = get_or_from_slice_get items place c.at.result.now item c.at.ensures ∙ sym c.in_ok-copy_of.ensures in
-    subst Rise (sym (ap (put_at place item) c.loop-place.invariant.items ∙ put_next items place item within at)) (rise_take items (place + 1) c.args.self.now.rise)
+    subst Rise (sym (ap (put_at place item) c.loop-place.invariant.items ∙ put_next items place item within at)) (AllPairs-take (λ (a b : Item). item_cmp a.object a.value b.object b.value ≡ Less) (place + 1) items (omega arith) c.args.self.now.rise)
 
 pub loop-place-preserved : goal.loop-place-preserved
 loop-place-preserved c =

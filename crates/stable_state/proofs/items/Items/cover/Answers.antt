@@ -1,5 +1,4 @@
-use Rattle.std.proofs.Common.{◌≡◌, ℕ, List, Option, ap, sym, subst, ◌∙◌}
-use Rattle.op_base.specs.declared.name.ObjectId.{ObjectId}
+use Rattle.std.proofs.Common.{ap, sym, subst, ◌∙◌}
 use Rattle.op_base.specs.declared.operation.Op.TheVariants as op
 use Rattle.causal_model.specs.CellSteps.{covers_place, cell_uncovered}
 use Rattle.causal_model.specs.Items.{cell_in, Rise}

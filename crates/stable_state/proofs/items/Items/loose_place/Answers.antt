@@ -1,10 +1,9 @@
-use Rattle.std.proofs.Common.{◌≡◌, ℕ, ◌<◌, ◌^◌, Option, Result, Some, None, Ok, Err, true, get_or, length, ap, sym, subst, ◌∙◌}
+use Rattle.std.proofs.Common.{◌≡◌, ℕ, ◌<◌, ◌^◌, Option, Result, Some, None, Ok, Err, true, length, ap, sym, subst, ◌∙◌}
 use Rattle.std.specs.List.{HoldsAt}
 use Rattle.std.specs.Prelude.{map}
 use Rattle.std.specs.Option.{IfSome, option_copied}
 use Rattle.std.specs.Result.{IfOk, IfErr, result_ok}
 use Rattle.std.proofs.lemmas.Option.{get_or_from_slice_get, none-some, slice_get-get_or}
-use Rattle.op_base.specs.declared.outcome.Item.{Item}
 use Rattle.causal_model.specs.CellSteps.{is_put_in}
 use Rattle.causal_model.specs.Items.{is_at}
 use Rattle.causal_model.specs.Log.{message_of}

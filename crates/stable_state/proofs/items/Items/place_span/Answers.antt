@@ -1,10 +1,4 @@
-use Rattle.std.proofs.Common.{arith, subst, get_or, length, List, ℕ, Option}
 use Rattle.std.specs.Option.{option_copied}
-use Rattle.std.proofs.lemmas.List.{get_or_default}
-use Rattle.op_base.specs.declared.name.ObjectId.{ObjectId}
-use Rattle.stable_state.specs.Picked.{ArePicked, is_place}
-use Rattle.stable_state.specs.Slots.{no_item}
-use Rattle.stable_state.proofs.Cells.{same_place}
 use Rattle.stable_state.proofs.Spans.{found_is_picked, none_is_picked}
 use Rattle.stable_state.proofs.items.Items.place_span.Goals as goal
 

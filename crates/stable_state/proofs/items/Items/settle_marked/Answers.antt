@@ -1,8 +1,8 @@
-use Rattle.std.proofs.Common.{◌≡◌, ◌≤◌, false, length, refl, ap, sym, subst, ◌∙◌}
+use Rattle.std.proofs.Common.{◌≤◌, false, length, refl, ap, sym, subst, ◌∙◌}
 use Rattle.std.specs.List.{AllWithin}
 use Rattle.std.specs.Prelude.{map}
 use Rattle.std.proofs.lemmas.Bool.{and_right}
-use Rattle.std.proofs.lemmas.Option.{get_or_from_slice_get, slice_get_within}
+use Rattle.std.proofs.lemmas.Option.{get_or_from_slice_get}
 use Rattle.op_base.specs.declared.outcome.Cell.{Cell}
 use Rattle.causal_model.specs.CellSteps.{cell_settled, is_put_in}
 use Rattle.causal_model.specs.Items.{cell_in}

@@ -1,4 +1,4 @@
-use Rattle.std.proofs.Common.{arith, sym, ap, refl, map, ◌∙◌}
+use Rattle.std.proofs.Common.{arith, sym, refl, map, ◌∙◌}
 use Rattle.causal_model.specs.CellSteps.{is_put_in}
 use Rattle.causal_model.specs.Log.{message_of}
 use Rattle.stable_state.proofs.Marks.{all_are_settled}
