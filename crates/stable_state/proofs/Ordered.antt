@@ -20,10 +20,10 @@ use Rattle.stable_state.proofs.Places.{IsLess, AllPairs-take, AllPairs-drop}
 use Rattle.stable_state.proofs.Slots.{IsKept, items_kept, marks_agree, held_kept, item_is, item_at_place, slots_apart, items_in-insert, items_in-remove_range}
 
 -- more room changes nothing else
-pub more_room : (old new : Slab Item) (order order' marked marked' : List ℕ) → new ≡ record old { capacity = new.capacity } → order' ≡ order → marked' ≡ marked → IsOrdered old order marked → IsOrdered new order' marked'
-more_room old new order order' marked marked' is order_is marked_is ordered =
+pub more_room : (old new : Slab Item) (order order' marked marked' : List ℕ) → old.capacity ≤ new.capacity → new ≡ record old { capacity = new.capacity } → order' ≡ order → marked' ≡ marked → IsOrdered old order marked → IsOrdered new order' marked'
+more_room old new order order' marked marked' more is order_is marked_is ordered =
     subst (λ slots. IsOrdered slots order' marked') (sym is) (subst (λ xs. IsOrdered (record old { capacity = new.capacity }) xs marked') (sym order_is) (subst (IsOrdered (record old { capacity = new.capacity }) order) (sym marked_is)
-    (record { held = ordered.held; counted = ordered.counted; rise = ordered.rise; filled = ordered.filled; marks = ordered.marks })))
+    (record { held = ordered.held; counted = ordered.counted; fits = omega (arith, ordered.fits, more); rise = ordered.rise; filled = ordered.filled; marks = ordered.marks })))
 
 -- how many of the first items have an off mark, by their slots
 pub marks_in_front : (slots : Slab Item) (order : List ℕ) (items : List Item) (place : ℕ) → items_in slots order ≡ items → length (marked_of (take place items)) ≡ passing (is_marked slots) place order
@@ -52,13 +52,14 @@ module _ (old new : Slab Item) (order marked : List ℕ) (place slot : ℕ) (ite
       let off : is_marked new slot ≡ item.cell.off = ap (λ o. (unwrap_or o no_item).cell.off) changes.changed in
       filter-insert (is_marked new) place order slot ∙ (λ i. cond (off i) (insert (same i) (front i) slot) (same i))
 
-  pub ordered-insert : (marked' : List ℕ) → slab_len new ≡ slab_len old + 1 → IsTrue (is_filled item.cell) → Rise (insert (items_in old order) place item)
+  pub ordered-insert : (marked' : List ℕ) → slab_len new ≡ slab_len old + 1 → slab_len old + 1 ≤ new.capacity → IsTrue (is_filled item.cell) → Rise (insert (items_in old order) place item)
       → marked' ≡ cond item.cell.off (insert marked (passing (is_marked old) place order) slot) marked → IsOrdered new (insert order place slot) marked'
-  ordered-insert marked' len filled rise marks =
+  ordered-insert marked' len room filled rise marks =
       let held = held_kept old new order kept ordered.held in
       record {
         held = All-append (ContainsKey new) (take place order) (slot ∷ drop place order) (All-take (ContainsKey new) place order held) (All-cons (ContainsKey new) slot (drop place order) (ap is_some changes.changed) (All-drop (ContainsKey new) place order held));
         counted = omega (arith, len, ordered.counted, length-insert order place slot within);
+        fits = omega (arith, len, room);
         rise = subst Rise (sym items-insert) rise;
         filled =
             let P = λ (x : Item). IsTrue (is_filled x.cell) in
@@ -94,14 +95,15 @@ module _ (old new : Slab Item) (order marked : List ℕ) (from to : ℕ) (ordere
   pub items-remove : items_in new (remove_range order from to) ≡ remove_range (items_in old order) from to
   items-remove = items_kept old new (remove_range order from to) others_kept ∙ items_in-remove_range old order from to
 
-  pub ordered-remove : slab_len new + length (slice_range order from to) ≡ slab_len old → IsOrdered new (remove_range order from to) (remove_range marked (passing (is_marked old) from order) (passing (is_marked old) to order))
-  ordered-remove len =
+  pub ordered-remove : slab_len new + length (slice_range order from to) ≡ slab_len old → new.capacity ≡ old.capacity → IsOrdered new (remove_range order from to) (remove_range marked (passing (is_marked old) from order) (passing (is_marked old) to order))
+  ordered-remove len capacity =
       let items = items_in old order in
       let P = λ (x : Item). IsTrue (is_filled x.cell) in
       let long : length items ≡ length order = length-map order (item_in old) in
       record {
         held = held_kept old new (remove_range order from to) others_kept (All-append (ContainsKey old) (take from order) (drop to order) (All-take (ContainsKey old) from order ordered.held) (All-drop (ContainsKey old) to order ordered.held));
         counted = omega (arith, len, le, within, ordered.counted, length-between order from to within, length-append (take from order) (drop to order), length-take-le from order (omega (arith, le, within)), length-drop to order);
+        fits = omega (arith, len, capacity, ordered.fits);
         rise = subst Rise (sym items-remove) (AllPairs-append IsLess (take from items) (drop to items) (AllPairs-take IsLess from items (omega (arith, le, within, long)) ordered.rise) (AllPairs-drop IsLess to items ordered.rise) (λ k d l j e m.
             let below : k < from = omega (arith, l, length-take-le from items (omega (arith, le, within, long))) in
             let past : to + j < length items = omega (arith, m, length-drop to items) in
@@ -222,6 +224,7 @@ module _ (old : Slab Item) (order marked : List ℕ) (place slot : ℕ) (cell : 
           | inr ne ↦ ap is_some (elsewhere (get_or order k d) ne) ∙ ordered.held k d l
         ];
         counted = len-write ∙ ordered.counted;
+        fits = omega (arith, len-write, ordered.fits);
         rise = subst Rise (sym items-write) (rise-with_cell place cell items ordered.rise);
         filled = subst (All P) (sym (items-write ∙ with_cell_set place cell items no_item)) (All-set P items place (record (get_or items place no_item) { cell = cell }) filled ordered.filled);
         marks = marks;

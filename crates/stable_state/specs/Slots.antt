@@ -1,5 +1,5 @@
 -- Items in slots, and lists of slots.
-use Rattle.std.specs.Prelude.{◌≡◌, ℕ, Bool, false, List, [], map, length, None, unwrap_or, pos, IsTrue, All, filter}
+use Rattle.std.specs.Prelude.{◌≡◌, ℕ, ◌≤◌, Bool, false, List, [], map, length, None, unwrap_or, pos, IsTrue, All, filter}
 use Rattle.op_base.specs.declared.name.Kind.TheVariants.{AwSet}
 use Rattle.op_base.specs.declared.outcome.Item.{Item}
 use Rattle.causal_model.specs.Items.{is_filled, Rise}
@@ -25,6 +25,7 @@ is_marked slots slot = (item_in slots slot).cell.off
 pub record IsOrdered (slots : Slab Item) (order marked : List ℕ) : Type 0 where
   pub held : All (λ slot. ContainsKey slots slot) order
   pub counted : slab_len slots ≡ length order
+  pub fits : slab_len slots ≤ slots.capacity
   pub rise : Rise (items_in slots order)
   pub filled : All (λ item. IsTrue (is_filled item.cell)) (items_in slots order)
   pub marks : marked ≡ filter (is_marked slots) order

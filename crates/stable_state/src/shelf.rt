@@ -3,7 +3,7 @@
 //! An index in order over records that stay where they are is a textbook rule.
 
 ghost use Rattle.std.specs.Prelude.{◌≡◌, ◌≢◌, ℕ, ◌+◌, ◌-◌, ◌^◌, ◌<◌, ◌≤◌, true, false, [], length, take, insert, slice_get};
-ghost use Rattle.std.specs.Prelude.{Some, IsTrue, IfOk, OnOk, IfErr, All, AllPairs, Contains, HoldsAt, option_copied};
+ghost use Rattle.std.specs.Prelude.{Some, IsTrue, IfOk, OnOk, IfErr, IsOk, All, AllPairs, Contains, HoldsAt, option_copied};
 ghost use Rattle.std.specs.Prelude.{vec_len, vec_capacity};
 ghost use Rattle.std.specs.List.{remove_range};
 ghost use Rattle.causal_model.specs.Items.{is_at, is_filled, Rise};
@@ -56,6 +56,7 @@ impl Shelf {
     /// Takes room for `k` items more. `NoMemory` leaves the items and the room as they were, or more room.
     pub fn reserve(&mut self, k: usize) -> Result<(), NoMemory>
         ensures room { OnOk result (k ≤ self.new.spare) }
+        ensures had_room { k ≤ self.old.spare → IsOk result }
         ensures items { self.new.items ≡ self.old.items }
         ensures spare { self.old.spare ≤ self.new.spare }
     {

@@ -68,9 +68,10 @@ invariant_of-self c =
     let s = c.self.inside in
     let new = c.insert_reserved.new.self in
     let len = c.insert_reserved.ensures.len ∙ ap (λ slots. slab_len slots + 1) (noted c).slots in
+    let room : slab_len s.slots + 1 ≤ new.capacity = omega (arith, ap (λ shelved. shelved.spare) c.self.view_is, c.requires.spare, c.insert_reserved.ensures.capacity, ap (λ slots. slots.capacity) (noted c).slots) in
     let rise = subst (λ items. Rise (insert items c.args.place c.args.item)) (sym (ap (λ shelved. shelved.items) c.self.view_is)) c.requires.rise in
     subst (λ order. IsOrdered new order c.if-item.self-inside.marked.items) (sym (order_is c))
-    (ordered-insert s.slots new s.order.items s.marked.items c.args.place c.vacant_key-slot.result c.args.item c.self.invariant (within c) c.vacant_key-slot.ensures.vacant (changes c) c.if-item.self-inside.marked.items len c.requires.filled rise (noted c).marked)
+    (ordered-insert s.slots new s.order.items s.marked.items c.args.place c.vacant_key-slot.result c.args.item c.self.invariant (within c) c.vacant_key-slot.ensures.vacant (changes c) c.if-item.self-inside.marked.items len room c.requires.filled rise (noted c).marked)
 
 pub returns-clause-items : goal.returns-clause-items
 returns-clause-items c =

@@ -62,7 +62,7 @@ invariant_of-self c =
     let front = λ (place : ℕ). marks_in_front s.slots order c.args.self.now.items place is in
     let len = subst (λ xs. slab_len new + length (slice_range xs c.args.from c.args.to) ≡ slab_len s.slots) c.deref.ensures.value c.empty_slots.ensures.len in
     let marks = c.cut-2.ensures.items ∙ (λ i. remove_range s.marked.items ((c.marks_before-first_mark.ensures ∙ front c.args.from) i) ((c.marks_before-last_mark.ensures ∙ front c.args.to) i)) in
-    let ordered = ordered-remove s.slots new order s.marked.items c.args.from c.args.to c.self.invariant c.requires.ordered (within c) (others c) len in
+    let ordered = ordered-remove s.slots new order s.marked.items c.args.from c.args.to c.self.invariant c.requires.ordered (within c) (others c) len c.empty_slots.ensures.capacity in
     subst (λ xs. IsOrdered new xs c.cut-2.new.list.items) (sym c.cut.ensures.items) (subst (IsOrdered new (remove_range order c.args.from c.args.to)) (sym marks) ordered)
 
 pub returns-clause-items : goal.returns-clause-items
