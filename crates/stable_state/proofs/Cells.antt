@@ -1,7 +1,7 @@
 -- The cell of an object and a value in a list of items that is put together of parts.
 use Rattle.std.proofs.Common.{◌≡◌, ℕ, All, true, false, List, [], ◌∷◌, ◌++◌, append-nil, refl, sym, ap, ◌∙◌, Option, if◌then◌else◌}
 use Rattle.std.specs.Ordering.{is_eq}
-use Rattle.std.proofs.lemmas.Bool.{cond-true, cond-false}
+use Rattle.std.proofs.lemmas.Bool.{cond-false}
 use Rattle.std.proofs.lemmas.Cmp.{tied_itself}
 use Rattle.std.proofs.lemmas.List.Elements.{All-head, All-tail}
 use Rattle.op_base.specs.Order.{item_cmp}
@@ -31,9 +31,6 @@ module _ (object : ObjectId) (value : Option (List ℕ)) where
 
   cell-away : (x : Item) (xs : List Item) → IsAway x → cell (x ∷ xs) ≡ cell xs
   cell-away x xs t = cond-false (is_at object value x) x.cell (cell xs) t
-
-  pub cell-alone : (x : Item) → is_at object value x ≡ true → cell (x ∷ []) ≡ x.cell
-  cell-alone x t = cond-true (is_at object value x) x.cell zero_cell t
 
   -- items in front that are away leave the cell
   cell-after : (xs ys : List Item) → All IsAway xs → cell (xs ++ ys) ≡ cell ys

@@ -25,7 +25,7 @@ use Rattle.stable_state.proofs.Ordered.{with_cell_set, rise-with_cell}
 use Rattle.stable_state.proofs.Spans.{cell_swapped, cell_without, rise_without, one_is_picked, none_is_picked}
 
 -- the cell that isn't filled is the one with no mark and the sum 0
-pub unfilled_is_zero : (cell : Cell) → is_filled cell ≡ false → cell ≡ zero_cell
+unfilled_is_zero : (cell : Cell) → is_filled cell ≡ false → cell ≡ zero_cell
 unfilled_is_zero cell t =
     let marks = or_parts (cell.on || cell.off) (not (int_eq cell.sum (pos 0))) t in
     let both = or_parts cell.on cell.off marks.0 in
@@ -72,9 +72,6 @@ filled_put items place item each = cond_both (is_filled item.cell) (put_at place
     (λ t. All-append Filled (take place items) (item ∷ drop place items) (All-take Filled place items each) (All-cons Filled item (drop place items) t (All-drop Filled place items each)))
     (λ _. each)
 
-pub rise_put : (items : List Item) (place : ℕ) (item : Item) → Rise items → Rise (put_at place item items) → Rise (put_if_filled place item items)
-rise_put items place item rise rises = cond_both (is_filled item.cell) (put_at place item items) items Rise (λ _. rises) (λ _. rise)
-
 -- items in front, and the next one put behind them
 pub put_next : (items : List Item) (place : ℕ) (item : Item) → place < length items → get_or items place item ≡ item → put_at place item (take place items) ≡ take (place + 1) items
 put_next items place item within at =
@@ -111,12 +108,12 @@ module _ (items : List Item) (place : ℕ) (item : Item) (rise : Rise items) (wi
         (λ _. ap (λ xs. cell_in xs object value) split ∙ cell_of_one items place (place + 1) (record item { cell = cell }) picked object value)
         (λ f. cell_without here items place (place + 1) picked object value ∙ ap (λ c. if here object value then c else cell_in items object value) (sym (unfilled_is_zero cell f)))
 
-    pub rise_replaced : Rise (replaced place cell items)
+    rise_replaced : Rise (replaced place cell items)
     rise_replaced = cond_both (is_filled cell) (with_cell place cell items) (without_span place (place + 1) items) Rise
         (λ _. rise-with_cell place cell items rise)
         (λ _. rise_without here items place (place + 1) (one_is_picked items place item rise within at) rise)
 
-    pub filled_replaced : AreFilled items → AreFilled (replaced place cell items)
+    filled_replaced : AreFilled items → AreFilled (replaced place cell items)
     filled_replaced each = cond_both (is_filled cell) (with_cell place cell items) (without_span place (place + 1) items) AreFilled
         (λ t. subst AreFilled (sym split) (All-append Filled (take place items) (record item { cell = cell } ∷ drop (place + 1) items) (All-take Filled place items each) (All-cons Filled (record item { cell = cell }) (drop (place + 1) items) t (All-drop Filled (place + 1) items each))))
         (λ _. All-append Filled (take place items) (drop (place + 1) items) (All-take Filled place items each) (All-drop Filled (place + 1) items each))

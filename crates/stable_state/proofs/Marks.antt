@@ -132,11 +132,11 @@ module _ (items : List Item) (place k : ℕ) (item : Item) (rise : Rise items) (
     marks_behind P each = λ j d l h.
         let is = marked_replaced items place item rise within at cell off in
         let old : get_or (marked_of items) (j + 1) d ≡ get_or back (j - k) d =
-            ap (λ xs. get_or xs (j + 1) d) marked_split
-            ∙ get_or-append_right front (item ∷ back) k (j + 1) d (sym number) (omega (arith, l))
-            ∙ ap (λ n. get_or (item ∷ back) n d) (let e : j + 1 - k ≡ suc (j - k) = omega (arith, l) in e) in
+        ap (λ xs. get_or xs (j + 1) d) marked_split
+        ∙ get_or-append_right front (item ∷ back) k (j + 1) d (sym number) (omega (arith, l))
+        ∙ ap (λ n. get_or (item ∷ back) n d) (let e : j + 1 - k ≡ suc (j - k) = omega (arith, l) in e) in
         let new : get_or (marked_of (replaced place cell items)) j d ≡ get_or back (j - k) d =
-            ap (λ xs. get_or xs j d) is ∙ get_or-append_right front back k j d (sym number) l in
+        ap (λ xs. get_or xs j d) is ∙ get_or-append_right front back k j d (sym number) l in
         let more : j + 1 < length (marked_of items) = omega (arith, h, ap length marked_split, ap length is, length-append front (item ∷ back), length-append front back) in
         subst P (old ∙ sym new) (each (j + 1) d (omega (arith, l)) more)
 
@@ -152,8 +152,8 @@ module _ (items : List Item) (place k : ℕ) (item : Item) (rise : Rise items) (
         (λ t.
         let same = same_place item.object object item.value value t in
         let here : settled item.object item.value (marks_settled false item.cell) ≡ settled item.object item.value (cell_in items item.object item.value) =
-            ap (settled item.object item.value) (sym loose) ∙ settled_twice item.object.kind (pending item.object item.value) item.cell
-            ∙ ap (settled item.object item.value) (sym (cell_there items place item rise within at)) in
+        ap (settled item.object item.value) (sym loose) ∙ settled_twice item.object.kind (pending item.object item.value) item.cell
+        ∙ ap (settled item.object item.value) (sym (cell_there items place item rise within at)) in
         let P : ObjectId → Option (List ℕ) → Type 0 = λ o v. settled o v (marks_settled false item.cell) ≡ settled o v (cell_in items o v) in
         subst (λ v. P object v) same.1 (subst (λ (o : ObjectId). P o item.value) same.0 here))
         (λ _. refl)

@@ -67,5 +67,5 @@ module _ (items : List Item) (u : Update) (cell : Cell) (is : cell_in items u.ob
   sum_fits moved same within =
       let value = value_of u.act in
       let sum : moved.sum ≡ (cell_in items u.object value).sum +ℤ amount_of u.act =
-          ap (λ (c : Cell). c.sum) (same ∙ cond-true (is_place u.object value u.object value) (with_act u.act cell) cell (place_itself u.object value) ∙ ap (with_act u.act) (sym is)) in
+      ap (λ (c : Cell). c.sum) (same ∙ cond-true (is_place u.object value u.object value) (with_act u.act cell) cell (place_itself u.object value) ∙ ap (with_act u.act) (sym is)) in
       within_more (2 ^ 81) (2 ^ 127) _ (lit≤ tt) (subst (IsWithin (2 ^ 81)) sum within)

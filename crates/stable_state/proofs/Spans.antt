@@ -135,8 +135,8 @@ one_is_picked items place item rise within at =
       within = omega arith;
       before = λ k d _ l. away_before (get_or items k d) item (subst (λ (z : Item). item_cmp (get_or items k d).object (get_or items k d).value z.object z.value ≡ Less) (there d) (rise k place d l within));
       inside = λ k d l h.
-      let same : place ≡ k = omega arith in
-      subst (λ (z : Item). is_place item.object item.value z.object z.value ≡ true) (sym (there d) ∙ ap (λ j. get_or items j d) same) (place_itself item.object item.value);
+          let same : place ≡ k = omega arith in
+          subst (λ (z : Item). is_place item.object item.value z.object z.value ≡ true) (sym (there d) ∙ ap (λ j. get_or items j d) same) (place_itself item.object item.value);
       after = λ k d l h. ap is_eq (subst (λ (z : Item). item_cmp z.object z.value (get_or items k d).object (get_or items k d).value ≡ Less) (there d) (rise place k d (omega (arith, l)) h));
     }
 
@@ -179,9 +179,9 @@ pub only_place : (object : ObjectId) (value : Option (List ℕ)) (items : List I
 only_place object value items rise i j d l m first second = elim (cases_order i j) [
   | inl e ↦ e
   | inr apart ↦ absurd (elim apart [
-      | inl lt ↦ never_less object value (get_or items i d) (get_or items j d) first second (rise i j d lt m)
-      | inr lt ↦ never_less object value (get_or items j d) (get_or items i d) second first (rise j i d lt l)
-    ])
+    | inl lt ↦ never_less object value (get_or items i d) (get_or items j d) first second (rise i j d lt m)
+    | inr lt ↦ never_less object value (get_or items j d) (get_or items i d) second first (rise j i d lt l)
+  ])
 ]
 
 -- ---- an object's items

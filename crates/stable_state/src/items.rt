@@ -3,24 +3,26 @@
 //! That a message first covers what is settled, and that stable entries of the log are then absorbed without their
 //! timestamps, is the idea of Baquero, Almeida and Shoker (arXiv 1710.04469); the cells are this project's own profile.
 
-ghost use Rattle.std.specs.Prelude.{◌≡◌, ℕ, ◌+◌, ◌^◌, ◌<◌, ◌≤◌, false, ◌+ℤ◌, [], List, length, map, filter, Some, Option, IsTrue, IfOk, OnOk, IfSome, None, HoldsAt, slice_get, option_copied, if◌then◌else◌, All};
-ghost use Rattle.std.specs.List.{AllWithin, between, list_any};
+ghost use Rattle.std.specs.Prelude.{◌≡◌, ℕ, ◌+◌, ◌^◌, ◌<◌, ◌≤◌, false, [], List, length, map, filter, if◌then◌else◌};
+ghost use Rattle.std.specs.Prelude.{Option, Some, None, IsTrue, IfOk, OnOk, IsOk, IfSome, HoldsAt};
+ghost use Rattle.std.specs.Prelude.{slice_get, option_copied};
+ghost use Rattle.std.specs.List.{between, list_any};
 ghost use Rattle.op_base.specs.Object.{same_object};
 ghost use Rattle.op_base.specs.declared.message.Message.{Message};
 ghost use Rattle.op_base.specs.declared.name.ObjectId.{ObjectId};
-ghost use Rattle.op_base.specs.declared.outcome.Item.{Item};
 ghost use Rattle.op_base.specs.declared.operation.Op.TheVariants as op;
-ghost use Rattle.causal_model.specs.Acts.{acts_on, value_of};
-ghost use Rattle.causal_model.specs.CellSteps.{covers_place, cell_uncovered, cell_with, cell_settled, with_act, puts_in, is_put_in, log_of, stripped_of};
+ghost use Rattle.causal_model.specs.Acts.{acts_on};
+ghost use Rattle.causal_model.specs.CellSteps.{covers_place, cell_uncovered, cell_with, cell_settled};
+ghost use Rattle.causal_model.specs.CellSteps.{puts_in, is_put_in, log_of, stripped_of};
 ghost use Rattle.causal_model.specs.History.{History, no_history, with_message, is_history};
-ghost use Rattle.causal_model.specs.Items.{cell_in, is_filled, zero_cell, Rise};
+ghost use Rattle.causal_model.specs.Items.{cell_in, is_filled, Rise};
 ghost use Rattle.causal_model.specs.Laws.Cells.{AreFilled};
 ghost use Rattle.causal_model.specs.Log.{message_of};
-ghost use Rattle.causal_model.specs.Query.{amount_of, IsWithin};
 ghost use Rattle.stable_state.specs.Laws.{HasRange};
 ghost use Rattle.stable_state.specs.Picked.{ArePicked, is_set, is_place, replaced};
 ghost use Rattle.stable_state.specs.Places.{marked_of};
-ghost use Rattle.stable_state.specs.Settling.{remove_wins, waits, IsSettled, IsLooseAt};
+ghost use Rattle.stable_state.specs.Settling.{put_in_by, remove_wins, waits, IsSettled, IsLooseAt};
+ghost use Rattle.stable_state.specs.Settling.{AreSettledFrom, SettleAlike};
 ghost use Rattle.stable_state.specs.Shelf.{put_at};
 ghost use Rattle.stable_state.specs.Standing.{AreSettledOf, AreAbsorbed, AreMoved};
 
@@ -31,8 +33,8 @@ use causal_model::ItemView;
 use op_base::{Act, Cell, Entry, Item, Kind, NoMemory, ObjectId, Update, Value};
 use std::alloc::Global;
 
-/// Settled items: a finite map from an object, and a value or none, to a cell that has a mark or a sum, in the one order of
-/// items. `reserve` and `copy` alone take memory.
+/// Settled items: a finite map from an object, and a value or none, to a cell that has a mark or a sum, in the one
+/// order of items. `reserve` and `copy` alone take memory.
 #[derive(Drop)]
 pub struct Items {
     shelf: Shelf,
@@ -54,6 +56,7 @@ impl Items {
     /// Takes room for `k` items more. `NoMemory` leaves the items, and no less room.
     pub fn reserve(&mut self, k: usize) -> Result<(), NoMemory>
         ensures room { OnOk result (k ≤ self.new.shelf.spare) }
+        ensures had_room { k ≤ self.old.shelf.spare → IsOk result }
         ensures items { self.new.shelf.items ≡ self.old.shelf.items }
         ensures spare { self.old.shelf.spare ≤ self.new.shelf.spare }
     {
@@ -62,8 +65,11 @@ impl Items {
 
     /// Lets exactly what an update covers go. It takes no memory, and touches its object's items alone.
     pub fn cover(&mut self, update: &Update)
-        ensures cells { (object : ObjectId) (value : Option (List ℕ)) → cell_in self.new.shelf.items object value ≡ cell_uncovered object value (op.Update update.now) (cell_in self.old.shelf.items object value) }
-        ensures of { (h : History) (m : Message) → m.op ≡ op.Update update.now → AreSettledOf h self.old.shelf → AreAbsorbed h m 0 self.new.shelf }
+        ensures cells { (object : ObjectId) (value : Option (List ℕ)) → cell_in self.new.shelf.items object value
+            ≡ cell_uncovered object value (op.Update update.now) (cell_in self.old.shelf.items object value) }
+        // where the items were a history's settled ones, they are those without what a message covers
+        ensures of { (h : History) (m : Message) → m.op ≡ op.Update update.now
+            → AreSettledOf h self.old.shelf → AreAbsorbed h m 0 self.new.shelf }
         ensures spare { self.old.shelf.spare ≤ self.new.shelf.spare }
     {
         let (from, to) = self.covered_span(update);
@@ -101,8 +107,11 @@ impl Items {
 
     /// An object's items. They have its cells.
     pub fn of_object(&self, object: &ObjectId) -> ItemSpan<'_>
-        ensures items { between result.from result.to result.shelf.now.items ≡ filter (λ item. same_object object.now item.object) self.now.shelf.items }
-        ensures cells { (value : Option (List ℕ)) → cell_in (between result.from result.to result.shelf.now.items) object.now value ≡ cell_in self.now.shelf.items object.now value }
+        ensures items { between result.from result.to result.shelf.now.items
+            ≡ filter (λ item. same_object object.now item.object) self.now.shelf.items }
+        ensures cells { (value : Option (List ℕ))
+            → cell_in (between result.from result.to result.shelf.now.items) object.now value
+            ≡ cell_in self.now.shelf.items object.now value }
     {
         let (from, to) = self.span(object);
         ItemSpan::new(&self.shelf, from, to)
@@ -124,8 +133,11 @@ impl Items {
     pub fn absorb(&mut self, entry: Entry)
         requires spare { 1 ≤ self.old.shelf.spare }
         requires range { HasRange self.old.shelf entry.update }
-        ensures cells { (object : ObjectId) (value : Option (List ℕ)) → cell_in self.new.shelf.items object value ≡ cell_with object value (cell_in self.old.shelf.items object value) (op.Update entry.update) }
-        ensures of { (h : History) (m : Message) (k : ℕ) → slice_get (stripped_of h m) k ≡ Some (message_of entry) → AreAbsorbed h m k self.old.shelf → AreAbsorbed h m (k + 1) self.new.shelf }
+        ensures cells { (object : ObjectId) (value : Option (List ℕ)) → cell_in self.new.shelf.items object value
+            ≡ cell_with object value (cell_in self.old.shelf.items object value) (op.Update entry.update) }
+        // where it is the next of the entries that go from a history's log, the items have one entry more
+        ensures of { (h : History) (m : Message) (k : ℕ) → slice_get (stripped_of h m) k ≡ Some (message_of entry)
+            → AreAbsorbed h m k self.old.shelf → AreAbsorbed h m (k + 1) self.new.shelf }
         ensures spare { self.old.shelf.spare ≤ self.new.shelf.spare + 1 }
     {
         self.change(entry.update);
@@ -136,8 +148,11 @@ impl Items {
         requires counter { update.object.kind ≡ Kind.Counter }
         requires spare { 1 ≤ self.old.shelf.spare }
         requires range { HasRange self.old.shelf update }
-        ensures cells { (object : ObjectId) (value : Option (List ℕ)) → cell_in self.new.shelf.items object value ≡ cell_with object value (cell_in self.old.shelf.items object value) (op.Update update) }
-        ensures of { (h : History) (m : Message) → m.op ≡ op.Update update → AreAbsorbed h m (length (stripped_of h m)) self.old.shelf → AreMoved h m self.new.shelf }
+        ensures cells { (object : ObjectId) (value : Option (List ℕ)) → cell_in self.new.shelf.items object value
+            ≡ cell_with object value (cell_in self.old.shelf.items object value) (op.Update update) }
+        // where it is a message's and all entries are absorbed, the items are moved
+        ensures of { (h : History) (m : Message) → m.op ≡ op.Update update
+            → AreAbsorbed h m (length (stripped_of h m)) self.old.shelf → AreMoved h m self.new.shelf }
         ensures spare { self.old.shelf.spare ≤ self.new.shelf.spare + 1 }
     {
         self.change(update);
@@ -147,7 +162,8 @@ impl Items {
     fn change(&mut self, update: Update)
         requires spare { 1 ≤ self.old.shelf.spare }
         requires range { HasRange self.old.shelf update }
-        ensures cells { (object : ObjectId) (value : Option (List ℕ)) → cell_in self.new.shelf.items object value ≡ cell_with object value (cell_in self.old.shelf.items object value) (op.Update update) }
+        ensures cells { (object : ObjectId) (value : Option (List ℕ)) → cell_in self.new.shelf.items object value
+            ≡ cell_with object value (cell_in self.old.shelf.items object value) (op.Update update) }
         ensures spare { self.old.shelf.spare ≤ self.new.shelf.spare + 1 }
     {
         let Update { object, act } = update;
@@ -159,7 +175,14 @@ impl Items {
             Err(place) => {
                 let cell = with_act(&act, NO_CELL);
                 let value = into_value(act);
-                self.put(place, Item { object, value, cell });
+                self.put(
+                    place,
+                    Item {
+                        object,
+                        value,
+                        cell,
+                    },
+                );
             }
         }
     }
@@ -185,7 +208,8 @@ impl Items {
         requires spare { 1 ≤ self.old.shelf.spare }
         requires within { place ≤ length self.old.shelf.items }
         requires rise { Rise (put_at place item self.old.shelf.items) }
-        ensures items { self.new.shelf.items ≡ (if is_filled item.cell then put_at place item self.old.shelf.items else self.old.shelf.items) }
+        ensures items { self.new.shelf.items
+            ≡ (if is_filled item.cell then put_at place item self.old.shelf.items else self.old.shelf.items) }
         ensures spare { self.old.shelf.spare ≤ self.new.shelf.spare + 1 }
     {
         if is_filled(&item.cell) {
@@ -196,8 +220,14 @@ impl Items {
     /// Settles the marks of the kinds in which a remove wins, by the log's entries: an off mark stays while an add is
     /// pending, and otherwise goes with the on mark. It takes no memory, and looks at the marked items alone.
     pub fn settle_marks(&mut self, entries: &[Entry])
-        ensures cells { (object : ObjectId) (value : Option (List ℕ)) → cell_in self.new.shelf.items object value ≡ cell_settled object.kind (is_put_in (map message_of entries.now) object value) (cell_in self.old.shelf.items object value) }
-        ensures of { (w : ℕ) (h : History) (m : Message) → IsTrue (is_history w (with_message h m)) → ((object : ObjectId) (value : Option (List ℕ)) → is_put_in (map message_of entries.now) object value ≡ is_put_in (log_of (with_message h m)) object value) → AreMoved h m self.old.shelf → AreSettledOf (with_message h m) self.new.shelf }
+        ensures cells { (object : ObjectId) (value : Option (List ℕ)) → cell_in self.new.shelf.items object value
+            ≡ cell_settled object.kind (is_put_in (map message_of entries.now) object value)
+            (cell_in self.old.shelf.items object value) }
+        // where the entries put in what a history's log does, the moved items are the settled ones of the history
+        ensures of { (w : ℕ) (h : History) (m : Message) → IsTrue (is_history w (with_message h m))
+            → ((object : ObjectId) (value : Option (List ℕ)) → is_put_in (map message_of entries.now) object value
+            ≡ is_put_in (log_of (with_message h m)) object value)
+            → AreMoved h m self.old.shelf → AreSettledOf (with_message h m) self.new.shelf }
         ensures spare { self.old.shelf.spare ≤ self.new.shelf.spare }
     {
         for k in (0..self.shelf.marked_len()).rev() {
@@ -208,10 +238,10 @@ impl Items {
     /// Settles the marks of one of the marked items. Those after it are settled.
     fn settle_marked(&mut self, k: usize, entries: &[Entry])
         requires within { k < length (marked_of self.old.shelf.items) }
-        requires after { AllWithin (IsSettled (is_put_in (map message_of entries.now))) (marked_of self.old.shelf.items) (k + 1) (length (marked_of self.old.shelf.items)) }
+        requires after { AreSettledFrom (k + 1) (put_in_by entries.now) self.old.shelf.items }
         ensures within { k ≤ length (marked_of self.new.shelf.items) }
-        ensures after { AllWithin (IsSettled (is_put_in (map message_of entries.now))) (marked_of self.new.shelf.items) k (length (marked_of self.new.shelf.items)) }
-        ensures cells { (object : ObjectId) (value : Option (List ℕ)) → cell_settled object.kind (is_put_in (map message_of entries.now) object value) (cell_in self.new.shelf.items object value) ≡ cell_settled object.kind (is_put_in (map message_of entries.now) object value) (cell_in self.old.shelf.items object value) }
+        ensures after { AreSettledFrom k (put_in_by entries.now) self.new.shelf.items }
+        ensures cells { SettleAlike (put_in_by entries.now) self.old.shelf.items self.new.shelf.items }
         ensures spare { self.old.shelf.spare ≤ self.new.shelf.spare }
     {
         if let Some(place) = self.loose_place(k, entries) {
@@ -223,9 +253,9 @@ impl Items {
     /// The place of one of the marked items, where its off mark goes.
     fn loose_place(&self, k: usize, entries: &[Entry]) -> Option<usize>
         requires { k < length (marked_of self.now.shelf.items) }
-        ensures stays { result ≡ None → HoldsAt (IsSettled (is_put_in (map message_of entries.now))) (marked_of self.now.shelf.items) k }
+        ensures stays { result ≡ None → HoldsAt (IsSettled (put_in_by entries.now)) (marked_of self.now.shelf.items) k }
         ensures few { IfSome result (λ _. length self.now.shelf.items < 2 ^ 64) }
-        ensures goes { IfSome result (IsLooseAt (is_put_in (map message_of entries.now)) self.now.shelf.items k) }
+        ensures goes { IfSome result (IsLooseAt (put_in_by entries.now) self.now.shelf.items k) }
     {
         let item = self.shelf.marked_at(k);
         if does_wait(item, entries) {
@@ -290,16 +320,16 @@ fn remove_wins(kind: Kind) -> bool
 
 /// Whether an item's off mark stays: a remove doesn't win in its kind, or an add is pending.
 fn does_wait(item: &Item, entries: &[Entry]) -> bool
-    ensures { result ≡ waits (is_put_in (map message_of entries.now)) item.now }
+    ensures { result ≡ waits (put_in_by entries.now) item.now }
 {
     !remove_wins(item.object.kind) || is_put_in(&item.object, item.value.as_ref(), entries)
 }
 
 /// Whether an entry puts in what an object's value says, or turns the object on.
 fn is_put_in(object: &ObjectId, value: Option<&Value>, entries: &[Entry]) -> bool
-    ensures { result ≡ list_any (λ e. acts_on object.now (puts_in (option_copied value.entry)) (message_of e).op) entries.now }
+    ensures { result
+        ≡ list_any (λ e. acts_on object.now (puts_in (option_copied value.entry)) (message_of e).op) entries.now }
 {
-    entries
-        .iter()
-        .any(|entry| entry.update.object.is_same(object) && puts_in(value, &entry.update.act))
+    entries.iter().any(|entry| entry.update.object.is_same(object)
+        && puts_in(value, &entry.update.act))
 }

@@ -1,4 +1,4 @@
-use Rattle.std.proofs.Common.{◌≡◌, ◌+◌, true, ap, arith, length, length-take, sym, subst, ◌∙◌}
+use Rattle.std.proofs.Common.{◌≡◌, ◌+◌, true, ap, arith, sym, subst, ◌∙◌}
 use Rattle.std.specs.declared.cmp.Ordering.TheVariants.{Less}
 use Rattle.std.proofs.lemmas.Bool.{cond-true}
 use Rattle.std.proofs.lemmas.List.{take_all}
@@ -16,12 +16,6 @@ loop-place-init c = record {
   items = c.reserve.ensures.items ∙ ap (λ (s : Shelved). s.items) c.new-copy.ensures.none;
   room = omega (arith, c.in_ok-reserve.ensures.room);
 }
-
-pub put-requires-clause-spare : goal.put-requires-clause-spare
-put-requires-clause-spare c = omega arith
-
-pub put-requires-clause-within : goal.put-requires-clause-within
-put-requires-clause-within c = omega (arith, ap length c.loop-place.invariant.items, length-take c.loop-place.place c.args.self.now.shelf.items)
 
 pub put-requires-clause-rise : goal.put-requires-clause-rise
 put-requires-clause-rise c =
@@ -42,7 +36,7 @@ loop-place-preserved c =
     let filled = subst (λ (x : Item). is_filled x.cell ≡ true) at (c.args.self.now.filled place item within) in
     record {
       items = c.put.ensures.items ∙ cond-true (is_filled item.cell) (put_at place item c.loop-place.copy.shelf.items) c.loop-place.copy.shelf.items filled
-      ∙ ap (put_at place item) c.loop-place.invariant.items ∙ put_next items place item within at;
+          ∙ ap (put_at place item) c.loop-place.invariant.items ∙ put_next items place item within at;
       room = omega arith;
     }
 

@@ -1,14 +1,11 @@
 use Rattle.std.proofs.Common.{◌≡◌, ℕ, ◌<◌, ◌^◌, Option, Result, Some, None, Ok, Err, true, length, ap, sym, subst, ◌∙◌}
 use Rattle.std.specs.List.{HoldsAt}
-use Rattle.std.specs.Prelude.{map}
 use Rattle.std.specs.Option.{IfSome, option_copied}
 use Rattle.std.specs.Result.{IfOk, IfErr, result_ok}
 use Rattle.std.proofs.lemmas.Option.{get_or_from_slice_get, none-some, slice_get-get_or}
-use Rattle.causal_model.specs.CellSteps.{is_put_in}
 use Rattle.causal_model.specs.Items.{is_at}
-use Rattle.causal_model.specs.Log.{message_of}
 use Rattle.stable_state.specs.Places.{marked_of, IsGapFor}
-use Rattle.stable_state.specs.Settling.{IsSettled, IsLoose, IsLooseAt}
+use Rattle.stable_state.specs.Settling.{put_in_by, IsSettled, IsLoose, IsLooseAt}
 use Rattle.stable_state.proofs.Marks.{waiting_is_settled, other_is_loose, marked_is_there, marked_is_found}
 use Rattle.stable_state.proofs.items.Items.loose_place.Goals as goal
 
@@ -23,7 +20,7 @@ ok_of P Q R place (Err at) is first second both = subst (λ o. IfSome o R) (sym 
 
 pub returns-then-does_wait-clause-stays : goal.returns-then-does_wait-clause-stays
 returns-then-does_wait-clause-stays c = λ _ d.
-    let pending = is_put_in (map message_of c.args.entries.now) in
+    let pending = put_in_by c.args.entries.now in
     let item = c.marked_at-item.result.now in
     subst (IsSettled pending) (sym (get_or_from_slice_get (marked_of c.args.self.now.shelf.items) c.args.k item d c.marked_at-item.ensures)) (waiting_is_settled pending item (sym c.does_wait.ensures ∙ c.if-does_wait.true))
 
@@ -44,7 +41,7 @@ returns-clause-few c =
 pub returns-clause-goes : goal.returns-clause-goes
 returns-clause-goes c =
     let items = c.args.self.now.shelf.items in
-    let pending = is_put_in (map message_of c.args.entries.now) in
+    let pending = put_in_by c.args.entries.now in
     let item = c.marked_at-item.result.now in
     let Within : ℕ → Type 0 = λ place. place < length items in
     let marked = get_or_from_slice_get (marked_of items) c.args.k item item c.marked_at-item.ensures in

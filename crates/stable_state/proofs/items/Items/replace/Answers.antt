@@ -1,13 +1,10 @@
-use Rattle.std.proofs.Common.{◌≡◌, arith, sym, subst, ◌∙◌}
+use Rattle.std.proofs.Common.{◌≡◌, sym, subst, ◌∙◌}
 use Rattle.std.proofs.lemmas.Bool.{cond-true, cond-false}
 use Rattle.causal_model.specs.Items.{is_filled, Rise}
 use Rattle.causal_model.specs.Laws.Cells.{AreFilled}
 use Rattle.stable_state.specs.Picked.{replaced}
 use Rattle.stable_state.proofs.Changes.{rise_at, filled_at}
 use Rattle.stable_state.proofs.items.Items.replace.Goals as goal
-
-pub overflow_add-place : goal.overflow_add-place
-overflow_add-place c = omega arith
 
 pub invariant_of-self : goal.invariant_of-self
 invariant_of-self c =

@@ -1,23 +1,8 @@
-use Rattle.std.proofs.Common.{arith, sym, refl, map, ◌∙◌}
-use Rattle.causal_model.specs.CellSteps.{is_put_in}
-use Rattle.causal_model.specs.Log.{message_of}
+use Rattle.std.proofs.Common.{arith, sym, ◌∙◌}
+use Rattle.stable_state.specs.Settling.{put_in_by}
 use Rattle.stable_state.proofs.Marks.{all_are_settled}
 use Rattle.stable_state.proofs.Moves.{settled_with}
 use Rattle.stable_state.proofs.items.Items.settle_marks.Goals as goal
-
-pub loop-k-init : goal.loop-k-init
-loop-k-init c = record {
-  cells = λ object value. refl;
-  within = omega arith;
-  after = λ k d l h. absurd (omega (arith, l, h));
-  spare = omega arith;
-}
-
-pub settle_marked-requires-clause-within : goal.settle_marked-requires-clause-within
-settle_marked-requires-clause-within c = omega arith
-
-pub settle_marked-requires-clause-after : goal.settle_marked-requires-clause-after
-settle_marked-requires-clause-after c = λ k d l h. c.loop-k.invariant.after k d (omega (arith, l)) h
 
 pub loop-k-preserved : goal.loop-k-preserved
 loop-k-preserved c = record {
@@ -29,13 +14,10 @@ loop-k-preserved c = record {
 
 pub returns-clause-cells : goal.returns-clause-cells
 returns-clause-cells c = λ object value.
-    let pending = is_put_in (map message_of c.args.entries.now) in
+    let pending = put_in_by c.args.entries.now in
     sym (all_are_settled pending c.loop-k.self.shelf.items (λ k d l. c.loop-k.invariant.after k d (omega arith) l) object value)
     ∙ c.loop-k.invariant.cells object value
 
 pub returns-clause-of : goal.returns-clause-of
 returns-clause-of c = λ w h m t same moved.
-    settled_with h m w (is_put_in (map message_of c.args.entries.now)) c.args.self.now.shelf.items c.loop-k.self.shelf.items t same moved (returns-clause-cells c) c.loop-k.self.rise c.loop-k.self.filled
-
-pub returns-clause-spare : goal.returns-clause-spare
-returns-clause-spare c = omega arith
+    settled_with h m w (put_in_by c.args.entries.now) c.args.self.now.shelf.items c.loop-k.self.shelf.items t same moved (returns-clause-cells c) c.loop-k.self.rise c.loop-k.self.filled
