@@ -8,6 +8,8 @@ mod cell;
 mod items;
 mod laws;
 mod shelf;
+#[cfg(test)]
+mod tests;
 mod view;
 
 pub use items::Items;

@@ -26,7 +26,7 @@ pub struct ItemSpan<'a> {
 
 impl<'a> ItemSpan<'a> {
     /// The items at places from the first up to, and not with, the second.
-    pub fn new(shelf: &'a Shelf, from: usize, to: usize) -> ItemSpan<'a>
+    pub(crate) fn new(shelf: &'a Shelf, from: usize, to: usize) -> ItemSpan<'a>
         requires ordered { from ≤ to }
         requires within { to ≤ length shelf.now.items }
         requires rise { Rise shelf.now.items }
