@@ -30,10 +30,10 @@ module _ {X : Type 0} (p : X → Bool) where
   pub filter_split : (i : ℕ) (xs : List X) → filter p xs ≡ filter p (take i xs) ++ filter p (drop i xs)
   filter_split i xs = ap (filter p) (sym (take-append-drop i xs)) ∙ filter-append p (take i xs) (drop i xs)
 
-  pub take-filter : (i : ℕ) (xs : List X) → take (passing i xs) (filter p xs) ≡ filter p (take i xs)
+  take-filter : (i : ℕ) (xs : List X) → take (passing i xs) (filter p xs) ≡ filter p (take i xs)
   take-filter i xs = ap (take (passing i xs)) (filter_split i xs) ∙ take_at (filter p (take i xs)) (filter p (drop i xs)) (passing i xs) refl
 
-  pub drop-filter : (i : ℕ) (xs : List X) → drop (passing i xs) (filter p xs) ≡ filter p (drop i xs)
+  drop-filter : (i : ℕ) (xs : List X) → drop (passing i xs) (filter p xs) ≡ filter p (drop i xs)
   drop-filter i xs = ap (drop (passing i xs)) (filter_split i xs) ∙ drop_at (filter p (take i xs)) (filter p (drop i xs)) (passing i xs) refl
 
   pub passing-le : (i : ℕ) (xs : List X) → passing i xs ≤ length (filter p xs)

@@ -1,8 +1,8 @@
 -- Slots in order while an item is put in, some are let go, or one gets another cell.
-use Rattle.std.proofs.Common.{◌≡◌, ◌≢◌, ◌⊎◌, ℕ, zero, suc, ◌+◌, ◌<◌, ◌≤◌, Bool, true, false, All, Contains, List, [], ◌∷◌, ◌++◌, length, take, drop, get_or, set, cond, refl, sym, ap, subst, ◌∙◌, inl, inr, length-drop, length-append, length-take-le, drop-cons, arith}
+use Rattle.std.proofs.Common.{◌≡◌, ◌≢◌, ◌⊎◌, ℕ, zero, suc, ◌+◌, ◌<◌, ◌≤◌, true, false, All, Contains, List, [], ◌∷◌, ◌++◌, length, take, drop, get_or, set, cond, refl, sym, ap, subst, ◌∙◌, inl, inr, length-drop, length-append, length-take-le, drop-cons, arith}
 use Rattle.std.specs.Prelude.{Option, Some, None, unwrap_or, is_some, IsTrue, slice_range}
 use Rattle.std.specs.List.{filter, insert, remove, remove_range}
-use Rattle.std.proofs.lemmas.Bool.{cases_eq, cases_lt}
+use Rattle.std.proofs.lemmas.Bool.{both_ways, cases_eq, cases_lt}
 use Rattle.std.proofs.lemmas.List.{length-map, get_or_default, get_or-take, get_or-drop, take-map, drop-map, map-append, set_split, length-set, take-append-drop, get_or-set_same, get_or-set_other, get_or_past}
 use Rattle.std.proofs.lemmas.List.Edits.{length-insert, length-between, get_or-between}
 use Rattle.std.proofs.lemmas.List.Elements.{All-append, All-cons, All-take, All-drop, All-set}
@@ -37,9 +37,7 @@ marks_in_front slots order items place is =
 
 module _ (old new : Slab Item) (order marked : List ℕ) (place slot : ℕ) (item : Item) (ordered : IsOrdered old order marked) (within : place ≤ length order) (vacant : get old slot ≡ None) (changes : Updates old new slot (Some item)) where
   kept : All (IsKept old new) order
-  kept k d l = changes.others (get_or order k d) (λ same. differ (ordered.held k d l) (ap is_some (ap (get old) same ∙ vacant))) where
-    differ : {b : Bool} → b ≡ true → b ≡ false → ⊥
-    differ t f = cc
+  kept k d l = changes.others (get_or order k d) (λ same. both_ways (is_some (get old (get_or order k d))) (ap is_some (ap (get old) same ∙ vacant)) (ordered.held k d l))
 
   pub items-insert : items_in new (insert order place slot) ≡ insert (items_in old order) place item
   items-insert = items_in-insert new order place slot ∙ (λ i. insert (items_kept old new order kept i) place (item_is new slot item changes.changed i))
@@ -150,10 +148,8 @@ module _ (old : Slab Item) (order marked : List ℕ) (place slot : ℕ) (cell : 
   bound : slot < length old.slots
   bound = elim (cases_lt slot (length old.slots)) [
     | inl less ↦ less
-    | inr past ↦ absurd (differ here (ap is_some (get_or_past old.slots slot None past)))
-  ] where
-    differ : {b : Bool} → b ≡ true → b ≡ false → ⊥
-    differ t f = cc
+    | inr past ↦ absurd (both_ways (is_some (get old slot)) (ap is_some (get_or_past old.slots slot None past)) here)
+  ]
 
   found : get written slot ≡ Some changed
   found = get_or-set_same old.slots slot (Some changed) None bound

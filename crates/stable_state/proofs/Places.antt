@@ -8,7 +8,7 @@ use Rattle.std.specs.Option.{option_cmp}
 use Rattle.std.specs.Ordering.{is_lt, is_gt, is_eq, ordering_then, ordering_reverse}
 use Rattle.std.specs.declared.cmp.Ordering.{Ordering}
 use Rattle.std.specs.declared.cmp.Ordering.TheVariants.{Less, Equal, Greater}
-use Rattle.std.proofs.lemmas.Bool.{cases_eq, cases_lt, not-true}
+use Rattle.std.proofs.lemmas.Bool.{both_ways, cases_eq, cases_lt, not-true, not-false}
 use Rattle.std.proofs.lemmas.Cmp.{upto, on_total, then_total, nat_cmp_total, nat_list_cmp_total, tied_itself}
 use Rattle.std.proofs.lemmas.List.{length-map, get_or_default, get_or-take, get_or-drop, get_or_append_left, get_or-append-add}
 use Rattle.std.proofs.lemmas.List.Elements.{All-cons, All-filter}
@@ -158,22 +158,16 @@ module _ (object : ObjectId) (items : List Item) (rise : Rise items) where
         ordered = elim (cases_lt to from) [
           | inl crossed ↦
               let up : is_up_to object (get_or items to no_item) ≡ true = ap (λ o. not (is_gt o)) (less to no_item crossed) in
-              absurd (differ up (last.1 to no_item (omega arith) (omega (arith, crossed, from_le))))
+              absurd (both_ways (is_up_to object (get_or items to no_item)) (last.1 to no_item (omega arith) (omega (arith, crossed, from_le))) up)
           | inr le ↦ le
         ];
         within = to_le;
         before = λ k d _ l. less k d l;
         inside = λ k d l u.
-            let equal : cmp k d ≡ Equal = in_between (cmp k d) (not-true (is_gt (cmp k d)) (last.0 k d (omega arith) u)) (λ e. differ (sym (ap is_lt (sym e))) (not_less k d l (omega (arith, u, to_le)))) in
+            let equal : cmp k d ≡ Equal = in_between (cmp k d) (not-true (is_gt (cmp k d)) (last.0 k d (omega arith) u)) (λ e. both_ways (is_lt (cmp k d)) (not_less k d l (omega (arith, u, to_le))) (ap is_lt e)) in
             (items_tied (get_or items k d).object object None None (ap (λ o. ordering_then o Equal) equal)).0;
-        after = λ k d l u. is_greater (cmp k d) (not_up (is_gt (cmp k d)) (last.1 k d l u));
-      } where
-        differ : {b : Bool} → b ≡ true → b ≡ false → ⊥
-        differ t f = cc
-
-        not_up : (b : Bool) → not b ≡ false → b ≡ true
-        not_up true t = refl
-        not_up false t = cc
+        after = λ k d l u. is_greater (cmp k d) (not-false (is_gt (cmp k d)) (last.1 k d l u));
+      }
 
 -- ---- an item put at its place
 
@@ -187,7 +181,7 @@ AllPairs-drop R n xs pairs i j d less within =
     let both = pairs (n + i) (n + j) d (omega (arith, less)) (omega (arith, within, length-drop n xs)) in
     subst (λ y. R y (get_or (drop n xs) j d)) (sym (get_or-drop n xs i d)) (subst (λ y. R (get_or xs (n + i) d) y) (sym (get_or-drop n xs j d)) both)
 
-pub AllPairs-insert : {X : Type 0} (R : X → X → Type 0) (n : ℕ) (xs : List X) (x : X) → n ≤ length xs → AllPairs R xs → All (λ a. R a x) (take n xs) → All (R x) (drop n xs) → AllPairs R (insert xs n x)
+AllPairs-insert : {X : Type 0} (R : X → X → Type 0) (n : ℕ) (xs : List X) (x : X) → n ≤ length xs → AllPairs R xs → All (λ a. R a x) (take n xs) → All (R x) (drop n xs) → AllPairs R (insert xs n x)
 AllPairs-insert R n xs x le pairs before after =
     AllPairs-append R (take n xs) (x ∷ drop n xs) (AllPairs-take R n xs le pairs) (AllPairs-cons R x (drop n xs) after (AllPairs-drop R n xs pairs)) (λ k d l.
     let below : k < n = omega (arith, l, length-take-le n xs le) in
@@ -209,21 +203,19 @@ gap_rises object value items place rise gap item of_object of_value =
 -- ---- a list that a test parts
 
 -- where the first elements pass and the others don't, the point where the test parts the list is behind the first
-pub parted_at : {X : Type 0} (p : X → Bool) (xs ys : List X) (d : X) (r : ℕ) → All (λ x. p x ≡ true) xs → All (λ x. p x ≡ false) ys → r ≤ length (xs ++ ys)
+parted_at : {X : Type 0} (p : X → Bool) (xs ys : List X) (d : X) (r : ℕ) → All (λ x. p x ≡ true) xs → All (λ x. p x ≡ false) ys → r ≤ length (xs ++ ys)
     → IsPartitionPoint (λ x. p x ≡ true) (λ x. p x ≡ false) (xs ++ ys) r → r ≡ length xs
 parted_at p xs ys d r pass fail le point = elim (cases_lt r (length xs)) [
   | inl less ↦
       let at : get_or (xs ++ ys) r d ≡ get_or xs r d = get_or_append_left xs ys d r less in
-      absurd (differ (p (get_or xs r d)) (pass r d less) (ap p (sym at) ∙ point.1 r d (omega arith) (omega (arith, less, length-append xs ys))))
+      absurd (both_ways (p (get_or xs r d)) (ap p (sym at) ∙ point.1 r d (omega arith) (omega (arith, less, length-append xs ys))) (pass r d less))
   | inr past ↦ elim (cases_lt (length xs) r) [
     | inl less ↦
         let at : get_or (xs ++ ys) (length xs) d ≡ get_or ys 0 d = ap (λ n. get_or (xs ++ ys) n d) (sym (add-zero (length xs))) ∙ get_or-append-add xs ys 0 d in
-        absurd (differ (p (get_or ys 0 d)) (ap p (sym at) ∙ point.0 (length xs) d (omega arith) less) (fail 0 d (omega (arith, less, le, length-append xs ys))))
+        absurd (both_ways (p (get_or ys 0 d)) (fail 0 d (omega (arith, less, le, length-append xs ys))) (ap p (sym at) ∙ point.0 (length xs) d (omega arith) less))
     | inr le ↦ omega (arith, past, le)
   ]
-] where
-  differ : (b : Bool) → b ≡ true → b ≡ false → ⊥
-  differ b t f = cc
+]
 
 -- the marked items before an item's place are those of the marked ones that are before it
 pub marks_parted : (items : List Item) (place : ℕ) (x : Item) → Rise items → slice_get items place ≡ Some x → (r : ℕ) → r ≤ length (marked_of items)

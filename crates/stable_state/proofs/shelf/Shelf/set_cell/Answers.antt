@@ -2,6 +2,7 @@ use Rattle.std.proofs.Common.{◌≡◌, ◌+◌, ◌≤◌, ◌<◌, Bool, true
 use Rattle.std.specs.Prelude.{Some, is_some, vec_capacity}
 use Rattle.std.specs.List.{filter, insert, remove}
 use Rattle.std.proofs.Math.Bool.{beq}
+use Rattle.std.proofs.lemmas.Bool.{both_ways}
 use Rattle.std.proofs.lemmas.List.{length-map}
 use Rattle.std.proofs.lemmas.List.Edits.{length-insert, length-remove}
 use Rattle.op_base.specs.declared.outcome.Item.{Item}
@@ -89,7 +90,7 @@ noted c =
             marks = is ∙ marks_gain s.slots order marked c.args.place slot c.args.cell c.self.invariant (within c) at had w.if-cell.true;
             room = subst (λ i. vec_capacity s.marked ≤ vec_capacity i.marked) (sym w.self-inside-is) w.put.ensures.capacity;
             len = omega (arith, ap length is, longer);
-            kept = λ off. absurd (differ w.if-cell.true off);
+            kept = λ off. absurd (both_ways c.args.cell.off off w.if-cell.true);
           }
       | then-index-cell+else-cell w ↦
           let had = was ∙ unlike_false c.index.result.now.cell.off c.args.cell.off w.if-index-cell.true w.if-cell.false in
@@ -114,9 +115,7 @@ noted c =
             len = omega (arith, ap length is);
             kept = λ off. omega (arith, ap length is);
           }
-    ] where
-      differ : {b : Bool} → b ≡ true → b ≡ false → ⊥
-      differ t f = cc
+    ]
 
 written_is : (c : goal.After-write_cell) → c.write_cell.new.slots ≡ renewed c
 written_is c =
