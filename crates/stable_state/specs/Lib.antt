@@ -7,3 +7,4 @@ pub mod Picked
 pub mod Settling
 pub mod View
 pub mod Laws
+pub mod Shown

@@ -43,10 +43,12 @@ pub struct Items {
 }
 
 impl Items {
+    ghost use Rattle.stable_state.specs.Shown.{shown, spanned};
+
     /// No items, and no room. It takes no memory.
     pub fn new(alloc: Global) -> Items
-        ensures none { result.shelf ≡ record { items = []; spare = 0 } }
-        ensures settled { (n me : ℕ) → AreSettledOf (no_history n me) result.shelf }
+        ensures none { shown result ≡ record { items = []; spare = 0 } }
+        ensures settled { (n me : ℕ) → AreSettledOf (no_history n me) (shown result) }
     {
         Items {
             shelf: Shelf::new(alloc),
@@ -55,22 +57,22 @@ impl Items {
 
     /// Takes room for `k` items more. `NoMemory` leaves the items, and no less room.
     pub fn reserve(&mut self, k: usize) -> Result<(), NoMemory>
-        ensures room { OnOk result (k ≤ self.new.shelf.spare) }
-        ensures had_room { k ≤ self.old.shelf.spare → IsOk result }
-        ensures items { self.new.shelf.items ≡ self.old.shelf.items }
-        ensures spare { self.old.shelf.spare ≤ self.new.shelf.spare }
+        ensures room { OnOk result (k ≤ (shown self.new).spare) }
+        ensures had_room { k ≤ (shown self.old).spare → IsOk result }
+        ensures items { (shown self.new).items ≡ (shown self.old).items }
+        ensures spare { (shown self.old).spare ≤ (shown self.new).spare }
     {
         self.shelf.reserve(k)
     }
 
     /// Lets exactly what an update covers go. It takes no memory, and touches its object's items alone.
     pub fn cover(&mut self, update: &Update)
-        ensures cells { (object : ObjectId) (value : Option (List ℕ)) → cell_in self.new.shelf.items object value
-            ≡ cell_uncovered object value (op.Update update.now) (cell_in self.old.shelf.items object value) }
+        ensures cells { (object : ObjectId) (value : Option (List ℕ)) → cell_in (shown self.new).items object value
+            ≡ cell_uncovered object value (op.Update update.now) (cell_in (shown self.old).items object value) }
         // where the items were a history's settled ones, they are those without what a message covers
         ensures of { (h : History) (m : Message) → m.op ≡ op.Update update.now
-            → AreSettledOf h self.old.shelf → AreAbsorbed h m 0 self.new.shelf }
-        ensures spare { self.old.shelf.spare ≤ self.new.shelf.spare }
+            → AreSettledOf h (shown self.old) → AreAbsorbed h m 0 (shown self.new) }
+        ensures spare { (shown self.old).spare ≤ (shown self.new).spare }
     {
         let (from, to) = self.covered_span(update);
         self.shelf.remove_span(from, to);
@@ -78,7 +80,7 @@ impl Items {
 
     /// The places of the items that an update covers.
     fn covered_span(&self, update: &Update) -> (usize, usize)
-        ensures { ArePicked (covers_place (op.Update update.now)) self.now.shelf.items result.0 result.1 }
+        ensures { ArePicked (covers_place (op.Update update.now)) (shown self.now).items result.0 result.1 }
     {
         match (update.object.kind, value_of(&update.act)) {
             (kind, Some(value)) if is_set(kind) => self.place_span(&update.object, Some(value)),
@@ -90,7 +92,7 @@ impl Items {
 
     /// The place of the item of an object and a value, as the span of one item or of none.
     fn place_span(&self, object: &ObjectId, value: Option<&Value>) -> (usize, usize)
-        ensures { ArePicked (is_place object.now (option_copied value.entry)) self.now.shelf.items result.0 result.1 }
+        ensures { ArePicked (is_place object.now (option_copied value.entry)) (shown self.now).items result.0 result.1 }
     {
         match self.shelf.find(object, value) {
             Ok(place) => (place, place + 1),
@@ -100,18 +102,18 @@ impl Items {
 
     /// The places of an object's items: the first, and the one behind the last.
     pub fn span(&self, object: &ObjectId) -> (usize, usize)
-        ensures { ArePicked (λ other value. same_object object.now other) self.now.shelf.items result.0 result.1 }
+        ensures { ArePicked (λ other value. same_object object.now other) (shown self.now).items result.0 result.1 }
     {
         self.shelf.span(object)
     }
 
     /// An object's items. They have its cells.
     pub fn of_object(&self, object: &ObjectId) -> ItemSpan<'_>
-        ensures items { between result.from result.to result.shelf.now.items
-            ≡ filter (λ item. same_object object.now item.object) self.now.shelf.items }
+        ensures items { spanned result
+            ≡ filter (λ item. same_object object.now item.object) (shown self.now).items }
         ensures cells { (value : Option (List ℕ))
-            → cell_in (between result.from result.to result.shelf.now.items) object.now value
-            ≡ cell_in self.now.shelf.items object.now value }
+            → cell_in (spanned result) object.now value
+            ≡ cell_in (shown self.now).items object.now value }
     {
         let (from, to) = self.span(object);
         ItemSpan::new(&self.shelf, from, to)
@@ -119,7 +121,7 @@ impl Items {
 
     /// Equal items. `NoMemory` leaves nothing behind.
     pub fn copy(&self, alloc: Global) -> Result<Items, NoMemory>
-        ensures { IfOk result (λ copy. copy.shelf.items ≡ self.now.shelf.items) }
+        ensures { IfOk result (λ copy. (shown copy).items ≡ (shown self.now).items) }
     {
         let mut copy = Items::new(alloc);
         copy.reserve(self.shelf.len())?;
@@ -131,14 +133,14 @@ impl Items {
 
     /// Absorbs an entry that goes from the log: its mark is set, or its amount added. It takes no memory.
     pub fn absorb(&mut self, entry: Entry)
-        requires spare { 1 ≤ self.old.shelf.spare }
-        requires range { HasRange self.old.shelf entry.update }
-        ensures cells { (object : ObjectId) (value : Option (List ℕ)) → cell_in self.new.shelf.items object value
-            ≡ cell_with object value (cell_in self.old.shelf.items object value) (op.Update entry.update) }
+        requires spare { 1 ≤ (shown self.old).spare }
+        requires range { HasRange (shown self.old) entry.update }
+        ensures cells { (object : ObjectId) (value : Option (List ℕ)) → cell_in (shown self.new).items object value
+            ≡ cell_with object value (cell_in (shown self.old).items object value) (op.Update entry.update) }
         // where it is the next of the entries that go from a history's log, the items have one entry more
         ensures of { (h : History) (m : Message) (k : ℕ) → slice_get (stripped_of h m) k ≡ Some (message_of entry)
-            → AreAbsorbed h m k self.old.shelf → AreAbsorbed h m (k + 1) self.new.shelf }
-        ensures spare { self.old.shelf.spare ≤ self.new.shelf.spare + 1 }
+            → AreAbsorbed h m k (shown self.old) → AreAbsorbed h m (k + 1) (shown self.new) }
+        ensures spare { (shown self.old).spare ≤ (shown self.new).spare + 1 }
     {
         self.change(entry.update);
     }
@@ -146,25 +148,25 @@ impl Items {
     /// Applies an update of a counter that can't be cleared, which no log keeps. It takes no memory.
     pub fn apply(&mut self, update: Update)
         requires counter { update.object.kind ≡ Kind.Counter }
-        requires spare { 1 ≤ self.old.shelf.spare }
-        requires range { HasRange self.old.shelf update }
-        ensures cells { (object : ObjectId) (value : Option (List ℕ)) → cell_in self.new.shelf.items object value
-            ≡ cell_with object value (cell_in self.old.shelf.items object value) (op.Update update) }
+        requires spare { 1 ≤ (shown self.old).spare }
+        requires range { HasRange (shown self.old) update }
+        ensures cells { (object : ObjectId) (value : Option (List ℕ)) → cell_in (shown self.new).items object value
+            ≡ cell_with object value (cell_in (shown self.old).items object value) (op.Update update) }
         // where it is a message's and all entries are absorbed, the items are moved
         ensures of { (h : History) (m : Message) → m.op ≡ op.Update update
-            → AreAbsorbed h m (length (stripped_of h m)) self.old.shelf → AreMoved h m self.new.shelf }
-        ensures spare { self.old.shelf.spare ≤ self.new.shelf.spare + 1 }
+            → AreAbsorbed h m (length (stripped_of h m)) (shown self.old) → AreMoved h m (shown self.new) }
+        ensures spare { (shown self.old).spare ≤ (shown self.new).spare + 1 }
     {
         self.change(update);
     }
 
     /// Sets the mark of an update, or adds its amount.
     fn change(&mut self, update: Update)
-        requires spare { 1 ≤ self.old.shelf.spare }
-        requires range { HasRange self.old.shelf update }
-        ensures cells { (object : ObjectId) (value : Option (List ℕ)) → cell_in self.new.shelf.items object value
-            ≡ cell_with object value (cell_in self.old.shelf.items object value) (op.Update update) }
-        ensures spare { self.old.shelf.spare ≤ self.new.shelf.spare + 1 }
+        requires spare { 1 ≤ (shown self.old).spare }
+        requires range { HasRange (shown self.old) update }
+        ensures cells { (object : ObjectId) (value : Option (List ℕ)) → cell_in (shown self.new).items object value
+            ≡ cell_with object value (cell_in (shown self.old).items object value) (op.Update update) }
+        ensures spare { (shown self.old).spare ≤ (shown self.new).spare + 1 }
     {
         let Update { object, act } = update;
         match self.shelf.find(&object, value_of(&act)) {
@@ -189,12 +191,12 @@ impl Items {
 
     /// Gives the item at a place another cell, or lets the item go where the cell has no mark and no sum.
     fn replace(&mut self, place: usize, cell: Cell)
-        requires within { place < length self.old.shelf.items }
-        requires few { length self.old.shelf.items < 2 ^ 64 }
-        requires spare { IsTrue cell.off → 1 ≤ self.old.shelf.spare }
-        ensures items { self.new.shelf.items ≡ replaced place cell self.old.shelf.items }
-        ensures spare { self.old.shelf.spare ≤ self.new.shelf.spare + 1 }
-        ensures kept { cell.off ≡ false → self.old.shelf.spare ≤ self.new.shelf.spare }
+        requires within { place < length (shown self.old).items }
+        requires few { length (shown self.old).items < 2 ^ 64 }
+        requires spare { IsTrue cell.off → 1 ≤ (shown self.old).spare }
+        ensures items { (shown self.new).items ≡ replaced place cell (shown self.old).items }
+        ensures spare { (shown self.old).spare ≤ (shown self.new).spare + 1 }
+        ensures kept { cell.off ≡ false → (shown self.old).spare ≤ (shown self.new).spare }
     {
         if is_filled(&cell) {
             self.shelf.set_cell(place, cell);
@@ -205,12 +207,12 @@ impl Items {
 
     /// Puts an item at its place, where its cell has a mark or a sum.
     fn put(&mut self, place: usize, item: Item)
-        requires spare { 1 ≤ self.old.shelf.spare }
-        requires within { place ≤ length self.old.shelf.items }
-        requires rise { Rise (put_at place item self.old.shelf.items) }
-        ensures items { self.new.shelf.items
-            ≡ (if is_filled item.cell then put_at place item self.old.shelf.items else self.old.shelf.items) }
-        ensures spare { self.old.shelf.spare ≤ self.new.shelf.spare + 1 }
+        requires spare { 1 ≤ (shown self.old).spare }
+        requires within { place ≤ length (shown self.old).items }
+        requires rise { Rise (put_at place item (shown self.old).items) }
+        ensures items { (shown self.new).items
+            ≡ (if is_filled item.cell then put_at place item (shown self.old).items else (shown self.old).items) }
+        ensures spare { (shown self.old).spare ≤ (shown self.new).spare + 1 }
     {
         if is_filled(&item.cell) {
             self.shelf.insert(place, item);
@@ -220,15 +222,15 @@ impl Items {
     /// Settles the marks of the kinds in which a remove wins, by the log's entries: an off mark stays while an add is
     /// pending, and otherwise goes with the on mark. It takes no memory, and looks at the marked items alone.
     pub fn settle_marks(&mut self, entries: &[Entry])
-        ensures cells { (object : ObjectId) (value : Option (List ℕ)) → cell_in self.new.shelf.items object value
+        ensures cells { (object : ObjectId) (value : Option (List ℕ)) → cell_in (shown self.new).items object value
             ≡ cell_settled object.kind (is_put_in (map message_of entries.now) object value)
-            (cell_in self.old.shelf.items object value) }
+            (cell_in (shown self.old).items object value) }
         // where the entries put in what a history's log does, the moved items are the settled ones of the history
         ensures of { (w : ℕ) (h : History) (m : Message) → IsTrue (is_history w (with_message h m))
             → ((object : ObjectId) (value : Option (List ℕ)) → is_put_in (map message_of entries.now) object value
             ≡ is_put_in (log_of (with_message h m)) object value)
-            → AreMoved h m self.old.shelf → AreSettledOf (with_message h m) self.new.shelf }
-        ensures spare { self.old.shelf.spare ≤ self.new.shelf.spare }
+            → AreMoved h m (shown self.old) → AreSettledOf (with_message h m) (shown self.new) }
+        ensures spare { (shown self.old).spare ≤ (shown self.new).spare }
     {
         for k in (0..self.shelf.marked_len()).rev() {
             self.settle_marked(k, entries);
@@ -237,12 +239,12 @@ impl Items {
 
     /// Settles the marks of one of the marked items. Those after it are settled.
     fn settle_marked(&mut self, k: usize, entries: &[Entry])
-        requires within { k < length (marked_of self.old.shelf.items) }
-        requires after { AreSettledFrom (k + 1) (put_in_by entries.now) self.old.shelf.items }
-        ensures within { k ≤ length (marked_of self.new.shelf.items) }
-        ensures after { AreSettledFrom k (put_in_by entries.now) self.new.shelf.items }
-        ensures cells { SettleAlike (put_in_by entries.now) self.old.shelf.items self.new.shelf.items }
-        ensures spare { self.old.shelf.spare ≤ self.new.shelf.spare }
+        requires within { k < length (marked_of (shown self.old).items) }
+        requires after { AreSettledFrom (k + 1) (put_in_by entries.now) (shown self.old).items }
+        ensures within { k ≤ length (marked_of (shown self.new).items) }
+        ensures after { AreSettledFrom k (put_in_by entries.now) (shown self.new).items }
+        ensures cells { SettleAlike (put_in_by entries.now) (shown self.old).items (shown self.new).items }
+        ensures spare { (shown self.old).spare ≤ (shown self.new).spare }
     {
         if let Some(place) = self.loose_place(k, entries) {
             let cell = without_pending(self.shelf.at(place).cell);
@@ -252,10 +254,10 @@ impl Items {
 
     /// The place of one of the marked items, where its off mark goes.
     fn loose_place(&self, k: usize, entries: &[Entry]) -> Option<usize>
-        requires { k < length (marked_of self.now.shelf.items) }
-        ensures stays { result ≡ None → HoldsAt (IsSettled (put_in_by entries.now)) (marked_of self.now.shelf.items) k }
-        ensures few { IfSome result (λ _. length self.now.shelf.items < 2 ^ 64) }
-        ensures goes { IfSome result (IsLooseAt (put_in_by entries.now) self.now.shelf.items k) }
+        requires { k < length (marked_of (shown self.now).items) }
+        ensures stays { result ≡ None → HoldsAt (IsSettled (put_in_by entries.now)) (marked_of (shown self.now).items) k }
+        ensures few { IfSome result (λ _. length (shown self.now).items < 2 ^ 64) }
+        ensures goes { IfSome result (IsLooseAt (put_in_by entries.now) (shown self.now).items k) }
     {
         let item = self.shelf.marked_at(k);
         if does_wait(item, entries) {
