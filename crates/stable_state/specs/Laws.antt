@@ -33,6 +33,7 @@ AbsorbedSumsFit = (w limit : ℕ) (h : History) (m : Message) (k : ℕ) (entry :
     → IsTrue (is_history w (with_message h m)) → IsTrue (is_limited limit (with_message h m)) → limit ≤ 1000000
     → slice_get (stripped_of h m) k ≡ Some (message_of entry) → AreAbsorbed h m k s → HasRange s entry.update
 
+-- and so does that of what is applied at once
 abbrev pub AppliedSumsFit : Type 0
 AppliedSumsFit = (w limit : ℕ) (h : History) (m : Message) (u : Update) (s : Shelved)
     → IsTrue (is_history w (with_message h m)) → IsTrue (is_limited limit (with_message h m)) → limit ≤ 1000000

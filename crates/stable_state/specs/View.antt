@@ -1,4 +1,5 @@
--- Items side by side are in the one order and filled as all are.
+-- Items side by side are in the one order and filled as all are: what a view of them owes, and so it stands here and not
+-- among the proofs.
 use Rattle.std.specs.Prelude.{◌≡◌, ℕ, ◌+◌, ◌-◌, ◌≤◌, List, length}
 use Rattle.std.specs.List.{between}
 use Rattle.std.specs.declared.cmp.Ordering.TheVariants.{Less}
@@ -10,6 +11,7 @@ use Rattle.causal_model.specs.Items.{is_filled, Rise}
 use Rattle.causal_model.specs.Laws.Cells.{AreFilled}
 use Rattle.std.specs.Prelude.{IsTrue}
 
+-- they rise
 pub rise_between : (items : List Item) (from to : ℕ) → from ≤ to → to ≤ length items → Rise items → Rise (between from to items)
 rise_between items from to ordered within rise = λ i j d lt l.
     let len : length (between from to items) ≡ to - from = length-between items from to within in
@@ -19,6 +21,7 @@ rise_between items from to ordered within rise = λ i j d lt l.
     subst (λ (a : Item). Before a (get_or (between from to items) j d)) (sym first)
     (subst (λ (b : Item). Before (get_or items (from + i) d) b) (sym second) (rise (from + i) (from + j) d (omega (arith, lt)) (omega (arith, l, len))))
 
+-- each is filled
 pub filled_between : (items : List Item) (from to : ℕ) → to ≤ length items → AreFilled items → AreFilled (between from to items)
 filled_between items from to within filled = λ k d l.
     let len : length (between from to items) ≡ to - from = length-between items from to within in

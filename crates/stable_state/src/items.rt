@@ -20,7 +20,7 @@ ghost use Rattle.causal_model.specs.Laws.Cells.{AreFilled};
 ghost use Rattle.causal_model.specs.Log.{message_of};
 ghost use Rattle.stable_state.specs.Laws.{HasRange};
 ghost use Rattle.stable_state.specs.Picked.{ArePicked, is_set, is_place, replaced};
-ghost use Rattle.stable_state.specs.Places.{marked_of};
+ghost use Rattle.stable_state.specs.Places.{IsSpan, marked_of};
 ghost use Rattle.stable_state.specs.Settling.{put_in_by, remove_wins, waits, IsSettled, IsLooseAt};
 ghost use Rattle.stable_state.specs.Settling.{AreSettledFrom, SettleAlike};
 ghost use Rattle.stable_state.specs.Shelf.{put_at};
@@ -102,7 +102,8 @@ impl Items {
 
     /// The places of an object's items: the first, and the one behind the last.
     pub fn span(&self, object: &ObjectId) -> (usize, usize)
-        ensures { ArePicked (λ other value. same_object object.now other) (shown self.now).items result.0 result.1 }
+        ensures picked { ArePicked (λ other value. same_object object.now other) (shown self.now).items result.0 result.1 }
+        ensures span { IsSpan object.now (shown self.now).items result.0 result.1 }
     {
         self.shelf.span(object)
     }
