@@ -54,7 +54,7 @@ pub fn settled<'a, V: ItemView>(
     ensures put { IfOk result (λ finds. (v : List ℕ) → list_any (puts_in v) finds.items ≡ (cell_in (V.items items.now) object.now (Some v)).on) }
     ensures taken { IfOk result (λ finds. (v : List ℕ) → list_any (takes_out v) finds.items ≡ (cell_in (V.items items.now) object.now (Some v)).off) }
 {
-    let mut finds = Vec::new(alloc);
+    let mut finds = Vec::with_capacity(alloc, items.len())?;
     for place in 0..items.len() {
         let (owner, value, cell) = items.item_at(place);
         if let Some(value) = value {

@@ -22,7 +22,7 @@ pub fn merged<'s, 'a>(
     ensures taken { IfOk result (λ finds. (v : List ℕ)
         → list_any (takes_out v) finds.items ≡ (list_any (takes_out v) settled.now || list_any (takes_out v) logged.now)) }
 {
-    let mut finds = Vec::with_capacity(alloc, settled.len())?;
+    let mut finds = Vec::with_capacity(alloc, settled.len() + logged.len())?;
     let mut left = (settled, logged);
     while let Some((found, settled, logged)) = next_of(left.0, left.1) {
         put(&mut finds, found)?;

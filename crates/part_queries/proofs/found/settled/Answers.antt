@@ -10,7 +10,7 @@ use Rattle.part_queries.proofs.found.settled.Goals as goal
 use Rattle.part_queries.proofs.found.settled.Goals.{in-Some+then-is_same+in_ok-push, in-Some+else-is_same, in_default}
 
 pub loop-place-init : goal.loop-place-init
-loop-place-init g c = settled_none c.args.object.now (g.V.ItemView.items c.args.items.now) c.new-finds.result.items c.new-finds.ensures.items
+loop-place-init g c = settled_none c.args.object.now (g.V.ItemView.items c.args.items.now) c.in_ok-finds.finds.items c.in_ok-finds.ensures.items
 
 pub loop-place-preserved : goal.loop-place-preserved
 loop-place-preserved g c =
