@@ -5,5 +5,7 @@
 #![tactic(auto)]
 
 mod set;
+#[cfg(test)]
+mod tests;
 
 pub use set::{set_contains, set_values};
