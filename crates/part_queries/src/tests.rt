@@ -1,7 +1,10 @@
 //! What is in an object by its items and its entries. Expected answers come from the rules of the kinds: what is settled or
 //! logged as put in is in, but in the kinds in which a remove wins where something is settled or logged as taken out.
 
-ghost use Rattle.std.specs.Prelude.{All, IsTrue};
+ghost use Rattle.std.specs.Prelude.{◌≡◌, true, All, IsTrue};
+ghost use Rattle.op_base.specs.Order.{item_cmp};
+ghost use Rattle.std.specs.declared.cmp.Ordering.TheVariants.{Less};
+ghost use Rattle.op_base.specs.declared.outcome.Item.{Item};
 ghost use Rattle.causal_model.specs.Items.{is_filled, Rise};
 
 use crate::{has, values};
@@ -26,8 +29,9 @@ impl ItemView for Items {
 
     fn cell(&self, object: &ObjectId, value: Option<&Value>) -> Cell {
         for item in &self.list {
-            if item_order(&item.object, item.value.as_ref(), object, value) == Ordering::Equal {
-                return item.cell;
+            match item_order(&item.object, item.value.as_ref(), object, value) {
+                Ordering::Equal => return item.cell,
+                Ordering::Less | Ordering::Greater => {}
             }
         }
         Cell {
@@ -58,29 +62,45 @@ impl Items {
         }
     }
 
-    /// Puts an item at the end, where it has a mark and stands there.
-    fn push(&mut self, item: Item) -> Result<(), NoMemory> {
-        if !item.cell.on && !item.cell.off {
-            return Ok(());
-        }
+    /// Whether an item stands behind all of them.
+    fn are_before(&self, item: &Item) -> bool
+        ensures { result ≡ true → All (λ (a : Item). item_cmp a.object a.value item.now.object item.now.value ≡ Less) self.now.list.items }
+    {
         for earlier in &self.list {
-            if item_order(
+            match item_order(
                 &earlier.object,
                 earlier.value.as_ref(),
                 &item.object,
                 item.value.as_ref(),
-            ) != Ordering::Less
-            {
-                return Ok(());
+            ) {
+                Ordering::Less => {}
+                Ordering::Equal | Ordering::Greater => return false,
             }
         }
-        self.list.push(item)?;
+        true
+    }
+
+    /// Puts an item with an on mark at the end, where it stands there.
+    fn push(&mut self, object: ObjectId, value: Option<Value>, off: bool) -> Result<(), NoMemory> {
+        let cell = Cell {
+            on: true,
+            off,
+            sum: 0,
+        };
+        let item = Item {
+            object,
+            value,
+            cell,
+        };
+        if self.are_before(&item) {
+            self.list.push(item)?;
+        }
         Ok(())
     }
 }
 
-/// Puts an item of a key and a value at the end: with an on mark where the second byte of its text is `+`, and an off mark
-/// where the third is `-`. The first is the value, or a space where there is none.
+/// Puts an item of a key and a value at the end, where the second byte of its text is `+`, with an off mark where the third
+/// is `-`. The first is the value, or a space where there is none.
 fn push_item(
     alloc: Global,
     items: &mut Items,
@@ -97,26 +117,19 @@ fn push_item(
     } else {
         Some(Value::read(alloc, &text[..1])?)
     };
-    let cell = Cell {
-        on: text[1] == b'+',
-        off: text[2] == b'-',
-        sum: 0,
-    };
-    items.push(Item {
-        object,
-        value,
-        cell,
-    })?;
+    if text[1] == b'+' {
+        items.push(object, value, text[2] == b'-')?;
+    }
     Ok(())
 }
 
 /// Items of `k` of a kind, between one of `j` and one of `l`.
-fn items_of(alloc: Global, kind: Kind, texts: &[&[u8; 3]]) -> Result<Items, Fail> {
+fn items_of(alloc: Global, kind: Kind, texts: [[u8; 3]; 3]) -> Result<Items, Fail> {
     let other = if has_values(kind) { b"z+-" } else { b" +-" };
     let mut items = Items::new(alloc);
     push_item(alloc, &mut items, kind, b"j", other)?;
     for text in texts {
-        push_item(alloc, &mut items, kind, b"k", text)?;
+        push_item(alloc, &mut items, kind, b"k", &text)?;
     }
     push_item(alloc, &mut items, kind, b"l", other)?;
     Ok(items)
@@ -162,12 +175,14 @@ fn push_entry(
 }
 
 /// Entries of `k` of a kind, behind two of `j`.
-fn entries_of(alloc: Global, kind: Kind, texts: &[&[u8; 2]]) -> Result<Vec<Entry>, Fail> {
+fn entries_of(alloc: Global, kind: Kind, texts: [[u8; 2]; 4]) -> Result<Vec<Entry>, Fail> {
     let mut entries = Vec::new(alloc);
     push_entry(alloc, &mut entries, kind, b"j", b"+y")?;
     push_entry(alloc, &mut entries, kind, b"j", b"-a")?;
     for text in texts {
-        push_entry(alloc, &mut entries, kind, b"k", text)?;
+        if text[0] != b' ' {
+            push_entry(alloc, &mut entries, kind, b"k", &text)?;
+        }
     }
     Ok(entries)
 }
@@ -205,35 +220,75 @@ fn holds(entries: &[Entry], items: &Items, object: &ObjectId, value: Option<&Val
 #[test]
 fn values_are_in_by_the_item_and_the_entries(rt: HostRuntime) -> Result<(), Fail> {
     let alloc = rt.alloc();
-    let rows: [(Kind, &[&[u8; 3]], &[&[u8; 2]], &[u8]); 10] = [
-        (Kind::AwSet, &[], &[], b""),
-        (Kind::AwSet, &[b"a+ ", b"c+ "], &[], b"ac"),
-        (Kind::AwSet, &[], &[b"+d", b"+a", b"+d"], b"ad"),
+    for (kind, settled, logged, answer) in [
         (
             Kind::AwSet,
-            &[b"a+ ", b"c+ "],
-            &[b"+d", b"+b", b"+c", b"+b"],
-            b"abcd",
+            [*b"   ", *b"   ", *b"   "],
+            [*b"  ", *b"  ", *b"  ", *b"  "],
+            "",
         ),
-        (Kind::RwSet, &[b"a+ ", b"b+-", b"c+ "], &[], b"ac"),
+        (
+            Kind::AwSet,
+            [*b"a+ ", *b"c+ ", *b"   "],
+            [*b"  ", *b"  ", *b"  ", *b"  "],
+            "ac",
+        ),
+        (
+            Kind::AwSet,
+            [*b"   ", *b"   ", *b"   "],
+            [*b"+d", *b"+a", *b"+d", *b"  "],
+            "ad",
+        ),
+        (
+            Kind::AwSet,
+            [*b"a+ ", *b"c+ ", *b"   "],
+            [*b"+d", *b"+b", *b"+c", *b"+b"],
+            "abcd",
+        ),
         (
             Kind::RwSet,
-            &[b"a+ ", b"c+ "],
-            &[b"-c", b"+b", b"-d"],
-            b"ab",
+            [*b"a+ ", *b"b+-", *b"c+ "],
+            [*b"  ", *b"  ", *b"  ", *b"  "],
+            "ac",
         ),
-        (Kind::RwSet, &[b"c+-"], &[b"+c", b"+b", b"-b", b"+a"], b"a"),
-        (Kind::RwSet, &[b"c -"], &[b"+c", b"-e", b"+e"], b""),
-        (Kind::MvReg, &[b"b+ "], &[b"+c", b"+a", b"+c"], b"abc"),
-        (Kind::MvReg, &[], &[b"+b"], b"b"),
-    ];
-    for (kind, settled, logged, answer) in rows {
+        (
+            Kind::RwSet,
+            [*b"a+ ", *b"c+ ", *b"   "],
+            [*b"-c", *b"+b", *b"-d", *b"  "],
+            "ab",
+        ),
+        (
+            Kind::RwSet,
+            [*b"c+-", *b"   ", *b"   "],
+            [*b"+c", *b"+b", *b"-b", *b"+a"],
+            "a",
+        ),
+        (
+            Kind::RwSet,
+            [*b"c+-", *b"   ", *b"   "],
+            [*b"+c", *b"-e", *b"+e", *b"  "],
+            "",
+        ),
+        (
+            Kind::MvReg,
+            [*b"b+ ", *b"   ", *b"   "],
+            [*b"+c", *b"+a", *b"+c", *b"  "],
+            "abc",
+        ),
+        (
+            Kind::MvReg,
+            [*b"   ", *b"   ", *b"   "],
+            [*b"+b", *b"  ", *b"  ", *b"  "],
+            "b",
+        ),
+    ] {
         let items = items_of(alloc, kind, settled)?;
         let entries = entries_of(alloc, kind, logged)?;
         let object = ObjectId {
             kind,
             key: Key::read(alloc, b"k")?,
         };
+        let answer = answer.as_bytes();
         assert_eq!(rt;
             listed(alloc, &entries, &items, &object)?.as_slice(),
             answer,
@@ -254,18 +309,62 @@ fn values_are_in_by_the_item_and_the_entries(rt: HostRuntime) -> Result<(), Fail
 #[test]
 fn a_flag_is_on_by_the_item_and_the_entries(rt: HostRuntime) -> Result<(), Fail> {
     let alloc = rt.alloc();
-    let rows: [(Kind, &[&[u8; 3]], &[&[u8; 2]], bool); 9] = [
-        (Kind::EwFlag, &[], &[], false),
-        (Kind::EwFlag, &[b" + "], &[], true),
-        (Kind::EwFlag, &[], &[b"+ "], true),
-        (Kind::DwFlag, &[], &[b"- "], false),
-        (Kind::DwFlag, &[b" + "], &[], true),
-        (Kind::DwFlag, &[b" + "], &[b"+ "], true),
-        (Kind::DwFlag, &[b" + "], &[b"- "], false),
-        (Kind::DwFlag, &[], &[b"+ ", b"- "], false),
-        (Kind::DwFlag, &[b" +-"], &[b"+ "], false),
-    ];
-    for (kind, settled, logged, answer) in rows {
+    for (kind, settled, logged, answer) in [
+        (
+            Kind::EwFlag,
+            [*b"   ", *b"   ", *b"   "],
+            [*b"  ", *b"  ", *b"  ", *b"  "],
+            false,
+        ),
+        (
+            Kind::EwFlag,
+            [*b" + ", *b"   ", *b"   "],
+            [*b"  ", *b"  ", *b"  ", *b"  "],
+            true,
+        ),
+        (
+            Kind::EwFlag,
+            [*b"   ", *b"   ", *b"   "],
+            [*b"+ ", *b"  ", *b"  ", *b"  "],
+            true,
+        ),
+        (
+            Kind::DwFlag,
+            [*b"   ", *b"   ", *b"   "],
+            [*b"- ", *b"  ", *b"  ", *b"  "],
+            false,
+        ),
+        (
+            Kind::DwFlag,
+            [*b" + ", *b"   ", *b"   "],
+            [*b"  ", *b"  ", *b"  ", *b"  "],
+            true,
+        ),
+        (
+            Kind::DwFlag,
+            [*b" + ", *b"   ", *b"   "],
+            [*b"+ ", *b"  ", *b"  ", *b"  "],
+            true,
+        ),
+        (
+            Kind::DwFlag,
+            [*b" + ", *b"   ", *b"   "],
+            [*b"- ", *b"  ", *b"  ", *b"  "],
+            false,
+        ),
+        (
+            Kind::DwFlag,
+            [*b"   ", *b"   ", *b"   "],
+            [*b"+ ", *b"- ", *b"  ", *b"  "],
+            false,
+        ),
+        (
+            Kind::DwFlag,
+            [*b" +-", *b"   ", *b"   "],
+            [*b"+ ", *b"  ", *b"  ", *b"  "],
+            false,
+        ),
+    ] {
         let items = items_of(alloc, kind, settled)?;
         let entries = entries_of(alloc, kind, logged)?;
         let object = ObjectId {
