@@ -1,5 +1,6 @@
 -- The first of the rows that pass, in the order of their numbers.
-use Rattle.std.proofs.Common.{◌≡◌, ◌≢◌, ℕ, ◌+◌, ◌<◌, ◌≤◌, zero, suc, Bool, true, false, cond, ltb, leb, List, [], ◌∷◌, ◌++◌, length, take, drop, get_or, Option, Some, None, MatchOption, find, remove, length-append, length-take-le, get_or-take, ◌⊎◌, inl, inr, refl, sym, ap, subst, ◌∙◌, arith}
+use Rattle.std.proofs.Common.{◌≡◌, ℕ, ◌+◌, ◌<◌, ◌≤◌, suc, Bool, true, false, not, cond, ltb, List, [], ◌∷◌, ◌++◌, length, take, get_or, Option, Some, None, MatchOption, find, remove, length-append, length-take-le, get_or-take, inl, inr, refl, sym, ap, subst, ◌∙◌, arith}
+use Rattle.std.specs.List.{filter}
 use Rattle.std.proofs.lemmas.Bool.{cond-true, cond-false, false≢true, ltb-true, ltb-false}
 use Rattle.std.proofs.lemmas.List.{get_or_append_left, take_more}
 use Rattle.std.proofs.lemmas.List.Sorted.{IsPermutation-remove}
@@ -125,3 +126,24 @@ module _ (p : Entry → Bool) where
       let rest = each-in_order P (remove rs k) (each-cut P rs k (suc k) (first.2 d)) in
       subst (λ ys. (find p (items_of ys) ≡ Some r.1) × (without_first p (items_of ys) ≡ arrived (remove rs k))) (in_order-of-moved rs (r ∷ remove rs k) moved apart)
       (find-first r (in_order (remove rs k)) (first.1 d) rest)
+
+-- ---- what is left without the first
+
+module _ {A : Type 0} (p : A → Bool) where
+  -- what doesn't pass is left
+  pub others-left : (xs : List A) → filter (λ x. not (p x)) (without_first p xs) ≡ filter (λ x. not (p x)) xs
+  others-left [] = refl
+  others-left (x ∷ xs) = elim (told (p x)) [
+    | inl t ↦ ap (filter (λ y. not (p y))) (cond-true (p x) _ _ t) ∙ sym (cond-false (not (p x)) _ _ (ap not t))
+    | inr t ↦ ap (filter (λ y. not (p y))) (cond-false (p x) _ _ t) ∙ ap (λ ys. cond (not (p x)) (x ∷ ys) ys) (others-left xs)
+  ]
+
+  -- where none is found, all are left, and none passes
+  pub all-left : (xs : List A) → find p xs ≡ None → (without_first p xs ≡ xs) × (filter (λ x. not (p x)) xs ≡ xs)
+  all-left [] none = (refl, refl)
+  all-left (x ∷ xs) none = elim (told (p x)) [
+    | inl t ↦ let some = sym (cond-true (p x) (Some x) (find p xs) t) ∙ none in cc
+    | inr t ↦
+        let rest = all-left xs (sym (cond-false (p x) (Some x) (find p xs) t) ∙ none) in
+        (cond-false (p x) _ _ t ∙ ap (λ ys. x ∷ ys) rest.0, cond-true (not (p x)) _ _ (ap not t) ∙ ap (λ ys. x ∷ ys) rest.1)
+  ]

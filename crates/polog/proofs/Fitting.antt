@@ -1,5 +1,5 @@
 -- What a message that fits a store has.
-use Rattle.std.proofs.Common.{◌≡◌, ℕ, ◌<◌, Bool, true, ◌&&◌, ◌==◌, nat_lt, List, length, get_or, IsTrue, sym, subst, arith}
+use Rattle.std.proofs.Common.{◌≡◌, ℕ, ◌<◌, Bool, ◌&&◌, ◌==◌, nat_lt, List, length, get_or, IsTrue, sym, subst, arith}
 use Rattle.std.proofs.lemmas.Bool.{eqb-true, and_parts}
 use Rattle.std.proofs.lemmas.List.Filters.{FiltersInPlace}
 use Rattle.op_base.specs.Message.{fits, number}

@@ -1,5 +1,5 @@
 -- Rows with other items beside the same numbers.
-use Rattle.std.proofs.Common.{◌≡◌, ℕ, Bool, cond, true, false, leb, List, [], ◌∷◌, map, refl, sym, ap, ◌∙◌}
+use Rattle.std.proofs.Common.{◌≡◌, ℕ, cond, true, false, leb, List, [], ◌∷◌, map, refl, ap, ◌∙◌}
 use Rattle.polog.specs.Order.{Each, place, in_order, items_of}
 use Rattle.polog.proofs.Moves.{Apart}
 

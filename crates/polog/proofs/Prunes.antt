@@ -1,12 +1,11 @@
 -- Which entries of a log a message leaves.
-use Rattle.std.proofs.Common.{◌≡◌, ℕ, ◌+◌, ◌≤◌, Bool, true, false, not, ◌&&◌, List, [], ◌∷◌, length, IsTrue, inl, inr, refl, sym, ap, subst, ◌∙◌, arith}
+use Rattle.std.proofs.Common.{◌≡◌, ◌≤◌, Bool, true, false, not, ◌&&◌, List, [], ◌∷◌, length, IsTrue, inl, inr, refl, sym, ap, ◌∙◌, arith}
 use Rattle.std.specs.List.{filter}
 use Rattle.std.proofs.lemmas.Bool.{false≢true}
 use Rattle.std.proofs.lemmas.List.Filters.{length-filter_both}
 use Rattle.op_base.specs.Object.{same_object}
 use Rattle.op_base.specs.declared.message.Entry.{Entry}
 use Rattle.op_base.specs.declared.message.Message.{Message}
-use Rattle.op_base.specs.declared.operation.Op.{Op}
 use Rattle.op_base.specs.declared.operation.Op.TheVariants as op
 use Rattle.op_base.specs.declared.operation.Update.{Update}
 use Rattle.causal_model.specs.Log.{is_covered_by, message_of}
@@ -14,7 +13,7 @@ use Rattle.causal_model.specs.Order.{happened_before}
 use Rattle.causal_model.proofs.Rules.{object_from_same}
 use Rattle.polog.specs.Order.{Each}
 use Rattle.polog.specs.Value.{is_of, stays}
-use Rattle.polog.proofs.Orders.{each-weaker, filter-all, told}
+use Rattle.polog.proofs.Orders.{filter-all, told}
 
 each-any : {A : Type 0} (P : A → Type 0) → ((x : A) → P x) → (xs : List A) → Each P xs
 each-any P all [] = tt

@@ -1,5 +1,5 @@
 -- A sweep over rows that moves those that stay to the front.
-use Rattle.std.proofs.Common.{◌≡◌, ◌≢◌, ℕ, ◌+◌, ◌<◌, ◌≤◌, zero, suc, Bool, true, false, List, [], ◌∷◌, ◌++◌, length, reverse, append_assoc, take, drop, get_or, get_or-drop, refl, sym, ap, subst, ◌∙◌, arith}
+use Rattle.std.proofs.Common.{◌≡◌, ℕ, ◌+◌, ◌<◌, ◌≤◌, zero, suc, Bool, true, false, List, [], ◌∷◌, ◌++◌, length, reverse, append_assoc, take, drop, get_or, get_or-drop, refl, sym, ap, subst, ◌∙◌, arith}
 use Rattle.std.specs.List.{filter, swap, SwappedAt}
 use Rattle.std.proofs.lemmas.List.{reverse-append}
 use Rattle.std.proofs.lemmas.List.Edits.{swapped_from_swap, swap_is}

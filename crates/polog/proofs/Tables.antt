@@ -1,6 +1,7 @@
 -- Rows of a list of numbers and one of items as long: what edits of both lists make of them.
-use Rattle.std.proofs.Common.{◌≡◌, ℕ, ◌+◌, ◌<◌, ◌≤◌, zero, suc, List, [], ◌∷◌, ◌++◌, length, take, drop, get_or, set, length-append, refl, sym, ap, ◌∙◌, arith}
-use Rattle.std.specs.List.{insert, remove, swap}
+use Rattle.std.proofs.Common.{◌≡◌, ℕ, ◌<◌, zero, suc, List, [], ◌∷◌, ◌++◌, length, take, drop, get_or, set, length-append, refl, sym, ap, ◌∙◌, arith}
+use Rattle.std.specs.List.{insert, swap}
+use Rattle.std.proofs.lemmas.List.{set-get_or}
 use Rattle.op_base.specs.declared.message.Entry.{Entry}
 use Rattle.polog.specs.Order.{rows, items_of}
 use Rattle.polog.specs.Rows.{Table}
@@ -14,6 +15,11 @@ same-take (suc i) [] [] same = refl
 same-take (suc i) [] (y ∷ ys) same = cc
 same-take (suc i) (x ∷ xs) [] same = cc
 same-take (suc i) (x ∷ xs) (y ∷ ys) same = ap suc (same-take i xs ys (omega (arith, same)))
+
+-- exchanged with itself, an element stays
+pub swap-itself : {A : Type 0} (i : ℕ) (xs : List A) → swap xs i i ≡ xs
+swap-itself i [] = refl
+swap-itself i (x ∷ xs) = ap (λ ys. set ys i (get_or (x ∷ xs) i x)) (set-get_or (x ∷ xs) i x) ∙ set-get_or (x ∷ xs) i x
 
 module _ {E : Type 0} where
   pub rows-join : (ns ms : List ℕ) (es fs : List E) → length ns ≡ length es → rows (ns ++ ms) (es ++ fs) ≡ rows ns es ++ rows ms fs

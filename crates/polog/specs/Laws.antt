@@ -4,8 +4,9 @@ use Rattle.op_base.specs.declared.message.Message.{Message}
 use Rattle.op_base.specs.declared.operation.Update.{Update}
 use Rattle.causal_model.specs.Chapter.{is_chapter}
 use Rattle.causal_model.specs.Log.{is_kept}
+use Rattle.causal_model.specs.Stability.{stable_vector}
 use Rattle.polog.specs.Value.{Log}
-use Rattle.polog.specs.Standing.{IsLogOf, IsPruned, IsLogged, IsStripped}
+use Rattle.polog.specs.Standing.{IsPruned, IsLogged, IsStripping}
 
 -- a message that isn't kept leaves the pruned log as it is
 abbrev pub UnkeptIsLogged : Type 0
@@ -18,7 +19,9 @@ PrunedHasRoom = (keeps : Update → Bool) (covers : Update → Update → Bool) 
     → me < n → 1 ≤ w → IsTrue (is_chapter n w me (ms ++ m ∷ [])) → IsTrue (is_kept keeps m.op) → IsPruned keeps covers n me ms m log
     → log.room ≡ n * w → length log.entries < log.room
 
--- once all that was stripped is handed out, the log is that of the messages with the one more
-abbrev pub HandedOutIsLogOf : Type 0
-HandedOutIsLogOf = (keeps : Update → Bool) (covers : Update → Update → Bool) (n me : ℕ) (ms : List Message) (m : Message) (log : Log)
-    → log.stripped ≡ [] → IsStripped keeps covers n me ms m log → IsLogOf keeps covers n me (ms ++ m ∷ []) log
+-- where these are the stable counts with the message, a log that has it can be stripped entry by entry
+abbrev pub LoggedIsStripping : Type 0
+LoggedIsStripping = (keeps : Update → Bool) (covers : Update → Update → Bool) (n w me : ℕ) (ms : List Message) (m : Message)
+    (stable : List ℕ) (log : Log)
+    → IsTrue (is_chapter n w me (ms ++ m ∷ [])) → stable ≡ stable_vector n me (ms ++ m ∷ [])
+    → IsLogged keeps covers n me ms m log → IsStripping keeps covers n me ms m stable log

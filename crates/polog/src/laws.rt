@@ -1,6 +1,6 @@
 //! Laws of logs that stand for a history.
 
-ghost use Rattle.polog.specs.Laws.{UnkeptIsLogged, PrunedHasRoom, HandedOutIsLogOf};
+ghost use Rattle.polog.specs.Laws.{UnkeptIsLogged, PrunedHasRoom, LoggedIsStripping};
 
 /// A message that isn't kept leaves the pruned log as it is.
 pub fn what_is_not_kept_changes_nothing()
@@ -12,7 +12,7 @@ pub fn a_pruned_log_has_room()
     ensures { PrunedHasRoom }
 {}
 
-/// Once all that was stripped is handed out, the log is that of one message more.
-pub fn what_was_handed_out_is_gone()
-    ensures { HandedOutIsLogOf }
+/// A log that has a message can be stripped entry by entry of what is stable with it.
+pub fn what_is_logged_can_be_stripped()
+    ensures { LoggedIsStripping }
 {}

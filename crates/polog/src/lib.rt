@@ -12,6 +12,6 @@ mod search;
 mod sweep;
 
 pub use laws::{
-    a_pruned_log_has_room, what_is_not_kept_changes_nothing, what_was_handed_out_is_gone,
+    a_pruned_log_has_room, what_is_logged_can_be_stripped, what_is_not_kept_changes_nothing,
 };
 pub use polog::Polog;

@@ -1,20 +1,17 @@
 //! The log.
 
 ghost use Rattle.std.specs.Prelude.{◌≡◌, ℕ, ◌+◌, ◌*◌, ◌^◌, ◌<◌, ◌≤◌, Bool, not, List, [], ◌∷◌, ◌++◌, length, map, filter, IfOk, IsTrue, true, Some, None};
-ghost use Rattle.std.specs.List.{find, list_any};
+ghost use Rattle.std.specs.List.{find};
 ghost use Rattle.std.specs.Ordering.{is_le};
 ghost use Rattle.op_base.specs.Message.{fits, id_of};
 ghost use Rattle.op_base.specs.Order.{object_cmp};
 ghost use Rattle.op_base.specs.declared.message.Entry.{Entry};
-ghost use Rattle.op_base.specs.declared.message.Message.{Message as AMessage};
 ghost use Rattle.op_base.specs.declared.name.ObjectId.{ObjectId};
 ghost use Rattle.op_base.specs.declared.operation.Update.{Update};
-ghost use Rattle.causal_model.specs.Chapter.{is_chapter};
-ghost use Rattle.causal_model.specs.Log.{is_kept, message_of};
-ghost use Rattle.causal_model.specs.Stability.{stable_vector};
+ghost use Rattle.causal_model.specs.Log.{message_of};
 ghost use Rattle.polog.specs.Value.{Log, with_entries, with_entry, with_stripped, without_stable, without_first, is_settled, is_of, stays};
 ghost use Rattle.polog.specs.Order.{Pairwise};
-ghost use Rattle.polog.specs.Standing.{IsLogOf, IsPruned, IsLogged, IsStripped};
+ghost use Rattle.polog.specs.Standing.{IsLogOf, KeepsPruned, KeepsLogged, KeepsStripped, KeepsHandingOut, KeepsStripping, AreLoggedOf, TellWhatIsLogged};
 
 use crate::ids::{numbered_ids, without_numbers};
 use crate::rows::Rows;
@@ -83,7 +80,7 @@ impl Polog {
         requires fits { IsTrue (fits self.old.n message.now) }
         ensures kept { self.new ≡ with_entries self.old (filter (stays (T.covers rule.now) message.now) self.old.entries) }
         // where it was the log of what a member delivered, it is the same without what the message covers
-        ensures pruned { (keeps : Update → Bool) (n me : ℕ) (ms : List AMessage) → IsLogOf keeps (T.covers rule.now) n me ms self.old → IsPruned keeps (T.covers rule.now) n me ms message.now self.new }
+        ensures pruned { KeepsPruned (T.covers rule.now) message.now self.old self.new }
     {
         if let Op::Update(update) = &message.op {
             let (from, to) = span_of(self.rows.entries(), &update.object);
@@ -98,7 +95,7 @@ impl Polog {
         requires numbers { self.old.pushed + 1 < 2 ^ 64 }
         ensures put { self.new ≡ with_entry self.old entry }
         // where the log was pruned for the entry's message, the message is in it
-        ensures logged { (keeps : Update → Bool) (covers : Update → Update → Bool) (n me : ℕ) (ms : List AMessage) (m : AMessage) → message_of entry ≡ m → IsTrue (is_kept keeps m.op) → IsPruned keeps covers n me ms m self.old → IsLogged keeps covers n me ms m self.new }
+        ensures logged { KeepsLogged entry self.old self.new }
     {
         let at = count_through(self.rows.entries(), &entry.update.object);
         self.rows.insert(at, self.next, entry);
@@ -112,7 +109,7 @@ impl Polog {
         requires handed_out { self.old.stripped ≡ [] }
         ensures taken { self.new ≡ without_stable self.old stable.now }
         // where the log had the last message that a member delivered, what is stable with it is taken out
-        ensures stripped { (keeps : Update → Bool) (covers : Update → Update → Bool) (n w me : ℕ) (ms : List AMessage) (m : AMessage) → me < n → IsTrue (is_chapter n w me (ms ++ m ∷ [])) → stable.now ≡ stable_vector n me (ms ++ m ∷ []) → IsLogged keeps covers n me ms m self.old → IsStripped keeps covers n me ms m self.new }
+        ensures stripped { KeepsStripped stable.now self.old self.new }
     {
         let kept = keep_unstable(&mut self.rows, stable);
         move_tail(&mut self.rows, kept, &mut self.leaving);
@@ -124,6 +121,9 @@ impl Polog {
     pub fn next_stripped(&mut self) -> Option<Entry>
         ensures none { self.old.stripped ≡ [] → (result ≡ None) × (self.new ≡ self.old) }
         ensures first { (e : Entry) (rest : List Entry) → self.old.stripped ≡ e ∷ rest → (result ≡ Some e) × (self.new ≡ with_stripped self.old rest) }
+        // where k of what is stable with a message were handed out, it is the one after these; where it is `None`, all
+        // were, and the log is that of what the member delivered, up to that message
+        ensures of { KeepsHandingOut result self.old self.new }
     {
         let (_, entry) = self.leaving.pop()?;
         Some(entry)
@@ -135,6 +135,9 @@ impl Polog {
         requires { length stable.now ≡ self.old.n }
         ensures taken { result ≡ find (is_settled stable.now) self.old.entries }
         ensures others { self.new ≡ with_entries self.old (without_first (is_settled stable.now) self.old.entries) }
+        // where the log had the last message that a member delivered, and these are the counts with it, it loses nothing
+        // else; where the result is `None`, the log is that of what the member delivered, up to that message
+        ensures of { KeepsStripping stable.now result self.old self.new }
     {
         let at = first_settled(&self.rows, stable)?;
         Some(self.rows.remove(at))
@@ -151,7 +154,9 @@ impl Polog {
 
     /// The entries of an object, in history order.
     pub fn of_object(&self, object: &ObjectId) -> &[Entry]
-        ensures { result.now ≡ filter (is_of object.now) self.now.entries }
+        ensures entries { result.now ≡ filter (is_of object.now) self.now.entries }
+        // of a log of what a member delivered they are those of the object in it
+        ensures of { AreLoggedOf object.now self.now result.now }
     {
         span(self.rows.entries(), object)
     }
@@ -159,8 +164,8 @@ impl Polog {
     /// Every entry once, side by side by object in the order of objects, and those of one object in history order.
     pub fn grouped(&self) -> &[Entry]
         ensures members { (object : ObjectId) → filter (is_of object) result.now ≡ filter (is_of object) self.now.entries }
-        ensures count { length result.now ≡ length self.now.entries }
-        ensures any { (passes : Entry → Bool) → list_any passes result.now ≡ list_any passes self.now.entries }
+        // of a log of what a member delivered, a test finds something among them exactly where it does in that log
+        ensures of { TellWhatIsLogged self.now result.now }
         ensures by_object { Pairwise (λ a b. is_le (object_cmp a.update.object b.update.object) ≡ true) result.now }
     {
         self.rows.entries()

@@ -87,14 +87,16 @@ impl Rows {
         self.numbers.insert(at, number).unwrap();
     }
 
-    /// Exchanges two rows.
+    /// Exchanges two rows. Where they are one, nothing is moved.
     pub fn swap(&mut self, a: usize, b: usize)
         requires first { a < length self.old.rows }
         requires second { b < length self.old.rows }
         ensures { self.new ≡ with_rows self.old (swap self.old.rows a b) }
     {
-        self.entries.swap(a, b);
-        self.numbers.swap(a, b);
+        if a != b {
+            self.entries.swap(a, b);
+            self.numbers.swap(a, b);
+        }
     }
 
     /// Lets go of the rows from one place up to another.

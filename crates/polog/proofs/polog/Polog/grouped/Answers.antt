@@ -1,11 +1,13 @@
-use Rattle.std.proofs.Common.{◌≡◌, true, filter, length, sym, ap, subst, ◌∙◌}
+use Rattle.std.proofs.Common.{◌≡◌, Bool, true, filter, sym, ap, subst, ◌∙◌}
 use Rattle.std.specs.List.{list_any}
 use Rattle.std.specs.Ordering.{is_le}
 use Rattle.op_base.specs.Order.{object_cmp}
 use Rattle.op_base.specs.declared.message.Entry.{Entry}
+use Rattle.causal_model.specs.Log.{message_of}
+use Rattle.causal_model.proofs.Elements.{list_any-map}
 use Rattle.polog.specs.Value.{is_of}
 use Rattle.polog.specs.Order.{Pairwise}
-use Rattle.polog.proofs.Laid.{length-items, length-arrived, by-object, of-object, any-arrived}
+use Rattle.polog.proofs.Laid.{by-object, of-object, any-arrived}
 use Rattle.polog.proofs.polog.Polog.grouped.Goals as goal
 
 pub returns-clause-members : goal.returns-clause-members
@@ -15,15 +17,13 @@ returns-clause-members c object =
     ∙ of-object object rows c.self.invariant.0.grouped
     ∙ ap (λ log. filter (is_of object) log.entries) c.self.view_is
 
-pub returns-clause-count : goal.returns-clause-count
-returns-clause-count c =
+pub returns-clause-of : goal.returns-clause-of
+returns-clause-of c keeps covers n me ms passes stands =
     let rows = c.self.inside.rows.rows in
-    ap length c.entries.ensures ∙ length-items rows ∙ sym (length-arrived rows) ∙ ap (λ log. length log.entries) c.self.view_is
-
-pub returns-clause-any : goal.returns-clause-any
-returns-clause-any c passes =
-    let rows = c.self.inside.rows.rows in
-    ap (list_any passes) c.entries.ensures ∙ any-arrived passes rows ∙ ap (λ log. list_any passes log.entries) c.self.view_is
+    let p : Entry → Bool = λ e. passes (message_of e) in
+    list_any-map passes message_of c.entries.result.now
+    ∙ ap (list_any p) c.entries.ensures ∙ any-arrived p rows ∙ ap (λ log. list_any p log.entries) c.self.view_is
+    ∙ sym (list_any-map passes message_of c.args.self.now.entries) ∙ ap (list_any passes) stands.holds
 
 pub returns-clause-by_object : goal.returns-clause-by_object
 returns-clause-by_object c =

@@ -1,7 +1,5 @@
 use Rattle.std.proofs.Common.{◌≡◌, map, IfOk, sym, ap, subst, ◌∙◌}
 use Rattle.op_base.specs.Message.{id_of}
-use Rattle.op_base.specs.declared.message.Entry.{Entry}
-use Rattle.op_base.specs.declared.tag.MessageId.{MessageId}
 use Rattle.causal_model.specs.Log.{message_of}
 use Rattle.polog.specs.Order.{in_order}
 use Rattle.polog.proofs.Items.{items-in-order, apart-items}

@@ -1,10 +1,10 @@
-use Rattle.std.proofs.Common.{◌≡◌, ℕ, ◌+◌, ◌≤◌, Bool, not, List, length, reverse, take, drop, filter, vec_capacity, sym, ap, subst, ◌∙◌, arith}
+use Rattle.std.proofs.Common.{◌≡◌, ℕ, ◌≤◌, Bool, not, length, reverse, drop, filter, vec_capacity, sym, ap, subst, ◌∙◌, arith}
 use Rattle.std.proofs.lemmas.List.Sorted.{length_permutation}
 use Rattle.op_base.specs.declared.message.Entry.{Entry}
 use Rattle.polog.specs.Order.{items_of, in_order}
 use Rattle.polog.specs.Rows.{Table, IsLaid, arrived, with_rows}
 use Rattle.polog.specs.Standing.{IsStripped}
-use Rattle.polog.specs.Value.{Log, without_stable, is_settled}
+use Rattle.polog.specs.Value.{without_stable, is_settled}
 use Rattle.polog.proofs.Laid.{apart-from-laid, laid-filter, arrived-filter}
 use Rattle.polog.proofs.Moves.{Apart}
 use Rattle.polog.proofs.Prunes.{length-filter-le}
@@ -66,5 +66,5 @@ pub returns-clause-taken : goal.returns-clause-taken
 returns-clause-taken c = taken c
 
 pub returns-clause-stripped : goal.returns-clause-stripped
-returns-clause-stripped c keeps covers n w me ms m inside chapter now stands =
-    subst (IsStripped keeps covers n me ms m) (sym (taken c)) (stripped-is keeps covers n me ms w m c.args.self.now c.args.stable.now chapter now stands)
+returns-clause-stripped c keeps covers n w me ms m chapter now stands =
+    subst (IsStripped keeps covers n me ms m 0) (sym (taken c)) (stripped-is keeps covers n me ms w m c.args.self.now c.args.stable.now chapter now stands)

@@ -1,4 +1,4 @@
-use Rattle.std.proofs.Common.{◌≡◌, ℕ, ◌+◌, ◌≤◌, Bool, List, length, reverse, find, Some, remove, vec_capacity, sym, ap, subst, ◌∙◌, arith}
+use Rattle.std.proofs.Common.{◌≡◌, ℕ, ◌≤◌, length, reverse, find, Some, vec_capacity, sym, ap, subst, ◌∙◌, arith}
 use Rattle.std.proofs.lemmas.List.Edits.{length-remove}
 use Rattle.op_base.specs.declared.message.Entry.{Entry}
 use Rattle.polog.specs.Order.{items_of}
@@ -6,6 +6,7 @@ use Rattle.polog.specs.Rows.{Table, IsLaid, arrived}
 use Rattle.polog.specs.Value.{Log, with_entries, without_first, is_settled}
 use Rattle.polog.proofs.Firsts.{none-arrived, first-arrived}
 use Rattle.polog.proofs.Laid.{apart-from-laid, laid-remove}
+use Rattle.polog.proofs.Standing.{keeps-stripping}
 use Rattle.polog.proofs.polog.Polog.strip_one.Goals as goal
 
 pub returns-in_err-at-clause-taken : goal.returns-in_err-at-clause-taken
@@ -47,3 +48,10 @@ returns-clause-others c =
     ap made c.remove.ensures.others
     ∙ ap (with_entries whole) (sym (first-arrived p rows c.in_ok-at.at d (apart-from-laid rows c.self.invariant.0.grouped) c.in_ok-at.ensures).1)
     ∙ ap (λ log. with_entries log (without_first p log.entries)) c.self.view_is
+
+pub returns-in_err-at-clause-of : goal.returns-in_err-at-clause-of
+returns-in_err-at-clause-of c =
+    keeps-stripping c.args.stable.now c.from_residual.result c.args.self.now c.args.self.now (returns-in_err-at-clause-taken c) (returns-in_err-at-clause-others c)
+
+pub returns-clause-of : goal.returns-clause-of
+returns-clause-of c = keeps-stripping c.args.stable.now _ c.args.self.now _ (returns-clause-taken c) (returns-clause-others c)

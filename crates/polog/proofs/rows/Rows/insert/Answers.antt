@@ -1,4 +1,4 @@
-use Rattle.std.proofs.Common.{◌≡◌, ◌<◌, ◌++◌, ℕ, suc, List, length, is_ok, take, drop, sym, ap, ◌∙◌, arith}
+use Rattle.std.proofs.Common.{◌≡◌, ℕ, List, length, is_ok, ap, ◌∙◌, arith}
 use Rattle.op_base.specs.declared.message.Entry.{Entry}
 use Rattle.polog.specs.Order.{rows}
 use Rattle.polog.specs.Rows.{Table, with_rows}

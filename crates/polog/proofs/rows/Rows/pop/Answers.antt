@@ -1,4 +1,4 @@
-use Rattle.std.proofs.Common.{◌≡◌, ◌++◌, ◌∷◌, [], length, sym, ap, ◌∙◌, arith}
+use Rattle.std.proofs.Common.{◌≡◌, ◌++◌, ◌∷◌, [], length, sym, ap, ◌∙◌}
 use Rattle.polog.specs.Order.{rows}
 use Rattle.polog.proofs.Tables.{rows-last}
 use Rattle.polog.proofs.rows.Rows.pop.Goals as goal
