@@ -1,13 +1,17 @@
 //! Fills a part of a replica and empties it, many times, for `bench/run` to measure.
 //!
-//! Its words are the part (`window`, `buffer`, `matrix` or `outbox`); how many members the store has, 1 to 16; its window,
-//! 1 to 64; how much of the room is filled, in hundredths; `order`, or at the buffer `reverse` too; and how many turns there
-//! are. It prints how many messages went through the part.
+//! Its words are the part (`window`, `buffer`, `matrix`, `outbox`, `log` or `items`); how many members the store has, 1 to
+//! 16; its window, 1 to 64; how much of the room is filled, in hundredths, or how many hundreds of items there are; the step:
+//! `order`, at the buffer `reverse` too, and at the log and the items those of their modules; and how many turns there are. It
+//! prints how many messages or steps went through the part.
 #![tactic(auto)]
 
 mod buffer;
+mod items;
+mod log;
 mod matrix;
 mod sending;
+mod updates;
 mod window;
 
 use anyhow::{Context, Result, bail, ensure};
@@ -24,11 +28,19 @@ fn small(word: &str) -> Result<u8> {
     Ok(word.parse::<u8>().context("reading a small number")?)
 }
 
+fn is_reverse(order: &str) -> Result<bool> {
+    Ok(match order {
+        "order" => false,
+        "reverse" => true,
+        _ => bail!("no order: {order}"),
+    })
+}
+
 fn main(rt: HostRuntime) -> Result<()> {
     let alloc = rt.alloc();
     let words: Vec<String> = env::args(&rt)?.collect(alloc)?;
-    let [_, part, members, window, filled, order, turns] = words.as_slice() else {
-        bail!("the words are a part, members, a window, how much is filled, an order, and turns");
+    let [_, part, members, window, filled, step, turns] = words.as_slice() else {
+        bail!("the words are a part, members, a window, how much is filled, a step, and turns");
     };
     let n = small(members.as_str())?;
     let w = small(window.as_str())?;
@@ -39,15 +51,13 @@ fn main(rt: HostRuntime) -> Result<()> {
         "no store has {n} members"
     );
     ensure!(w >= 1 && w <= MOST_WINDOW, "no store has a window of {w}");
-    ensure!(filled <= 100, "more than the room");
-    let reverse = match order.as_str() {
-        "order" => false,
-        "reverse" => true,
-        _ => bail!("no order: {order}"),
-    };
+    let step = step.as_str();
     let messages = match part.as_str() {
-        "buffer" => buffer::measure(alloc, n, w, filled, reverse, turns)?,
-        _ if reverse => bail!("{part} has one order"),
+        "items" => items::measure(alloc, n, w, filled, step, turns)?,
+        _ if filled > 100 => bail!("more than the room"),
+        "buffer" => buffer::measure(alloc, n, w, filled, is_reverse(step)?, turns)?,
+        "log" => log::measure(alloc, n, w, filled, step, turns)?,
+        _ if step != "order" => bail!("{part} has one order"),
         "window" => window::measure(alloc, n, w, filled, turns)?,
         "matrix" => matrix::measure(n, filled, turns)?,
         "outbox" => sending::measure(alloc, n, w, filled, turns)?,
