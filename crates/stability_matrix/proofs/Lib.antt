@@ -1,3 +1,5 @@
 pub mod Minimums
 pub mod Entries
 pub mod Standing
+pub mod Kept
+pub mod Renewals

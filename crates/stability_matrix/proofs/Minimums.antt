@@ -1,7 +1,10 @@
 -- The least of a list of numbers.
-use Rattle.std.proofs.Common.{◌≡◌, ℕ, zero, suc, ◌+◌, ◌<◌, ◌≤◌, min, List, [], ◌∷◌, length, get_or, refl, inl, inr, below_more, arith}
-use Rattle.std.proofs.lemmas.Bool.{cases_lt}
+use Rattle.std.proofs.Common.{◌≡◌, ℕ, zero, suc, ◌+◌, ◌<◌, ◌≤◌, ◌≢◌, min, List, [], ◌∷◌, length, get_or, set, length-set, get_or-set_other, refl, sym, ap, ◌∙◌, inl, inr, below_more, arith}
+use Rattle.std.proofs.lemmas.Bool.{cases_lt, cases_eq}
+use Rattle.std.proofs.lemmas.Grind.{get_or-set_at}
+use Rattle.std.proofs.lemmas.List.{set-get_or}
 use Rattle.causal_model.specs.Stability.{minimum}
+use Rattle.stability_matrix.specs.Rows.{LeastStays}
 
 minimum_below : (xs : List ℕ) (k : ℕ) → k < length xs → minimum xs ≤ get_or xs k 0
 minimum_below [] k l = absurd (omega (arith, l))
@@ -26,6 +29,24 @@ minimum_is [] least below k l e = absurd (omega (arith, l))
 minimum_is (x ∷ xs) least below k l e =
     let there = minimum_there x xs in
     omega (arith, below there.0 there.1, there.2, minimum_below (x ∷ xs) k l, e)
+
+-- it stays where a number above it becomes another above it
+minimum-set_above : (xs : List ℕ) (k v : ℕ) → k < length xs → minimum xs < get_or xs k 0 → minimum xs < v → minimum (set xs k v) ≡ minimum xs
+minimum-set_above [] k v l was now = absurd (omega (arith, l))
+minimum-set_above (x ∷ xs) k v l was now =
+    let there = minimum_there x xs in
+    let apart : there.0 ≢ k = λ e. absurd (omega (arith, there.2, was, ap (λ j. get_or (x ∷ xs) j 0) e)) in
+    minimum_is (set (x ∷ xs) k v) (minimum (x ∷ xs)) (λ i within. elim (cases_eq i k) [
+      | inl e ↦ omega (arith, get_or-set_at (x ∷ xs) k i v 0 e l, now)
+      | inr ne ↦ omega (arith, get_or-set_other (x ∷ xs) k i v 0 ne, minimum_below (x ∷ xs) i (omega (arith, within, length-set (x ∷ xs) k v)))
+    ]) there.0 (omega (arith, there.1, length-set (x ∷ xs) k v)) (get_or-set_other (x ∷ xs) k there.0 v 0 apart ∙ there.2)
+
+-- or where the number set is the one that was there
+pub minimum-set : (xs : List ℕ) (k v : ℕ) → k < length xs → LeastStays (minimum xs) (get_or xs k 0) v → minimum (set xs k v) ≡ minimum xs
+minimum-set xs k v l stays = elim stays [
+  | inl e ↦ ap (λ w. minimum (set xs k w)) (sym e) ∙ ap minimum (set-get_or xs k 0)
+  | inr above ↦ minimum-set_above xs k v l above.0 above.1
+]
 
 -- ---- a list gone through from its start, with the least so far
 

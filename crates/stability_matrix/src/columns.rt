@@ -1,8 +1,8 @@
 //! The rows of a matrix, as a message is noted in them, and the least of each of their columns.
 
-ghost use Rattle.std.specs.Prelude.{◌≡◌, ◌<◌, ◌≤◌, ℕ, min, length, All};
+ghost use Rattle.std.specs.Prelude.{◌≡◌, ◌<◌, ◌≤◌, ℕ, min, length, All, IsTrue};
 ghost use Rattle.op_base.specs.Timestamp.{entry};
-ghost use Rattle.stability_matrix.specs.Rows.{stable_of, noted};
+ghost use Rattle.stability_matrix.specs.Rows.{stable_of, noted, LeastStays};
 
 use op_base::Tag;
 
@@ -42,4 +42,11 @@ fn lower(least: &mut Tag, row: &Tag)
     for x in 0..row.members() {
         least.set(x, least.at(x).min(row.at(x)));
     }
+}
+
+/// Whether a column's least stays where an entry of it moves: it doesn't, or was and is above the least.
+pub(crate) fn least_stays(least: u32, was: u32, now: u32) -> bool
+    ensures { IsTrue result → LeastStays least was now }
+{
+    was == now || least < was && least < now
 }

@@ -1,18 +1,19 @@
 //! A matrix of timestamps: what a replica knows that each member has.
 
-ghost use Rattle.std.specs.Prelude.{◌≡◌, ◌≢◌, ℕ, ◌<◌, ◌≤◌, List, [], length, slice_set, replicate};
+ghost use Rattle.std.specs.Prelude.{◌≡◌, ◌≢◌, ℕ, ◌<◌, ◌≤◌, List, [], length, slice_set, replicate, IsTrue};
 ghost use Rattle.op_base.specs.Message.{id_of};
 ghost use Rattle.op_base.specs.Timestamp.{zero_tag, covers};
 ghost use Rattle.op_base.specs.declared.message.Message.{Message};
 ghost use Rattle.causal_model.specs.Stability.{known_vector, stable_vector, is_stable};
 
-use crate::columns::{least_of, note_in};
+use crate::columns::{least_of, least_stays, note_in};
 use op_base::{MOST_MEMBERS, MessageId, Tag};
 use std::marker::Model;
 
 /// What member `me` of a store knows that each member has: a row for each. Contracts see `me` and the rows.
 ///
-/// The least of each column is kept. A message may move all of them, so all are computed together then, row by row.
+/// The least of each column is kept. A message may move all of them, so all are computed together then, row by row; where
+/// no entry that it moves was or becomes a least, all stay.
 #[derive(Debug, Drop)]
 pub struct Matrix {
     n: u8,
@@ -102,6 +103,9 @@ impl Matrix {
         ensures least { result ≡ stable_of (noted self.now.me origin tag self.now.rows) }
         ensures known { StableAfter origin tag self.now result }
     {
+        if self.keeps_least(origin, &tag) {
+            return self.stable;
+        }
         let mut rows = self.rows;
         let rows = &mut rows[..self.n as usize];
         note_in(rows, self.me, origin, &tag);
@@ -123,8 +127,27 @@ impl Matrix {
         requires entries { length tag.now ≡ length self.old.rows }
         ensures { self.new ≡ record { me = self.old.me; rows = noted self.old.me origin tag.now self.old.rows } }
     {
+        let keeps_least = self.keeps_least(origin, tag);
         let rows = &mut self.rows[..self.n as usize];
         note_in(rows, self.me, origin, tag);
-        self.stable = least_of(rows);
+        if !keeps_least {
+            self.stable = least_of(rows);
+        }
+    }
+
+    /// Whether no entry that a message of `origin` moves was or becomes its column's least: each least stays then.
+    fn keeps_least(&self, origin: u8, tag: &Tag) -> bool
+        requires origin { origin < length self.now.rows }
+        requires entries { length tag.now ≡ length self.now.rows }
+        ensures { IsTrue result → stable_of (noted self.now.me origin tag.now self.now.rows) ≡ stable_of self.now.rows }
+    {
+        let row = &self.rows[origin as usize];
+        for x in 0..self.n {
+            if !least_stays(self.stable.at(x), row.at(x), tag.at(x)) {
+                return false;
+            }
+        }
+        let own = self.rows[self.me as usize].at(origin);
+        least_stays(self.stable.at(origin), own, tag.at(origin))
     }
 }
