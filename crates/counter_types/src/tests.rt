@@ -49,13 +49,9 @@ impl ItemView for OneItem {
     ghost filled = { λ v. Prim.search rules };
 }
 
-/// The item of a counter's sum, or of another counter's where the sum is 0.
-fn item_of(alloc: Global, sum: i128) -> Result<OneItem, Fail> {
-    let (name, sum): (&[u8], i128) = if sum == 0 {
-        (b"rcounter:b", 1)
-    } else {
-        (b"rcounter:a", sum)
-    };
+/// The item of a counter's sum, or where the sum is 0 that of another counter.
+fn item_of(alloc: Global, counter: &[u8], other: &[u8], sum: i128) -> Result<OneItem, Fail> {
+    let (name, sum) = if sum == 0 { (other, 1) } else { (counter, sum) };
     let item = Item {
         object: ObjectId::read(alloc, name)?,
         value: None,
@@ -120,7 +116,7 @@ fn a_sum_is_that_of_the_item_and_of_the_entries(rt: HostRuntime) -> Result<(), F
             -85_070_591_730_234_615_865_843_651_862_237_020_159,
         ),
     ] {
-        let items = item_of(alloc, settled)?;
+        let items = item_of(alloc, b"rcounter:a", b"rcounter:b", settled)?;
         let mut entries = Vec::with_capacity(alloc, acts.len())?;
         for (key, added, taken) in acts {
             let object = ObjectId {
@@ -136,6 +132,17 @@ fn a_sum_is_that_of_the_item_and_of_the_entries(rt: HostRuntime) -> Result<(), F
             Some(sum),
             "{settled} {acts:?}"
         );
+    }
+    Ok(())
+}
+
+#[test]
+fn a_counter_that_is_never_cleared_is_its_item(rt: HostRuntime) -> Result<(), Fail> {
+    let alloc = rt.alloc();
+    let object = ObjectId::read(alloc, b"counter:a")?;
+    for settled in [0, 1, -8_589_934_590] {
+        let items = item_of(alloc, b"counter:a", b"counter:b", settled)?;
+        assert_eq!(rt; sum_of(&items, &[], &object), Some(settled), "{settled}");
     }
     Ok(())
 }
