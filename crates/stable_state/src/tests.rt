@@ -189,8 +189,6 @@ fn cells_are_moved_as_their_kind_says(rt: HostRuntime) -> Result<(), Fail> {
                 (Goes, b"mvreg:b", Write(b"x")),
                 (Covers, b"mvreg:a", Write(b"z")),
                 (Goes, b"mvreg:a", Write(b"z")),
-                (Goes, b"mvreg:c", Write(b"x")),
-                (Covers, b"mvreg:c", Clear),
             ],
             &[(b"mvreg:a", b"z", ON), (b"mvreg:b", b"x", ON)],
         ),
@@ -212,22 +210,14 @@ fn cells_are_moved_as_their_kind_says(rt: HostRuntime) -> Result<(), Fail> {
                 (Goes, b"rwset:a", Rmv(b"x")),
                 (Goes, b"rwset:b", Rmv(b"x")),
                 (Waits, b"rwset:b", Add(b"x")),
-                (Goes, b"rwset:c", Add(b"x")),
-                (Goes, b"rwset:c", Add(b"y")),
-                (Covers, b"rwset:c", Rmv(b"x")),
-                (Goes, b"rwset:d", Add(b"x")),
-                (Goes, b"rwset:d", Rmv(b"y")),
-                (Covers, b"rwset:d", Clear),
             ],
-            &[(b"rwset:b", b"x", OFF), (b"rwset:c", b"y", ON)],
+            &[(b"rwset:b", b"x", OFF)],
         ),
         (
             &[
                 (Goes, b"ewflag:a", Enable),
                 (Goes, b"ewflag:b", Enable),
                 (Covers, b"ewflag:a", Disable),
-                (Goes, b"ewflag:c", Enable),
-                (Covers, b"ewflag:c", Clear),
             ],
             &[(b"ewflag:b", b"", ON)],
         ),
@@ -239,10 +229,6 @@ fn cells_are_moved_as_their_kind_says(rt: HostRuntime) -> Result<(), Fail> {
                 (Goes, b"dwflag:b", Disable),
                 (Goes, b"dwflag:c", Enable),
                 (Waits, b"dwflag:b", Enable),
-                (Goes, b"dwflag:d", Enable),
-                (Covers, b"dwflag:d", Disable),
-                (Goes, b"dwflag:e", Enable),
-                (Covers, b"dwflag:e", Clear),
             ],
             &[(b"dwflag:b", b"", BOTH), (b"dwflag:c", b"", ON)],
         ),
@@ -327,5 +313,32 @@ fn items_stand_in_order_and_by_object(rt: HostRuntime) -> Result<(), Fail> {
         items.of_object(&object).cell(&other, Some(&value)),
         NO_CELL
     );
+    Ok(())
+}
+
+#[test]
+fn what_covers_an_item_takes_it_out(rt: HostRuntime) -> Result<(), Fail> {
+    use Deed::{Add, Clear, Disable, Enable, Inc, Rmv, Write};
+    let alloc = rt.alloc();
+    let mut items = Items::new(alloc);
+    let covers: [(&[u8], Deed, Deed); 11] = [
+        (b"awset:a", Add(b"x"), Add(b"x")),
+        (b"awset:b", Add(b"x"), Clear),
+        (b"rwset:a", Add(b"x"), Rmv(b"x")),
+        (b"rwset:b", Rmv(b"x"), Add(b"x")),
+        (b"rwset:c", Rmv(b"x"), Clear),
+        (b"ewflag:a", Enable, Enable),
+        (b"ewflag:b", Enable, Clear),
+        (b"dwflag:a", Enable, Disable),
+        (b"dwflag:b", Disable, Clear),
+        (b"mvreg:a", Write(b"x"), Clear),
+        (b"rcounter:a", Inc(1), Clear),
+    ];
+    for (object, put, cover) in covers {
+        assert!(rt; take(alloc, &mut items, (How::Goes, object, put))?);
+        assert_eq!(rt; items.len(), 1, "{object:?}");
+        assert!(rt; take(alloc, &mut items, (How::Covers, object, cover))?);
+        assert_eq!(rt; items.len(), 0, "{object:?}");
+    }
     Ok(())
 }
