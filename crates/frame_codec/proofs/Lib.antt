@@ -4,3 +4,4 @@ pub mod Codes
 pub mod Spelled
 pub mod Faults
 pub mod Frames
+pub mod Read

@@ -22,7 +22,7 @@ pub use encoding::encode;
 pub use fault::{DecodeFault, FrameFault};
 pub use laws::{
     a_frame_has_no_fault, no_frame_begins_another, one_message_a_frame, one_spelling_a_message,
-    without_fault_is_a_frame,
+    what_is_read_is_a_frame, without_fault_is_a_frame,
 };
 pub use version::Version;
 
