@@ -126,8 +126,9 @@ impl CausalBuffer {
         Offer::Kept
     }
 
-    /// Whether a message is too far ahead. Its number is above its origin's count.
-    fn is_far(&self, message: &Message, me: u8, counts: &Tag) -> bool
+    /// Whether a message is too far ahead to be kept: by its number, which is above its origin's count, or by own messages
+    /// that it has seen and that `me` hasn't sent.
+    pub fn is_far(&self, message: &Message, me: u8, counts: &Tag) -> bool
         requires fits { IsTrue (fits self.now.n message.now) }
         requires me { me < self.now.n }
         requires counts { length counts.now ≡ self.now.n }
