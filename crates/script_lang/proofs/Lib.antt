@@ -1,0 +1,12 @@
+pub mod Places
+pub mod WordLemmas
+pub mod FirstWords
+pub mod SevenWords
+pub mod Counts
+pub mod Values
+pub mod Memories
+pub mod Ample
+mod Parted
+mod Decimals
+mod Items
+pub mod Shown

@@ -1,0 +1,140 @@
+-- The commands of a script. Each `..._words` is the command of the words behind its first.
+use Rattle.std.specs.Prelude.{◌≡◌, ◌⊎◌, ℕ, nat_lt, List, [], ◌∷◌, length, Result, Ok, Err, Option, Some, None, codes, if◌then◌else◌}
+use Rattle.op_base.specs.Name.{same_text}
+use Rattle.script_lang.specs.Words.{words_of, is_passed_over}
+use Rattle.script_lang.specs.Fault.{◌>>=◌, most_line_bytes, number_of_fault}
+use Rattle.script_lang.specs.Names.{member_of, object_in, bytes_in, amount_in}
+use Rattle.script_lang.specs.Acts.{update_in}
+use Rattle.script_lang.specs.declared.fault.Fault.{Fault}
+use Rattle.script_lang.specs.declared.fault.Fault.TheVariants as fault
+use Rattle.script_lang.specs.declared.command.Command.{Command}
+use Rattle.script_lang.specs.declared.command.Command.TheVariants.{Do, Ask, Beat, Give, Resend, Raw, Settle, Log, Size, Stable, Seen}
+use Rattle.script_lang.specs.declared.command.Verb.{Verb}
+use Rattle.script_lang.specs.declared.command.Verb.TheVariants as verbs
+use Rattle.script_lang.specs.declared.command.Line.{Line}
+use Rattle.script_lang.specs.declared.command.Line.TheVariants.{Skip, Run, Bad}
+use Rattle.script_lang.specs.declared.command.Line.TheVariants as lines
+
+abbrev pub do_command : ℕ → List ℕ → List ℕ → List ℕ → Option (List ℕ) → Result Command Fault
+do_command n r object operation argument =
+    member_of n r >>= λ r. update_in object operation argument >>= λ update. Ok (Do r update)
+
+-- r object operation, or r object operation argument
+abbrev pub do_words : ℕ → List (List ℕ) → Result Command Fault
+do_words n (r ∷ object ∷ operation ∷ []) = do_command n r object operation None
+do_words n (r ∷ object ∷ operation ∷ argument ∷ []) = do_command n r object operation (Some argument)
+do_words n words = Err fault.Words
+
+abbrev pub ask_command : ℕ → List ℕ → List ℕ → Result Command Fault
+ask_command n r object = member_of n r >>= λ r. object_in object >>= λ object. Ok (Ask r object)
+
+-- r object
+abbrev pub ask_words : ℕ → List (List ℕ) → Result Command Fault
+ask_words n (r ∷ object ∷ []) = ask_command n r object
+ask_words n words = Err fault.Words
+
+abbrev pub give_command : ℕ → List ℕ → List ℕ → List ℕ → Result Command Fault
+give_command n r k s = member_of n r >>= λ r. member_of n k >>= λ k. amount_in s >>= λ s. Ok (Give r k s)
+
+-- r k s
+abbrev pub give_words : ℕ → List (List ℕ) → Result Command Fault
+give_words n (r ∷ k ∷ s ∷ []) = give_command n r k s
+give_words n words = Err fault.Words
+
+abbrev pub resend_command : ℕ → List ℕ → List ℕ → Result Command Fault
+resend_command n r k = member_of n r >>= λ r. member_of n k >>= λ k. Ok (Resend r k)
+
+-- r k
+abbrev pub resend_words : ℕ → List (List ℕ) → Result Command Fault
+resend_words n (r ∷ k ∷ []) = resend_command n r k
+resend_words n words = Err fault.Words
+
+abbrev pub raw_command : ℕ → List ℕ → List ℕ → Result Command Fault
+raw_command n r hex = member_of n r >>= λ r. bytes_in hex >>= λ bytes. Ok (Raw r bytes)
+
+-- r hexadecimal
+abbrev pub raw_words : ℕ → List (List ℕ) → Result Command Fault
+raw_words n (r ∷ hex ∷ []) = raw_command n r hex
+raw_words n words = Err fault.Words
+
+-- nothing
+abbrev pub settle_words : List (List ℕ) → Result Command Fault
+settle_words [] = Ok Settle
+settle_words words = Err fault.Words
+
+-- r, and nothing behind it
+abbrev pub lone_member : ℕ → List (List ℕ) → Result ℕ Fault
+lone_member n (r ∷ []) = member_of n r
+lone_member n words = Err fault.Words
+
+-- the word of a verb
+abbrev pub verb_word : Verb → List ℕ
+verb_word verbs.Do = codes "do"
+verb_word verbs.Ask = codes "ask"
+verb_word verbs.Beat = codes "beat"
+verb_word verbs.Give = codes "give"
+verb_word verbs.Resend = codes "resend"
+verb_word verbs.Raw = codes "raw"
+verb_word verbs.Settle = codes "settle"
+verb_word verbs.Log = codes "log"
+verb_word verbs.Size = codes "size"
+verb_word verbs.Stable = codes "stable"
+verb_word verbs.Seen = codes "seen"
+
+abbrev pub all_verbs : List Verb
+all_verbs =
+    verbs.Do ∷ verbs.Ask ∷ verbs.Beat ∷ verbs.Give ∷ verbs.Resend ∷ verbs.Raw ∷ verbs.Settle ∷ verbs.Log ∷ verbs.Size ∷ verbs.Stable ∷ verbs.Seen ∷ []
+
+-- the verb of a list whose word this is
+abbrev pub verb_among : List Verb → List ℕ → Option Verb
+verb_among [] word = None
+verb_among (verb ∷ others) word = if same_text (verb_word verb) word then Some verb else verb_among others word
+
+-- the verb whose word this is
+abbrev pub verb_of : List ℕ → Option Verb
+verb_of word = verb_among all_verbs word
+
+-- the command of a verb and the words behind it, at one of n members
+abbrev pub verb_words : ℕ → Verb → List (List ℕ) → Result Command Fault
+verb_words n verbs.Do words = do_words n words
+verb_words n verbs.Ask words = ask_words n words
+verb_words n verbs.Beat words = lone_member n words >>= λ r. Ok (Beat r)
+verb_words n verbs.Give words = give_words n words
+verb_words n verbs.Resend words = resend_words n words
+verb_words n verbs.Raw words = raw_words n words
+verb_words n verbs.Settle words = settle_words words
+verb_words n verbs.Log words = lone_member n words >>= λ r. Ok (Log r)
+verb_words n verbs.Size words = lone_member n words >>= λ r. Ok (Size r)
+verb_words n verbs.Stable words = lone_member n words >>= λ r. Ok (Stable r)
+verb_words n verbs.Seen words = lone_member n words >>= λ r. Ok (Seen r)
+
+-- the command of the words behind a first word
+abbrev pub words_behind : ℕ → Option Verb → List (List ℕ) → Result Command Fault
+words_behind n None words = Err fault.Verb
+words_behind n (Some verb) words = verb_words n verb words
+
+-- the command that words are, at one of n members
+abbrev pub command_words : ℕ → List (List ℕ) → Result Command Fault
+command_words n [] = Err fault.Verb
+command_words n (verb ∷ words) = words_behind n (verb_of verb) words
+
+-- the command that a line is
+abbrev pub command_of : ℕ → List ℕ → Result Command Fault
+command_of n line = if nat_lt most_line_bytes (length line) then Err fault.TooLong else command_words n (words_of line)
+
+-- a line that is no command, by the number of its fault
+abbrev pub bad_line : Option ℕ → Line
+bad_line (Some code) = Bad code
+bad_line None = lines.NoMemory
+
+abbrev pub run_or_bad : Result Command Fault → Line
+run_or_bad (Ok command) = Run command
+run_or_bad (Err fault) = bad_line (number_of_fault fault)
+
+-- what a line of a script is, in a store of n members
+abbrev pub line_of : ℕ → List ℕ → Line
+line_of n line = if is_passed_over line then Skip else run_or_bad (command_of n line)
+
+-- a line was read as this, unless memory ran out
+abbrev pub IsLineOrNoMemory : Line → Line → Type 0
+IsLineOrNoMemory line result = (result ≡ line) ⊎ (result ≡ lines.NoMemory)

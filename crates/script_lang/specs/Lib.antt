@@ -1,0 +1,13 @@
+pub mod Words
+pub mod Numbers
+pub mod Fault
+pub mod Names
+pub mod Acts
+pub mod Headers
+pub mod Commands
+pub mod LiveCommands
+pub mod Ranges
+pub mod Memory
+pub mod Replies
+pub mod Notes
+pub mod Laws

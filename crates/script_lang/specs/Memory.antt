@@ -1,0 +1,71 @@
+-- What a reader answers where memory may run out, and of which lines it tells that.
+use Rattle.std.specs.Prelude.{◌≡◌, ◌≢◌, Bool, true, false, IsTrue, nat_le, Result, Ok, Err, MatchResult, IfErr}
+use Rattle.script_lang.specs.declared.fault.Fault.{Fault}
+use Rattle.script_lang.specs.declared.fault.Fault.TheVariants.{TooLong, Verb, Words, Member, Object, Operation, Value, Number, NoMemory}
+use Rattle.script_lang.specs.declared.command.Command.{Command}
+use Rattle.script_lang.specs.declared.command.Command.TheVariants as command
+use Rattle.script_lang.specs.declared.command.Line.{Line}
+use Rattle.script_lang.specs.declared.command.Line.TheVariants as line
+use Rattle.script_lang.specs.declared.live.LiveCommand.{LiveCommand}
+use Rattle.script_lang.specs.declared.live.LiveCommand.TheVariants as live
+use Rattle.script_lang.specs.declared.live.LiveLine.{LiveLine}
+use Rattle.script_lang.specs.declared.live.LiveLine.TheVariants as live_line
+
+-- a reader answers what is to be read, or its fault, unless memory runs out
+abbrev pub Reads : {A : Type 0} → Result A Fault → Result A Fault → Type 0
+Reads wanted result = MatchResult result (λ x. wanted ≡ Ok x) (λ e. e ≢ NoMemory → wanted ≡ Err e)
+
+-- whether memory is taken before the test of a fault: that of the object, and what is tested behind it
+abbrev pub is_late : Fault → Bool
+is_late TooLong = false
+is_late Verb = false
+is_late Words = false
+is_late Member = false
+is_late Object = true
+is_late Operation = true
+is_late Value = true
+is_late Number = true
+is_late NoMemory = true
+
+-- whether memory may run out where this is to be read, for things of which some keep names, values or bytes
+abbrev pub takes_memory : {A : Type 0} → (A → Bool) → Result A Fault → Bool
+takes_memory keeps (Ok x) = keeps x
+takes_memory keeps (Err fault) = is_late fault
+
+-- a reader tells want of memory only where it takes memory
+abbrev pub IsAmple : {A : Type 0} → (A → Bool) → Result A Fault → Result A Fault → Type 0
+IsAmple keeps wanted result = IfErr result (λ e. e ≡ NoMemory → IsTrue (takes_memory keeps wanted))
+
+-- whether a command keeps names, values or bytes
+abbrev pub keeps : Command → Bool
+keeps (command.Do r update) = true
+keeps (command.Ask r object) = true
+keeps (command.Beat r) = false
+keeps (command.Give r k s) = false
+keeps (command.Resend r k) = false
+keeps (command.Raw r bytes) = true
+keeps command.Settle = false
+keeps (command.Log r) = false
+keeps (command.Size r) = false
+keeps (command.Stable r) = false
+keeps (command.Seen r) = false
+
+-- whether memory may run out at a line: at a command that keeps something, and at one whose fault is 5 or more
+abbrev pub line_takes_memory : Line → Bool
+line_takes_memory line.Skip = false
+line_takes_memory (line.Run command) = keeps command
+line_takes_memory (line.Bad code) = nat_le 5 code
+line_takes_memory line.NoMemory = true
+
+-- whether a live command keeps names or values
+abbrev pub live_keeps : LiveCommand → Bool
+live_keeps (live.Client c r) = false
+live_keeps (live.Do c update) = true
+live_keeps (live.Ask c object) = true
+
+-- whether memory may run out at a live line
+abbrev pub live_line_takes_memory : LiveLine → Bool
+live_line_takes_memory live_line.Skip = false
+live_line_takes_memory (live_line.Run command) = live_keeps command
+live_line_takes_memory (live_line.Bad code) = nat_le 5 code
+live_line_takes_memory live_line.NoMemory = true

@@ -1,0 +1,42 @@
+-- What holds of each command that is read.
+use Rattle.std.specs.Prelude.{ℕ, ◌<◌}
+use Rattle.script_lang.specs.declared.command.Command.{Command}
+use Rattle.script_lang.specs.declared.command.Command.TheVariants as command
+use Rattle.script_lang.specs.declared.command.Line.{Line}
+use Rattle.script_lang.specs.declared.command.Line.TheVariants as line
+use Rattle.script_lang.specs.declared.live.LiveCommand.{LiveCommand}
+use Rattle.script_lang.specs.declared.live.LiveCommand.TheVariants as live
+use Rattle.script_lang.specs.declared.live.LiveLine.{LiveLine}
+use Rattle.script_lang.specs.declared.live.LiveLine.TheVariants as live_line
+
+-- each member that a command names is below n
+abbrev pub IsWithin : ℕ → Command → Type 0
+IsWithin n (command.Do r update) = r < n
+IsWithin n (command.Ask r object) = r < n
+IsWithin n (command.Beat r) = r < n
+IsWithin n (command.Give r k s) = (r < n) × (k < n)
+IsWithin n (command.Resend r k) = (r < n) × (k < n)
+IsWithin n (command.Raw r bytes) = r < n
+IsWithin n command.Settle = Unit {0}
+IsWithin n (command.Log r) = r < n
+IsWithin n (command.Size r) = r < n
+IsWithin n (command.Stable r) = r < n
+IsWithin n (command.Seen r) = r < n
+
+abbrev pub LineIsWithin : ℕ → Line → Type 0
+LineIsWithin n line.Skip = Unit {0}
+LineIsWithin n (line.Run command) = IsWithin n command
+LineIsWithin n (line.Bad code) = Unit {0}
+LineIsWithin n line.NoMemory = Unit {0}
+
+-- each client that a command names is below clients, each member below n
+abbrev pub IsLiveWithin : ℕ → ℕ → LiveCommand → Type 0
+IsLiveWithin n clients (live.Client c r) = (c < clients) × (r < n)
+IsLiveWithin n clients (live.Do c update) = c < clients
+IsLiveWithin n clients (live.Ask c object) = c < clients
+
+abbrev pub LiveLineIsWithin : ℕ → ℕ → LiveLine → Type 0
+LiveLineIsWithin n clients live_line.Skip = Unit {0}
+LiveLineIsWithin n clients (live_line.Run command) = IsLiveWithin n clients command
+LiveLineIsWithin n clients (live_line.Bad code) = Unit {0}
+LiveLineIsWithin n clients live_line.NoMemory = Unit {0}

@@ -1,0 +1,314 @@
+//! The commands of a script.
+
+ghost use Rattle.std.specs.Prelude.{◌≡◌, ◌<◌, IfOk, IsTrue, map, option_copied};
+ghost use Rattle.script_lang.specs.Commands.{do_command, do_words, ask_command, ask_words, give_command, give_words, resend_command, resend_words, raw_command, raw_words, settle_words, lone_member, verb_of, verb_words, command_words, command_of, line_of, bad_line, IsLineOrNoMemory};
+ghost use Rattle.script_lang.specs.Memory.{Reads, IsAmple, keeps, line_takes_memory};
+ghost use Rattle.script_lang.specs.Ranges.{IsWithin, LineIsWithin};
+
+use crate::act::read_update;
+use crate::fault::{Fault, MOST_LINE_BYTES};
+use crate::name::{read_amount, read_hex, read_member, read_object};
+use crate::word::{is_passed_over, split};
+use op_base::{ByteList, ObjectId, Update};
+use std::alloc::Global;
+
+/// What a command line asks for. Each member that it names is below how many there are.
+#[derive(Debug, PartialEq, Eq, Drop)]
+pub enum Command {
+    /// Member `r` sends an update.
+    Do { r: u8, update: Update },
+    /// Member `r` answers what an object is.
+    Ask { r: u8, object: ObjectId },
+    /// Member `r` sends a no-op where one is due.
+    Beat { r: u8 },
+    /// Member `r` receives message `s` of member `k`.
+    Give { r: u8, k: u8, s: u32 },
+    /// Member `r` receives what member `k` has in its outbox.
+    Resend { r: u8, k: u8 },
+    /// Member `r` receives the bytes of a frame.
+    Raw { r: u8, bytes: ByteList },
+    /// All members exchange what they have until nothing moves.
+    Settle,
+    /// The ids of member `r`'s log.
+    Log { r: u8 },
+    /// How many entries and items member `r` holds.
+    Size { r: u8 },
+    /// Member `r`'s stable vector.
+    Stable { r: u8 },
+    /// Member `r`'s counts.
+    Seen { r: u8 },
+}
+
+/// What a line of a script is.
+#[derive(Debug, PartialEq, Eq, Drop)]
+pub enum Line {
+    /// It has no word, or its first begins with `#`.
+    Skip,
+    /// It is a command.
+    Run(Command),
+    /// It is no command, with the number of its fault, 1 to 8.
+    Bad(u8),
+    /// There is no memory for what it keeps.
+    NoMemory,
+}
+
+/// The first word of a command.
+#[derive(Clone, Copy, Debug, PartialEq, Eq)]
+enum Verb {
+    Do,
+    Ask,
+    Beat,
+    Give,
+    Resend,
+    Raw,
+    Settle,
+    Log,
+    Size,
+    Stable,
+    Seen,
+}
+
+/// What a line of a script is, in a store of `n` members. The line is without its newline and one carriage return at
+/// its end.
+pub fn read_line(alloc: Global, line: &[u8], n: u8) -> Line
+    ensures line { IsLineOrNoMemory (line_of n line.now) result }
+    ensures within { LineIsWithin n result }
+    ensures ample { result ≡ Line.NoMemory → IsTrue (line_takes_memory (line_of n line.now)) }
+{
+    if is_passed_over(line) {
+        return Line::Skip;
+    }
+    match read_command(alloc, line, n) {
+        Ok(command) => Line::Run(command),
+        Err(fault) => bad_line(fault.number()),
+    }
+}
+
+/// The line of a fault's number.
+fn bad_line(number: Option<u8>) -> Line
+    ensures { result ≡ bad_line number }
+{
+    match number {
+        Some(code) => Line::Bad(code),
+        None => Line::NoMemory,
+    }
+}
+
+/// The command that a line is.
+fn read_command(alloc: Global, line: &[u8], n: u8) -> Result<Command, Fault>
+    ensures command { Reads (command_of n line.now) result }
+    ensures ample { IsAmple keeps (command_of n line.now) result }
+    ensures within { IfOk result (IsWithin n) }
+{
+    if line.len() > MOST_LINE_BYTES {
+        return Err(Fault::TooLong);
+    }
+    read_words(alloc, split(line).as_slice(), n)
+}
+
+/// The verb whose word this is.
+fn read_verb(word: &[u8]) -> Option<Verb>
+    ensures { result ≡ verb_of word.now }
+{
+    match word {
+        b"do" => Some(Verb::Do),
+        b"ask" => Some(Verb::Ask),
+        b"beat" => Some(Verb::Beat),
+        b"give" => Some(Verb::Give),
+        b"resend" => Some(Verb::Resend),
+        b"raw" => Some(Verb::Raw),
+        b"settle" => Some(Verb::Settle),
+        b"log" => Some(Verb::Log),
+        b"size" => Some(Verb::Size),
+        b"stable" => Some(Verb::Stable),
+        b"seen" => Some(Verb::Seen),
+        _ => None,
+    }
+}
+
+/// The command that words are.
+fn read_words(alloc: Global, words: &[&[u8]], n: u8) -> Result<Command, Fault>
+    ensures command { Reads (command_words n (map (λ word. word.now) words.now)) result }
+    ensures ample { IsAmple keeps (command_words n (map (λ word. word.now) words.now)) result }
+    ensures within { IfOk result (IsWithin n) }
+{
+    let [verb, words @ ..] = words else {
+        return Err(Fault::Verb);
+    };
+    match read_verb(verb) {
+        Some(verb) => read_arguments(alloc, verb, words, n),
+        None => Err(Fault::Verb),
+    }
+}
+
+/// The command of a verb and the words behind it.
+fn read_arguments(alloc: Global, verb: Verb, words: &[&[u8]], n: u8) -> Result<Command, Fault>
+    ensures command { Reads (verb_words n verb (map (λ word. word.now) words.now)) result }
+    ensures ample { IsAmple keeps (verb_words n verb (map (λ word. word.now) words.now)) result }
+    ensures within { IfOk result (IsWithin n) }
+{
+    match verb {
+        Verb::Do => read_do(alloc, n, words),
+        Verb::Ask => read_ask(alloc, n, words),
+        Verb::Beat => Ok(Command::Beat {
+            r: read_lone_member(n, words)?,
+        }),
+        Verb::Give => read_give(n, words),
+        Verb::Resend => read_resend(n, words),
+        Verb::Raw => read_raw(alloc, n, words),
+        Verb::Settle => read_settle(words),
+        Verb::Log => Ok(Command::Log {
+            r: read_lone_member(n, words)?,
+        }),
+        Verb::Size => Ok(Command::Size {
+            r: read_lone_member(n, words)?,
+        }),
+        Verb::Stable => Ok(Command::Stable {
+            r: read_lone_member(n, words)?,
+        }),
+        Verb::Seen => Ok(Command::Seen {
+            r: read_lone_member(n, words)?,
+        }),
+    }
+}
+
+/// The words behind `do`.
+fn read_do(alloc: Global, n: u8, words: &[&[u8]]) -> Result<Command, Fault>
+    ensures command { Reads (do_words n (map (λ word. word.now) words.now)) result }
+    ensures ample { IsAmple keeps (do_words n (map (λ word. word.now) words.now)) result }
+    ensures within { IfOk result (IsWithin n) }
+{
+    match words {
+        [r, object, operation] => do_command(alloc, n, r, object, operation, None),
+        [r, object, operation, argument] => {
+            do_command(alloc, n, r, object, operation, Some(argument))
+        }
+        _ => Err(Fault::Words),
+    }
+}
+
+fn do_command(
+    alloc: Global,
+    n: u8,
+    r: &[u8],
+    object: &[u8],
+    operation: &[u8],
+    argument: Option<&[u8]>,
+) -> Result<Command, Fault>
+    ensures command { Reads (do_command n r.now object.now operation.now (option_copied argument.entry)) result }
+    ensures ample { IsAmple keeps (do_command n r.now object.now operation.now (option_copied argument.entry)) result }
+    ensures within { IfOk result (IsWithin n) }
+{
+    let r = read_member(n, r)?;
+    let update = read_update(alloc, object, operation, argument)?;
+    Ok(Command::Do { r, update })
+}
+
+/// The words behind `ask`.
+fn read_ask(alloc: Global, n: u8, words: &[&[u8]]) -> Result<Command, Fault>
+    ensures command { Reads (ask_words n (map (λ word. word.now) words.now)) result }
+    ensures ample { IsAmple keeps (ask_words n (map (λ word. word.now) words.now)) result }
+    ensures within { IfOk result (IsWithin n) }
+{
+    match words {
+        [r, object] => ask_command(alloc, n, r, object),
+        _ => Err(Fault::Words),
+    }
+}
+
+fn ask_command(alloc: Global, n: u8, r: &[u8], object: &[u8]) -> Result<Command, Fault>
+    ensures command { Reads (ask_command n r.now object.now) result }
+    ensures ample { IsAmple keeps (ask_command n r.now object.now) result }
+    ensures within { IfOk result (IsWithin n) }
+{
+    let r = read_member(n, r)?;
+    let object = read_object(alloc, object)?;
+    Ok(Command::Ask { r, object })
+}
+
+/// The words behind `give`.
+fn read_give(n: u8, words: &[&[u8]]) -> Result<Command, Fault>
+    ensures command { result ≡ give_words n (map (λ word. word.now) words.now) }
+    ensures within { IfOk result (IsWithin n) }
+{
+    match words {
+        [r, k, s] => give_command(n, r, k, s),
+        _ => Err(Fault::Words),
+    }
+}
+
+fn give_command(n: u8, r: &[u8], k: &[u8], s: &[u8]) -> Result<Command, Fault>
+    ensures command { result ≡ give_command n r.now k.now s.now }
+    ensures within { IfOk result (IsWithin n) }
+{
+    Ok(Command::Give {
+        r: read_member(n, r)?,
+        k: read_member(n, k)?,
+        s: read_amount(s)?,
+    })
+}
+
+/// The words behind `resend`.
+fn read_resend(n: u8, words: &[&[u8]]) -> Result<Command, Fault>
+    ensures command { result ≡ resend_words n (map (λ word. word.now) words.now) }
+    ensures within { IfOk result (IsWithin n) }
+{
+    match words {
+        [r, k] => resend_command(n, r, k),
+        _ => Err(Fault::Words),
+    }
+}
+
+fn resend_command(n: u8, r: &[u8], k: &[u8]) -> Result<Command, Fault>
+    ensures command { result ≡ resend_command n r.now k.now }
+    ensures within { IfOk result (IsWithin n) }
+{
+    Ok(Command::Resend {
+        r: read_member(n, r)?,
+        k: read_member(n, k)?,
+    })
+}
+
+/// The words behind `raw`.
+fn read_raw(alloc: Global, n: u8, words: &[&[u8]]) -> Result<Command, Fault>
+    ensures command { Reads (raw_words n (map (λ word. word.now) words.now)) result }
+    ensures ample { IsAmple keeps (raw_words n (map (λ word. word.now) words.now)) result }
+    ensures within { IfOk result (IsWithin n) }
+{
+    match words {
+        [r, hex] => raw_command(alloc, n, r, hex),
+        _ => Err(Fault::Words),
+    }
+}
+
+fn raw_command(alloc: Global, n: u8, r: &[u8], hex: &[u8]) -> Result<Command, Fault>
+    ensures command { Reads (raw_command n r.now hex.now) result }
+    ensures ample { IsAmple keeps (raw_command n r.now hex.now) result }
+    ensures within { IfOk result (IsWithin n) }
+{
+    let r = read_member(n, r)?;
+    let bytes = read_hex(alloc, hex)?;
+    Ok(Command::Raw { r, bytes })
+}
+
+/// The words behind `settle`.
+fn read_settle(words: &[&[u8]]) -> Result<Command, Fault>
+    ensures { result ≡ settle_words (map (λ word. word.now) words.now) }
+{
+    if words.is_empty() {
+        Ok(Command::Settle)
+    } else {
+        Err(Fault::Words)
+    }
+}
+
+/// The member that words are, where they are one word.
+fn read_lone_member(n: u8, words: &[&[u8]]) -> Result<u8, Fault>
+    ensures member { result ≡ lone_member n (map (λ word. word.now) words.now) }
+    ensures within { IfOk result (λ r. r < n) }
+{
+    match words {
+        [r] => read_member(n, r),
+        _ => Err(Fault::Words),
+    }
+}
