@@ -1,0 +1,92 @@
+-- What holds of plain worlds. Each statement is the contract of a function of laws.rt.
+use Rattle.std.specs.Prelude.{◌≡◌, ◌↔◌, ℕ, ◌+◌, ◌<◌, ◌≤◌, ◌==◌, ◌-◌, List, length, slice_get, None, true, false, IsTrue, All, if◌then◌else◌}
+use Rattle.op_base.specs.Message.{fits}
+use Rattle.op_base.specs.Valid.{is_valid_update}
+use Rattle.op_base.specs.declared.message.Message.{Message}
+use Rattle.op_base.specs.declared.name.ObjectId.{ObjectId}
+use Rattle.op_base.specs.declared.operation.Update.{Update}
+use Rattle.causal_model.specs.Counts.{is_carried, count_of}
+use Rattle.causal_model.specs.Laws.Events.{SameEvents}
+use Rattle.world_model.specs.World.{PlainWorld, size_of, opening, replica_of, sent_by, sending_at, world_sending, beating_at, world_beating, world_offered, sent_message, world_given}
+use Rattle.world_model.specs.Offering.{world_resent}
+use Rattle.world_model.specs.Raw.{world_rawed}
+use Rattle.world_model.specs.Settling.{round_of, rounds_within, most_rounds, world_settled, is_settled}
+use Rattle.world_model.specs.Showing.{answer_at, seen_at}
+use Rattle.world_model.specs.Worlds.{IsWorld, KeepsWorld}
+
+-- ---- worlds
+
+-- the world before anything was sent is one, of so many members
+abbrev pub OpeningIsWorld : Type 0
+OpeningIsWorld = (n w limit : ℕ) → 1 ≤ n → n ≤ 16 → 1 ≤ w → limit ≤ 1000000 → IsWorld (opening n w limit)
+
+abbrev pub OpeningHasSize : Type 0
+OpeningHasSize = (n w limit : ℕ) → size_of (opening n w limit) ≡ n
+
+-- ---- what was sent
+
+-- what a member sent are its own messages, one after the other; each fits the store and can be carried there
+abbrev pub SentAreOwn : Type 0
+SentAreOwn = (world : PlainWorld) (k : ℕ) → IsWorld world → k < size_of world
+    → (length (sent_by world k) ≡ count_of (replica_of world k).history.present.messages k)
+    × All (λ m. (m.origin ≡ k) × IsTrue (fits (size_of world) m) × IsTrue (is_carried world.limit m)) (sent_by world k)
+
+-- they are numbered from 1, so the sent message with a number is the one at its place
+abbrev pub SentIsNumbered : Type 0
+SentIsNumbered = (world : PlainWorld) (k seq : ℕ) → IsWorld world → k < size_of world
+    → sent_message world k seq ≡ (if seq == 0 then None else slice_get (sent_by world k) (seq - 1))
+
+-- ---- commands
+
+-- sending a valid update keeps a world
+abbrev pub SendingKeepsWorld : Type 0
+SendingKeepsWorld = (world : PlainWorld) (r : ℕ) (update : Update) → IsWorld world → r < size_of world → IsTrue (is_valid_update update)
+    → KeepsWorld world (world_sending world r (sending_at world r update))
+
+-- so does a beat
+abbrev pub BeatingKeepsWorld : Type 0
+BeatingKeepsWorld = (world : PlainWorld) (r : ℕ) → IsWorld world → r < size_of world → KeepsWorld world (world_beating world r (beating_at world r))
+
+-- so does offering a message that fits the store and can be carried there
+abbrev pub OfferingKeepsWorld : Type 0
+OfferingKeepsWorld = (world : PlainWorld) (r : ℕ) (m : Message) → IsWorld world → r < size_of world → IsTrue (fits (size_of world) m) → IsTrue (is_carried world.limit m)
+    → KeepsWorld world (world_offered world r m)
+
+-- so does giving a message, whether or not it was sent
+abbrev pub GivingKeepsWorld : Type 0
+GivingKeepsWorld = (world : PlainWorld) (r k seq : ℕ) → IsWorld world → r < size_of world → KeepsWorld world (world_given world r k seq)
+
+-- so does offering an outbox
+abbrev pub ResendingKeepsWorld : Type 0
+ResendingKeepsWorld = (world : PlainWorld) (r k : ℕ) → IsWorld world → r < size_of world → KeepsWorld world (world_resent world r k)
+
+-- so does offering bytes, whatever they are
+abbrev pub RawingKeepsWorld : Type 0
+RawingKeepsWorld = (world : PlainWorld) (r : ℕ) (bytes : List ℕ) → IsWorld world → r < size_of world → All (λ b. b < 256) bytes
+    → KeepsWorld world (world_rawed world r bytes)
+
+-- so does settling
+abbrev pub SettlingKeepsWorld : Type 0
+SettlingKeepsWorld = (world : PlainWorld) → IsWorld world → KeepsWorld world (world_settled world)
+
+-- ---- settling
+
+-- settling ends: its last round begins in a world of the store, and moves nothing
+abbrev pub SettlingEnds : Type 0
+SettlingEnds = (world : PlainWorld) → IsWorld world
+    → (before : PlainWorld) × KeepsWorld world before × ((round_of before).moved ≡ false) × ((round_of before).world ≡ world_settled world)
+
+-- more rounds are not made, however many may be
+abbrev pub MoreRoundsAreNone : Type 0
+MoreRoundsAreNone = (world : PlainWorld) (more : ℕ) → IsWorld world → rounds_within (most_rounds world + more) world ≡ world_settled world
+
+-- a world is settled exactly where all replicas show equal counts
+abbrev pub SettledIsEqualCounts : Type 0
+SettledIsEqualCounts = (world : PlainWorld) → (is_settled world ≡ true) ↔ ((r : ℕ) → r < size_of world → seen_at world r ≡ seen_at world 0)
+
+-- ---- answers
+
+-- two replicas, of one world or of two with one window, that have the same events answer every object alike
+abbrev pub SameEventsAnswerAlike : Type 0
+SameEventsAnswerAlike = (world other : PlainWorld) (r q : ℕ) (object : ObjectId) → IsWorld world → IsWorld other → world.w ≡ other.w → r < size_of world → q < size_of other
+    → SameEvents (replica_of world r).history (replica_of other q).history → answer_at world r object ≡ answer_at other q object

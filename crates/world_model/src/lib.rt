@@ -1,0 +1,16 @@
+//! The plain world: what a store is whose replicas keep every message that they deliver. Definitions alone, and their laws.
+//!
+//! Each command's effect and reply is a function of a plain world. The rules of a replica are those of `causal_model`; the
+//! commands, and settling by rounds, are this project's own profile.
+#![tactic(auto)]
+
+mod laws;
+mod worked;
+
+pub use laws::{
+    an_opening_is_a_world, commands_keep_worlds, replicas_show_what_they_have,
+    sent_messages_are_numbered, settling_ends,
+};
+pub use worked::{
+    a_remove_waits_for_its_add, an_add_is_given_and_asked_for, an_add_settles, bytes_are_offered,
+};
