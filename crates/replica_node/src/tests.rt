@@ -1,0 +1,157 @@
+//! What no clause says: that calls answer and note where there is memory, and that a node asks for room before its first
+//! change. A node and a replica have the fields that are named here and no others.
+
+ghost use Rattle.std.specs.Prelude.{◌≡◌, ◌-◌, length, vec_capacity, IfOk, IsTrue};
+ghost use Rattle.op_base.specs.Message.{fits};
+ghost use Rattle.causal_model.specs.Counts.{is_carried};
+
+use crate::{Journal, Node, Recorder};
+use causal_model::Note;
+use op_base::{Act, Answer, Message, NoMemory, ObjectId, Op, Tag, Update, operations_are_valid};
+use replica_core::{Beat, Local, Receive, Replica};
+use std::alloc::Global;
+use std::test::Fail;
+
+/// A journal that refuses to take room once.
+#[derive(Drop)]
+struct Refusing {
+    notes: Vec<Note>,
+    /// How many calls asked for room.
+    asked: u32,
+    /// Which of them is refused, from 1.
+    refused: u32,
+}
+
+impl Recorder for Refusing {
+    ghost notes = { λ r. r.notes.items };
+
+    ghost spare = { λ r. vec_capacity r.notes - length r.notes.items };
+
+    fn reserve(&mut self, _alloc: Global, count: usize) -> Result<(), NoMemory> {
+        self.asked = self.asked.saturating_add(1);
+        if self.asked == self.refused {
+            return Err(NoMemory);
+        }
+        self.notes.reserve(count)?;
+        Ok(())
+    }
+
+    fn note(&mut self, note: Note) {
+        self.notes.push_reserved(note);
+    }
+}
+
+/// Member 0 of two, whose journal refuses room at a call.
+fn node_refusing(alloc: Global, refused: u32) -> Result<Node<Refusing>, Fail>
+    ensures n { IfOk result (λ node. node.inner.n ≡ 2) }
+    ensures limit { IfOk result (λ node. node.inner.limit ≡ 10) }
+{
+    let recorder = Refusing {
+        notes: Vec::new(alloc),
+        asked: 0,
+        refused,
+    };
+    Ok(Node::create(alloc, 0, 2, 4, 10, recorder)?)
+}
+
+/// The counter of every test.
+fn counter(alloc: Global) -> Result<ObjectId, Fail> {
+    Ok(ObjectId::read(alloc, b"counter:a")?)
+}
+
+/// Adds 5 to it.
+fn update(alloc: Global) -> Result<Update, Fail> {
+    Ok(
+        Update::new(counter(alloc)?, Act::Inc(5))
+            .ok()
+            .ok_or("a counter has no such act")?,
+    )
+}
+
+/// The first message of member 1 of two.
+fn message(alloc: Global) -> Result<Message, Fail>
+    ensures fits { IfOk result (λ m. IsTrue (fits 2 m)) }
+    ensures carried { IfOk result (λ m. IsTrue (is_carried 10 m)) }
+{
+    let mut tag = Tag::zero(2);
+    tag.set(1, 1);
+    let op = Op::Update(update(alloc)?);
+    operations_are_valid(&op);
+    Ok(Message { origin: 1, tag, op })
+}
+
+#[test]
+fn calls_answer_and_note(rt: HostRuntime) -> Result<(), Fail> {
+    let alloc = rt.alloc();
+    let mut node = Node::create(alloc, 0, 2, 4, 10, Journal::new(alloc))?;
+    assert!(rt; matches!(node.local(alloc, &update(alloc)?), Local::Sent(_)));
+    assert_eq!(rt; node.beat(alloc), Beat::Quiet);
+    assert!(rt; matches!(node.receive(alloc, message(alloc)?), Receive::Took(_)));
+    assert_eq!(rt; node.receive(alloc, message(alloc)?), Receive::Old);
+    assert!(rt; matches!(node.beat(alloc), Beat::Sent(_)));
+    assert_eq!(rt; node.answer(alloc, &counter(alloc)?)?, Answer::Sum(10));
+    assert_eq!(rt;
+        (node.places(), node.first(), node.replica().n),
+        (4, (0, 2), 2)
+    );
+    let (_, journal) = node.finish();
+    // the message that was sent, the one that came, its step, and the no-op
+    assert!(rt;
+        matches!(
+            journal.notes(),
+            [Note::Sent(_), Note::Kept(_), Note::Took(_), Note::Sent(_)]
+        )
+    );
+    Ok(())
+}
+
+#[test]
+fn want_of_room_changes_nothing(rt: HostRuntime) -> Result<(), Fail> {
+    let alloc = rt.alloc();
+    let mut sends = node_refusing(alloc, 1)?;
+    assert_eq!(rt; sends.local(alloc, &update(alloc)?), Local::NoMemory);
+    let mut receives = node_refusing(alloc, 1)?;
+    assert_eq!(rt; receives.receive(alloc, message(alloc)?), Receive::NoMemory);
+    for node in [sends, receives] {
+        assert_eq!(rt; node.answer(alloc, &counter(alloc)?)?, Answer::Sum(0));
+        assert!(rt; node.finish().1.notes.is_empty());
+    }
+    let mut beats = node_refusing(alloc, 2)?;
+    assert!(rt; matches!(beats.receive(alloc, message(alloc)?), Receive::Took(_)));
+    assert_eq!(rt; beats.beat(alloc), Beat::NoMemory);
+    assert_eq!(rt; beats.places(), 2);
+    // it is still due, and is sent at the next call
+    assert!(rt; matches!(beats.beat(alloc), Beat::Sent(_)));
+    Ok(())
+}
+
+#[test]
+fn the_fields_are_these_alone(rt: HostRuntime) -> Result<(), Fail> {
+    let alloc = rt.alloc();
+    let node = Node::create(alloc, 1, 2, 4, 10, Journal::new(alloc))?;
+    let Node {
+        inner,
+        journal,
+        length,
+        first,
+    } = node;
+    let Replica {
+        me,
+        n,
+        w,
+        limit,
+        epoch,
+        counts,
+        matrix: _,
+        window: _,
+        buffer: _,
+        log: _,
+        items: _,
+        outbox: _,
+        due,
+    } = inner;
+    assert_eq!(rt; (length, first, journal.notes().len()), (0, (1, 2), 0));
+    assert_eq!(rt; (me, n, w, limit, epoch), (1, 2, 4, 10, 0));
+    assert_eq!(rt; (counts, due), (Tag::zero(2), false));
+    Ok(())
+}
