@@ -1,0 +1,82 @@
+-- What a world shows when one of its nodes has changed, and the frames that its member sent.
+use Rattle.std.proofs.Common.{◌≡◌, ℕ, ◌<◌, List, [], ◌∷◌, ◌++◌, length, map, slice_index_or, slice_set, sym, ap, subst, refl, ◌∙◌, arith}
+use Rattle.std.proofs.lemmas.List.{length-map, get_or-map, map-set, length-set, set-get_or, append-nil, map-append}
+use Rattle.std.proofs.lemmas.List.Elements.{All-set}
+use Rattle.std.proofs.Math.Seq.{map-set_same}
+use Rattle.op_base.specs.declared.message.Message.{Message}
+use Rattle.causal_model.specs.Journal.{with_own}
+use Rattle.causal_model.specs.Receiving.{State}
+use Rattle.frame_codec.specs.Grammar.{frame_of}
+use Rattle.frame_codec.specs.declared.version.Version.TheVariants.{Two}
+use Rattle.world_model.specs.World.{PlainWorld, size_of, replica_of, sent_by, with_state, with_sent}
+use Rattle.world_model.specs.Worlds.{IsWorld}
+use Rattle.world.specs.Shows.{NotedNode, state_of, Shows}
+use Rattle.world.specs.Steps.{SameNode}
+use Rattle.world.proofs.Nodes.{StandsAt, size_shown, within, state_shown, w_shown, limit_shown, n_shown}
+
+-- a row with more frames behind it, seen by its frames
+pub rows_with : {X : Type 0} (items : X → List (List ℕ)) (rows : List X) (r : ℕ) (row new : X) (more : List (List ℕ)) → r < length rows → row ≡ slice_index_or rows r row → items new ≡ items row ++ more
+    → map items (slice_set rows r new) ≡ slice_set (map items rows) r (slice_index_or (map items rows) r [] ++ more)
+rows_with items rows r row new more low at is =
+    let e : items row ≡ slice_index_or (map items rows) r [] = ap items at ∙ sym (get_or-map items rows r row [] low) in
+    map-set items rows r new ∙ ap (slice_set (map items rows) r) (is ∙ ap (λ x. x ++ more) e)
+
+-- each member has a row
+pub rows_within : {X : Type 0} (items : X → List (List ℕ)) (nodes : List NotedNode) (rows : List X) (plain : PlainWorld) → Shows nodes (map items rows) plain → (r : ℕ) → r < length nodes → r < length rows
+rows_within items nodes rows plain shows r low =
+    let counted : length rows ≡ length plain.sent = sym (length-map rows items) ∙ ap length shows.frames ∙ length-map plain.sent (map (frame_of Two (size_of plain) 0)) in
+    omega (arith, counted, shows.is_world.of_each, size_shown nodes (map items rows) plain shows)
+
+-- with none behind it
+pub rows_alone : (rows : List (List (List ℕ))) (r : ℕ) → slice_set rows r (slice_index_or rows r [] ++ []) ≡ rows
+rows_alone rows r = ap (slice_set rows r) (append-nil (slice_index_or rows r [])) ∙ set-get_or rows r []
+
+module _ (nodes : List NotedNode) (rows : List (List (List ℕ))) (plain : PlainWorld) (shows : Shows nodes rows plain) (r : ℕ) (node : NotedNode) (stands : StandsAt nodes r node) (left : NotedNode) (same : SameNode node left) where
+  windows_stay : left.inner.w ≡ plain.w
+  windows_stay = same.w ∙ w_shown nodes rows plain shows r node stands
+
+  limits_stay : left.inner.limit ≡ plain.limit
+  limits_stay = same.limit ∙ limit_shown nodes rows plain shows r node stands
+
+  -- a node comes to another state
+  pub changed_shows : (after : State) → state_of left ≡ after → IsWorld (with_state plain r after) → Shows (slice_set nodes r left) rows (with_state plain r after)
+  changed_shows after is world = record {
+    is_world = world;
+    states = map-set state_of nodes r left ∙ ap (λ l. slice_set l r (state_of left)) shows.states ∙ ap (slice_set plain.replicas r) is;
+    windows = All-set (λ x. x.inner.w ≡ plain.w) nodes r left windows_stay shows.windows;
+    limits = All-set (λ x. x.inner.limit ≡ plain.limit) nodes r left limits_stay shows.limits;
+    frames = shows.frames ∙ ap (λ n. map (map (frame_of Two n 0)) plain.sent) (sym (length-set plain.replicas r after));
+  }
+
+  -- a node stays in its state
+  pub same_shows : state_of left ≡ state_of node → Shows (slice_set nodes r left) rows plain
+  same_shows is = record {
+    is_world = shows.is_world;
+    states = map-set_same state_of nodes r left node (is ∙ ap state_of stands.at) ∙ shows.states;
+    windows = All-set (λ x. x.inner.w ≡ plain.w) nodes r left windows_stay shows.windows;
+    limits = All-set (λ x. x.inner.limit ≡ plain.limit) nodes r left limits_stay shows.limits;
+    frames = shows.frames;
+  }
+
+  -- a node sends a message, whose frame stands behind the others
+  pub sent_shows : (m : Message) → state_of left ≡ with_own (state_of node) m → IsWorld (with_sent plain r m)
+      → Shows (slice_set nodes r left) (slice_set rows r (slice_index_or rows r [] ++ frame_of Two node.inner.n 0 m ∷ [])) (with_sent plain r m)
+  sent_shows m is world =
+      let after = with_own (replica_of plain r) m in
+      let frame : ℕ → Message → List ℕ = λ n. frame_of Two n 0 in
+      let n = size_of plain in
+      let low : r < length plain.sent = omega (arith, shows.is_world.of_each, within nodes rows plain shows r node stands) in
+      let row : slice_index_or rows r [] ≡ map (frame n) (sent_by plain r) = ap (λ l. slice_index_or l r []) shows.frames ∙ get_or-map (map (frame n)) plain.sent r [] [] low in
+      let more : slice_index_or rows r [] ++ frame node.inner.n m ∷ [] ≡ map (frame n) (sent_by plain r ++ m ∷ []) =
+      ap (λ x. x ++ frame node.inner.n m ∷ []) row ∙ ap (λ k. map (frame n) (sent_by plain r) ++ frame k m ∷ []) (n_shown nodes rows plain shows r node stands) ∙ sym (map-append (frame n) (sent_by plain r) (m ∷ [])) in
+      record {
+        is_world = world;
+        states = map-set state_of nodes r left ∙ ap (λ l. slice_set l r (state_of left)) shows.states
+            ∙ ap (slice_set plain.replicas r) (is ∙ ap (λ s. with_own s m) (sym (state_shown nodes rows plain shows r node stands)));
+        windows = All-set (λ x. x.inner.w ≡ plain.w) nodes r left windows_stay shows.windows;
+        limits = All-set (λ x. x.inner.limit ≡ plain.limit) nodes r left limits_stay shows.limits;
+        frames = ap (λ l. slice_set l r (slice_index_or rows r [] ++ frame node.inner.n m ∷ [])) shows.frames
+            ∙ ap (slice_set (map (map (frame n)) plain.sent) r) more
+            ∙ sym (map-set (map (frame n)) plain.sent r (sent_by plain r ++ m ∷ []))
+            ∙ ap (λ k. map (map (frame k)) (slice_set plain.sent r (sent_by plain r ++ m ∷ []))) (sym (length-set plain.replicas r after));
+      }

@@ -1,0 +1,10 @@
+pub mod Nodes
+pub mod Changes
+pub mod Replies
+pub mod Sends
+pub mod Givings
+pub mod Bytes
+pub mod Openings
+pub mod Offers
+pub mod Outboxes
+pub mod Settles

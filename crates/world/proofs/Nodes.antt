@@ -1,0 +1,84 @@
+-- What a world shows of a node.
+use Rattle.std.proofs.Common.{◌≡◌, ℕ, ◌<◌, ◌^◌, ◌&&◌, nat_lt, nat_le, List, length, map, slice_index_or, sym, ap, subst, ◌∙◌, arith}
+use Rattle.std.proofs.lemmas.Bool.{and_parts, leb-true}
+use Rattle.std.proofs.lemmas.List.{length-map, get_or-map}
+use Rattle.std.proofs.lemmas.Simd.{map-map}
+use Rattle.std.proofs.lemmas.List.Elements.{All-get_or}
+use Rattle.op_base.specs.Message.{id_of}
+use Rattle.op_base.specs.declared.message.Message.{Message}
+use Rattle.op_base.specs.declared.operation.Update.{Update}
+use Rattle.causal_model.specs.CellSteps.{log_of}
+use Rattle.causal_model.specs.Covering.{store_keeps, store_covers}
+use Rattle.causal_model.specs.Log.{kept_log, message_of}
+use Rattle.causal_model.specs.Receiving.{State, start, Receiving, receiving}
+use Rattle.causal_model.specs.Sending.{Sending, sending, Beating, beating}
+use Rattle.replica_core.specs.Numbers.{is_from_to}
+use Rattle.replica_node.specs.Rules.{sending_by, beating_by, receiving_by}
+use Rattle.world_model.specs.World.{PlainWorld, size_of, replica_of, sending_at, beating_at, receiving_at}
+use Rattle.world_model.specs.Showing.{log_at}
+use Rattle.world.specs.Shows.{NotedNode, state_of, Shows}
+
+-- a node stands at a place
+pub record StandsAt (nodes : List NotedNode) (r : ℕ) (node : NotedNode) : Type 0 where
+  pub low : r < length nodes
+  pub at : node ≡ slice_index_or nodes r node
+
+-- three numbers and states that are equal are told alike
+alike : {X : Type 0} (f : State → ℕ → ℕ → X) (s t : State) (w v limit most : ℕ) → s ≡ t → w ≡ v → limit ≡ most → f s w limit ≡ f t v most
+alike f s t w v limit most es ew el = ap (λ x. f x w limit) es ∙ ap (λ x. f t x limit) ew ∙ ap (f t v) el
+
+module _ (nodes : List NotedNode) (rows : List (List (List ℕ))) (plain : PlainWorld) (shows : Shows nodes rows plain) where
+  pub size_shown : length nodes ≡ size_of plain
+  size_shown = sym (length-map nodes state_of) ∙ ap length shows.states
+
+  module _ (r : ℕ) (node : NotedNode) (stands : StandsAt nodes r node) where
+    pub within : r < size_of plain
+    within = omega (arith, stands.low, size_shown)
+
+    pub state_shown : replica_of plain r ≡ state_of node
+    state_shown = ap (λ l. slice_index_or l r (start 0 0)) (sym shows.states) ∙ get_or-map state_of nodes r node (start 0 0) stands.low ∙ ap state_of (sym stands.at)
+
+    pub w_shown : node.inner.w ≡ plain.w
+    w_shown = let P : NotedNode → Type 0 = λ x. x.inner.w ≡ plain.w in subst P (sym stands.at) (All-get_or P nodes r node stands.low shows.windows)
+
+    pub limit_shown : node.inner.limit ≡ plain.limit
+    limit_shown = let P : NotedNode → Type 0 = λ x. x.inner.limit ≡ plain.limit in subst P (sym stands.at) (All-get_or P nodes r node stands.low shows.limits)
+
+    pub n_shown : node.inner.n ≡ size_of plain
+    n_shown = sym node.stands.of_store ∙ ap (λ s. s.history.present.n) (sym state_shown) ∙ (shows.is_world.replicas r within).of_store
+
+    pub me_shown : node.inner.me ≡ r
+    me_shown = sym node.stands.of_member ∙ ap (λ s. s.history.present.me) (sym state_shown) ∙ (shows.is_world.replicas r within).of_member
+
+    -- the rules at the node's state are those at the plain replica
+    pub sending_shown : (update : Update) → sending_at plain r update ≡ sending_by node.inner.w node.inner.limit node.first node.journal.notes update
+    sending_shown update =
+        alike (λ s w limit. sending s.history.present.n w limit s.history.present.me s.history.present.messages update)
+        (replica_of plain r) (state_of node) plain.w node.inner.w plain.limit node.inner.limit state_shown (sym w_shown) (sym limit_shown)
+
+    pub beating_shown : beating_at plain r ≡ beating_by node.inner.w node.inner.limit node.first node.journal.notes
+    beating_shown =
+        alike (λ s w limit. beating s.history.present.n w limit s.history.present.me s.history.present.messages)
+        (replica_of plain r) (state_of node) plain.w node.inner.w plain.limit node.inner.limit state_shown (sym w_shown) (sym limit_shown)
+
+    pub receiving_shown : (m : Message) → receiving_at plain r m ≡ receiving_by node.inner.w node.inner.limit node.first node.journal.notes m
+    receiving_shown m =
+        alike (λ s w limit. receiving w s m)
+        (replica_of plain r) (state_of node) plain.w node.inner.w plain.limit node.inner.limit state_shown (sym w_shown) (sym limit_shown)
+
+    -- the log's ids are those of the plain replica's
+    pub log_shown : map (λ e. id_of (message_of e)) node.inner.log.entries ≡ log_at plain r
+    log_shown =
+        let h = (state_of node).history in
+        let kept : ℕ → ℕ → List Message = λ n me. kept_log store_keeps store_covers n me h.present.messages in
+        sym (map-map id_of message_of node.inner.log.entries) ∙ ap (map id_of) node.stands.log.holds
+        ∙ ap (λ n. map id_of (kept n node.inner.me)) (sym node.stands.of_store) ∙ ap (λ me. map id_of (kept h.present.n me)) (sym node.stands.of_member)
+        ∙ ap (λ s. map id_of (log_of s.history)) (sym state_shown)
+
+-- a limit is a number of 32 bits
+pub limit_is_small : (node : NotedNode) → node.inner.limit < 2 ^ 32
+limit_is_small node =
+    let r = node.inner in
+    let parts = and_parts (is_from_to 1 16 r.n && is_from_to 1 64 r.w && is_from_to 1 1000000 r.limit) (nat_lt r.me r.n) r.numbers in
+    let within = and_parts (is_from_to 1 16 r.n && is_from_to 1 64 r.w) (is_from_to 1 1000000 r.limit) parts.0 in
+    omega (arith, leb-true r.limit 1000000 (and_parts (nat_le 1 r.limit) (nat_le r.limit 1000000) within.1).1)

@@ -1,0 +1,23 @@
+use Rattle.std.proofs.Common.{rules, ◌<◌, length}
+use Rattle.std.proofs.Props.{props}
+use Rattle.std.proofs.Math.Logic.{∥∥₁_elim, ∥∥₁_map}
+use Rattle.world.proofs.Changes.{rows_within}
+use Rattle.world.proofs.Replies.{world_beat, beat_leaves}
+use Rattle.world.proofs.world.World.beat.Goals as goal
+
+pub index_mut-frames-requires : goal.index_mut-frames-requires
+index_mut-frames-requires c =
+    let low : c.args.r < length c.args.self.now.sent.items = ∥∥₁_elim c.args.self.now.shows (search props) (λ x. rows_within (λ row. row.items) c.args.self.now.nodes.items c.args.self.now.sent.items x.0 x.1 c.args.r c.requires) in
+    search rules
+
+pub invariant_of-self : goal.invariant_of-self
+invariant_of-self c = record {
+  shows = ∥∥₁_map c.args.self.now.shows (λ x. beat_leaves x.0 c.args.r _ c.send_noop.result
+      (world_beat (λ row. row.items) c.args.self.now.nodes.items c.args.self.now.sent.items x.0 x.1 c.args.r c.index_mut-node.result.now c.send_noop.new.node c.index_mut-frames.result.now c.send_noop.new.frames
+      (record { low = c.requires; at = c.index_mut-node.ensures.value }) c.send_noop.ensures.same c.index_mut-frames.ensures.value c.send_noop.result c.send_noop.ensures.frames c.send_noop.ensures.answer));
+}
+
+pub returns-clause-answer : goal.returns-clause-answer
+returns-clause-answer c plain shows =
+    world_beat (λ row. row.items) c.args.self.now.nodes.items c.args.self.now.sent.items plain shows c.args.r c.index_mut-node.result.now c.send_noop.new.node c.index_mut-frames.result.now c.send_noop.new.frames
+    (record { low = c.requires; at = c.index_mut-node.ensures.value }) c.send_noop.ensures.same c.index_mut-frames.ensures.value c.send_noop.result c.send_noop.ensures.frames c.send_noop.ensures.answer

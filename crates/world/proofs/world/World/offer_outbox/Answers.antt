@@ -1,0 +1,48 @@
+use Rattle.std.proofs.Common.{List, map, sym, ap, subst, ◌∙◌}
+use Rattle.std.specs.Vec.{with_items}
+use Rattle.std.proofs.lemmas.List.{with_items_is}
+use Rattle.std.proofs.Math.Logic.{∥∥₁_map}
+use Rattle.world_model.specs.World.{PlainWorld}
+use Rattle.world_model.specs.Offering.{Offered}
+use Rattle.world.specs.Shows.{NotedNode, Shows}
+use Rattle.world.specs.Steps.{OffersBetween, CanBeOffered}
+use Rattle.world.proofs.Outboxes.{can_be_offered, own_outbox, own_resent, outbox_comes, comes_made, comes_world, comes_some, comes_leaves}
+use Rattle.world.proofs.world.World.offer_outbox.Goals as goal
+
+pub returns-then-r-k-clause-made : goal.returns-then-r-k-clause-made
+returns-then-r-k-clause-made c plain shows =
+    let none = own_outbox plain c.args.r c.args.k c.if-r-k.true in
+    record { steps = c.new.ensures.items ∙ sym (ap (λ (o : Offered). o.steps) none); kept = sym (ap (λ (o : Offered). o.kept) none) }
+
+pub returns-then-r-k-clause-world : goal.returns-then-r-k-clause-world
+returns-then-r-k-clause-world c plain shows =
+    subst (Shows c.args.self.now.nodes.items (map (λ row. row.items) c.args.self.now.sent.items)) (sym (own_resent plain c.args.r c.args.k c.if-r-k.true)) shows
+
+pub offer_between-requires-clause-fit : goal.offer_between-requires-clause-fit
+offer_between-requires-clause-fit c =
+    ∥∥₁_map c.args.self.now.shows (λ x. subst (λ (l : List NotedNode). CanBeOffered l c.args.r c.args.k) (sym c.deref_mut.ensures.value) (can_be_offered c.args.self.now.nodes.items (map (λ row. row.items) c.args.self.now.sent.items) x.0 x.1 c.args.r c.args.k c.requires.to c.requires.of))
+
+pub invariant_of-self : goal.invariant_of-self
+invariant_of-self c = record {
+  shows = ∥∥₁_map c.args.self.now.shows (λ x. comes_leaves x.0 c.args.r c.args.k c.offer_between.result _
+      (outbox_comes c.args.self.now.nodes.items (map (λ row. row.items) c.args.self.now.sent.items) x.0 x.1 c.args.r c.args.k c.requires.to c.requires.of (with_items c.args.self.now.nodes c.offer_between.new.nodes).items c.offer_between.result (subst (λ (l : List NotedNode). OffersBetween c.args.self.now.nodes.items c.args.r c.args.k c.offer_between.result l) (sym (with_items_is c.args.self.now.nodes c.offer_between.new.nodes (c.offer_between.auto.nodes ∙ c.deref_mut.ensures.len)))
+      (subst (λ (l : List NotedNode). OffersBetween l c.args.r c.args.k c.offer_between.result c.offer_between.new.nodes) c.deref_mut.ensures.value c.offer_between.ensures.offered))));
+}
+
+pub returns-clause-made : goal.returns-clause-made
+returns-clause-made c plain shows =
+    comes_made plain c.args.r c.args.k c.offer_between.result _
+    (outbox_comes c.args.self.now.nodes.items (map (λ row. row.items) c.args.self.now.sent.items) plain shows c.args.r c.args.k c.requires.to c.requires.of (with_items c.args.self.now.nodes c.offer_between.new.nodes).items c.offer_between.result (subst (λ (l : List NotedNode). OffersBetween c.args.self.now.nodes.items c.args.r c.args.k c.offer_between.result l) (sym (with_items_is c.args.self.now.nodes c.offer_between.new.nodes (c.offer_between.auto.nodes ∙ c.deref_mut.ensures.len)))
+    (subst (λ (l : List NotedNode). OffersBetween l c.args.r c.args.k c.offer_between.result c.offer_between.new.nodes) c.deref_mut.ensures.value c.offer_between.ensures.offered)))
+
+pub returns-clause-world : goal.returns-clause-world
+returns-clause-world c plain shows =
+    comes_world plain c.args.r c.args.k c.offer_between.result _
+    (outbox_comes c.args.self.now.nodes.items (map (λ row. row.items) c.args.self.now.sent.items) plain shows c.args.r c.args.k c.requires.to c.requires.of (with_items c.args.self.now.nodes c.offer_between.new.nodes).items c.offer_between.result (subst (λ (l : List NotedNode). OffersBetween c.args.self.now.nodes.items c.args.r c.args.k c.offer_between.result l) (sym (with_items_is c.args.self.now.nodes c.offer_between.new.nodes (c.offer_between.auto.nodes ∙ c.deref_mut.ensures.len)))
+    (subst (λ (l : List NotedNode). OffersBetween l c.args.r c.args.k c.offer_between.result c.offer_between.new.nodes) c.deref_mut.ensures.value c.offer_between.ensures.offered)))
+
+pub returns-clause-some : goal.returns-clause-some
+returns-clause-some c plain shows =
+    comes_some plain c.args.r c.args.k c.offer_between.result _
+    (outbox_comes c.args.self.now.nodes.items (map (λ row. row.items) c.args.self.now.sent.items) plain shows c.args.r c.args.k c.requires.to c.requires.of (with_items c.args.self.now.nodes c.offer_between.new.nodes).items c.offer_between.result (subst (λ (l : List NotedNode). OffersBetween c.args.self.now.nodes.items c.args.r c.args.k c.offer_between.result l) (sym (with_items_is c.args.self.now.nodes c.offer_between.new.nodes (c.offer_between.auto.nodes ∙ c.deref_mut.ensures.len)))
+    (subst (λ (l : List NotedNode). OffersBetween l c.args.r c.args.k c.offer_between.result c.offer_between.new.nodes) c.deref_mut.ensures.value c.offer_between.ensures.offered)))

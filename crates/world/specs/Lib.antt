@@ -1,0 +1,5 @@
+pub mod Shows
+pub mod Midst
+pub mod Answers
+pub mod Steps
+pub mod Settles

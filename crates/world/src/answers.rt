@@ -1,0 +1,49 @@
+//! What the calls of a world answer.
+
+use frame_codec::FrameFault;
+use op_base::StepList;
+use replica_core::Receive;
+
+/// What comes of giving a message to a replica.
+#[derive(Debug, PartialEq, Eq, Drop)]
+pub enum Given {
+    /// No such message was sent.
+    Unsent,
+    /// It was offered, and this is what the replica answered.
+    Got(Receive),
+}
+
+/// What comes of offering an outbox to a replica.
+#[derive(Debug, PartialEq, Eq, Drop)]
+pub enum Resent {
+    /// All steps that were made, in order: there is one.
+    Took(StepList),
+    /// No step was made, and a message was kept.
+    Kept,
+    /// No message was accepted.
+    Nothing,
+    /// There is no memory. The first messages of the outbox were offered.
+    NoMemory,
+}
+
+/// What comes of offering bytes to a replica.
+#[derive(Debug, PartialEq, Eq, Drop)]
+pub enum RawGot {
+    /// They are no frame, for this first fault.
+    Bad(FrameFault),
+    /// They are a frame, and this is what the replica answered to its message.
+    Got(Receive),
+    /// There is no memory to read them. Nothing was offered.
+    NoMemory,
+}
+
+/// What comes of settling.
+#[derive(Clone, Copy, Debug, PartialEq, Eq)]
+pub enum Settle {
+    /// All replicas have delivered as many messages of each member.
+    Settled,
+    /// Two replicas have not.
+    Unsettled,
+    /// There is no memory. The first of the offers and beats were made.
+    NoMemory,
+}

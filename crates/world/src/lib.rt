@@ -1,0 +1,17 @@
+//! A world: the nodes of all members of a store, and the frames of all that they sent. It is the plain world, whose replicas
+//! keep every message: each call's answer and effect are those of the plain world that it shows.
+//!
+//! What calls there are, and settling by rounds, is this project's own profile.
+#![tactic(auto)]
+
+mod answers;
+mod giving;
+mod offering;
+mod sending;
+mod settling;
+#[cfg(test)]
+mod tests;
+mod world;
+
+pub use answers::{Given, RawGot, Resent, Settle};
+pub use world::{FrameTable, NodeList, World};

@@ -1,0 +1,150 @@
+//! Offering a member's outbox to a replica of the world.
+
+ghost use Rattle.std.specs.Prelude.{◌≡◌, ◌≢◌, ◌⊎◌, ◌<◌, length, IsTrue, All, IfOk, OnOk, OnErr};
+ghost use Rattle.op_base.specs.Message.{fits};
+ghost use Rattle.causal_model.specs.Counts.{is_carried};
+ghost use Rattle.world_model.specs.World.{PlainWorld};
+ghost use Rattle.world_model.specs.Offering.{offered, offered_more, offered_between, world_resent, resending_of};
+ghost use Rattle.world.specs.Shows.{state_of};
+ghost use Rattle.world.specs.Steps.{SameNode, OffersSome, OffersBetween, CanBeOffered, HasOffered, IsResent, offered_at};
+
+use crate::answers::Resent;
+use crate::world::World;
+use op_base::{Message, NoMemory, Step, StepList};
+use replica_core::Receive;
+use replica_node::{Journal, Node};
+use std::alloc::Global;
+
+/// What has come of offers: the steps, and whether a message was accepted.
+#[derive(Drop)]
+pub struct Offers {
+    pub steps: Vec<Step>,
+    pub kept: bool,
+}
+
+impl World {
+    ghost use Rattle.world.specs.Answers.{ShowsPlain, AnswersResend, IsAfterSome};
+
+    /// Offers the outbox of member `k` to replica `r`, oldest first. After `NoMemory` the first of its messages were
+    /// offered.
+    pub fn resend(&mut self, alloc: Global, r: u8, k: u8) -> Resent
+        requires to { r < length self.old.nodes.items }
+        requires of { k < length self.old.nodes.items }
+        ensures answer { (plain : PlainWorld) → ShowsPlain self.old plain → AnswersResend plain r k result (ShowsPlain self.new) }
+        ensures members { length self.new.nodes.items ≡ length self.old.nodes.items }
+    {
+        match self.offer_outbox(alloc, r, k) {
+            Err(NoMemory) => Resent::NoMemory,
+            Ok(made) => resent_of(made),
+        }
+    }
+
+    /// Offers the outbox of member `k` to replica `r`, oldest first. On `NoMemory` the first of its messages were offered.
+    pub(crate) fn offer_outbox(&mut self, alloc: Global, r: u8, k: u8) -> Result<Offers, NoMemory>
+        requires to { r < length self.old.nodes.items }
+        requires of { k < length self.old.nodes.items }
+        ensures made { (plain : PlainWorld) → ShowsPlain self.old plain → IfOk result (λ made. HasOffered (offered_between plain r k) made) }
+        ensures world { (plain : PlainWorld) → ShowsPlain self.old plain → IfOk result (λ made. ShowsPlain self.new (world_resent plain r k)) }
+        ensures some { (plain : PlainWorld) → ShowsPlain self.old plain → OnErr result (IsAfterSome plain r k (ShowsPlain self.new)) }
+        ensures members { length self.new.nodes.items ≡ length self.old.nodes.items }
+    {
+        if r == k {
+            // None of the own messages would be accepted.
+            return Ok(Offers {
+                steps: Vec::new(alloc),
+                kept: false,
+            });
+        }
+        offer_between(alloc, &mut self.nodes, r as usize, k as usize)
+    }
+}
+
+/// What comes of a resend, by what has come of its offers.
+fn resent_of(made: Offers) -> Resent
+    ensures { IsResent (resending_of made.steps.items made.kept) result }
+{
+    if !made.steps.is_empty() {
+        Resent::Took(StepList::from_vec(made.steps))
+    } else if made.kept {
+        Resent::Kept
+    } else {
+        Resent::Nothing
+    }
+}
+
+/// Offers the outbox of the node at place `k` to that at another place `r`.
+fn offer_between(
+    alloc: Global,
+    nodes: &mut [Node<Journal>],
+    r: usize,
+    k: usize,
+) -> Result<Offers, NoMemory>
+    requires to { r < length nodes.old }
+    requires of { k < length nodes.old }
+    requires apart { r ≢ k }
+    requires fit { ∥ CanBeOffered nodes.old r k ∥₁ }
+    ensures offered { OffersBetween nodes.old r k result nodes.new }
+{
+    if r < k {
+        let (low, high) = nodes.split_at_mut(k);
+        offer_messages(alloc, &mut low[r], high[0].replica().outbox.messages())
+    } else {
+        let (low, high) = nodes.split_at_mut(r);
+        offer_messages(alloc, &mut high[0], low[k].replica().outbox.messages())
+    }
+}
+
+/// Offers messages to a node, one after the other. On `NoMemory` the first of them were offered.
+fn offer_messages(
+    alloc: Global,
+    node: &mut Node<Journal>,
+    messages: &[Message],
+) -> Result<Offers, NoMemory>
+    requires fit { All (λ m. IsTrue (fits node.old.inner.n m)) messages.now }
+    requires carried { All (λ m. IsTrue (is_carried node.old.inner.limit m)) messages.now }
+    ensures made { IfOk result (λ made. offered_at node.new made ≡ offered node.old.inner.w (state_of node.old) messages.now) }
+    ensures some { OnErr result (OffersSome node.old.inner.w (state_of node.old) messages.now node.new) }
+    ensures same { SameNode node.old node.new }
+{
+    let mut made = Offers {
+        steps: Vec::new(alloc),
+        kept: false,
+    };
+    for message in messages {
+        offer_one(alloc, node, message, &mut made)?;
+    }
+    Ok(made)
+}
+
+/// Offers a message to a node. One that isn't accepted costs a look at it. On `NoMemory` it was offered, or it wasn't.
+fn offer_one(
+    alloc: Global,
+    node: &mut Node<Journal>,
+    message: &Message,
+    made: &mut Offers,
+) -> Result<(), NoMemory>
+    requires fits { IsTrue (fits node.old.inner.n message.now) }
+    requires carried { IsTrue (is_carried node.old.inner.limit message.now) }
+    ensures made { OnOk result (offered_at node.new made.new ≡ offered_more node.old.inner.w (offered_at node.old made.old) message.now) }
+    ensures some { OnErr result ((state_of node.new ≡ state_of node.old) ⊎ (state_of node.new ≡ (offered_more node.old.inner.w (offered_at node.old made.old) message.now).state)) }
+    ensures same { SameNode node.old node.new }
+{
+    if node.replica().refusal(message).is_some() {
+        return Ok(());
+    }
+    let message = message.copy(alloc)?;
+    match node.receive(alloc, message) {
+        Receive::Kept => {
+            made.kept = true;
+            Ok(())
+        }
+        Receive::Took(steps) => {
+            made.kept = true;
+            made.steps.extend_from_slice(steps.as_slice())?;
+            Ok(())
+        }
+        Receive::NoMemory => Err(NoMemory),
+        // It isn't refused.
+        Receive::Old | Receive::Again | Receive::Far => Ok(()),
+    }
+}
