@@ -1,0 +1,6 @@
+pub mod Shown
+pub mod Told
+pub mod Ranges
+pub mod Opened
+pub mod Kept
+pub mod Transcripts

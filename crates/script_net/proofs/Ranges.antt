@@ -1,0 +1,260 @@
+-- What a line of a script asks for is in range: the members are of the store, the update is valid, the bytes are bytes.
+use Rattle.std.proofs.Common.{◌≡◌, ℕ, ◌<◌, Bool, true, false, cond, nat_lt, IsTrue, List, [], ◌∷◌, length, Option, Some, None, Result, Ok, Err, refl, subst, arith}
+use Rattle.std.specs.Prelude.{IfOk, ok_or, codes, All, ◌==◌, ◌%◌, if◌then◌else◌}
+use Rattle.std.specs.Result.{result_ok}
+use Rattle.std.proofs.lemmas.List.{get_or_default}
+use Rattle.std.proofs.lemmas.Bool.{and_parts, and_from, ltb-true}
+use Rattle.hex.specs.Hex.{decode_of, decode_pairs}
+use Rattle.hex.specs.declared.error.FromHexError.{FromHexError}
+use Rattle.hex.specs.declared.error.FromHexError.TheVariants.{OddLength}
+use Rattle.hex.proofs.HexLemmas.{decode_pairs-ok}
+use Rattle.op_base.specs.Name.{same_text, is_key, is_value, kind_of, kind_part, key_part}
+use Rattle.op_base.specs.Operation.{has_act}
+use Rattle.op_base.specs.Reading.{object_with, where_true}
+use Rattle.op_base.specs.Valid.{is_valid_act, is_valid_update}
+use Rattle.op_base.specs.declared.name.Kind.{Kind}
+use Rattle.op_base.specs.declared.name.Kind.TheVariants as kind
+use Rattle.op_base.specs.declared.name.ObjectId.{ObjectId}
+use Rattle.op_base.specs.declared.operation.Act.{Act}
+use Rattle.op_base.specs.declared.operation.Act.TheVariants as act
+use Rattle.script_lang.specs.Commands.{do_command, do_words, ask_words, give_words, resend_words, raw_words, settle_words, lone_member, words_behind, command_words, command_of, bad_line, run_or_bad, line_of}
+use Rattle.script_lang.specs.Fault.{◌>>=◌, most_line_bytes, number_of_fault}
+use Rattle.script_lang.specs.Names.{below, member_of, object_in, value_in, bytes_in, amount_in}
+use Rattle.script_lang.specs.Acts.{operation_in, set_act, flag_act, register_act, counter_act, clearable_act, kind_act, update_in}
+use Rattle.script_lang.specs.Numbers.{number_of}
+use Rattle.script_lang.specs.Words.{words_of, is_passed_over}
+use Rattle.script_lang.specs.declared.act.Operation.{Operation}
+use Rattle.script_lang.specs.declared.act.Operation.TheVariants as operation
+use Rattle.script_lang.specs.declared.fault.Fault.{Fault}
+use Rattle.script_lang.specs.declared.fault.Fault.TheVariants as fault
+use Rattle.script_lang.specs.declared.command.Command.{Command}
+use Rattle.script_lang.specs.declared.command.Command.TheVariants as command
+use Rattle.script_lang.specs.declared.command.Line.TheVariants as line
+
+-- a command can be run in a store of n members
+abbrev pub CanRun : ℕ → Command → Type 0
+CanRun n (command.Do r update) = (r < n) × IsTrue (is_valid_update update)
+CanRun n (command.Ask r object) = r < n
+CanRun n (command.Beat r) = r < n
+CanRun n (command.Give r k s) = r < n
+CanRun n (command.Resend r k) = r < n
+CanRun n (command.Raw r bytes) = (r < n) × All (λ b. b < 256) bytes
+CanRun n command.Settle = Unit {0}
+CanRun n (command.Log r) = r < n
+CanRun n (command.Size r) = r < n
+CanRun n (command.Stable r) = r < n
+CanRun n (command.Seen r) = r < n
+
+-- ---- results that are read one behind another
+
+-- of two verbs, by a test
+either_verb : {V : Type 0} (n : ℕ) (by : V → List (List ℕ) → Result Command Fault) (words : List (List ℕ)) (b : Bool) (x y : V) → IfOk (by x words) (CanRun n) → IfOk (by y words) (CanRun n) → IfOk (by (cond b x y) words) (CanRun n)
+either_verb n by words true x y p q = p
+either_verb n by words false x y p q = q
+
+module _ {A : Type 0} (P : A → Type 0) where
+  -- of two results, by a test
+  either : (b : Bool) (x y : Result A Fault) → IfOk x P → IfOk y P → IfOk (cond b x y) P
+  either true x y p q = p
+  either false x y p q = q
+
+  -- a value where a test passes
+  where_passed : (b : Bool) (x : A) (e : Fault) → (b ≡ true → P x) → IfOk (cond b (Ok x) (Err e)) P
+  where_passed true x e p = p refl
+  where_passed false x e p = tt
+
+  where_some : (b : Bool) (x : A) (e : Fault) → (b ≡ true → P x) → IfOk (ok_or (cond b (Some x) None) e) P
+  where_some true x e p = p refl
+  where_some false x e p = tt
+
+  where_made : (test : Bool) (make : IsTrue test → A) (e : Fault) → ((t : IsTrue test) → P (make t)) → IfOk (ok_or (where_true test make) e) P
+  where_made true make e p = p refl
+  where_made false make e p = tt
+
+given : {A B : Type 0} (P : A → Type 0) (Q : B → Type 0) (x : Result A Fault) (f : A → Result B Fault) → IfOk x P → ((a : A) → P a → IfOk (f a) Q) → IfOk (x >>= f) Q
+given P Q (Ok a) f p g = g a p
+given P Q (Err e) f p g = tt
+
+-- ---- words
+
+below_n : (n : ℕ) (o : Option ℕ) → IfOk (below n o) (λ r. r < n)
+below_n n None = tt
+below_n n (Some r) = where_passed (λ r. r < n) (nat_lt r n) r fault.Member (ltb-true r n)
+
+member : (n : ℕ) (word : List ℕ) → IfOk (member_of n word) (λ r. r < n)
+member n word = below_n n (number_of word)
+
+keyed : (k : Option Kind) (key : List ℕ) → IfOk (ok_or (object_with k key) fault.Object) (λ (o : ObjectId). IsTrue (is_key o.key))
+keyed None key = tt
+keyed (Some k) key = where_some (λ (o : ObjectId). IsTrue (is_key o.key)) (is_key key) (record { kind = k; key = key }) fault.Object (λ t. t)
+
+object : (word : List ℕ) → IfOk (object_in word) (λ (o : ObjectId). IsTrue (is_key o.key))
+object word = keyed (kind_of (kind_part word)) (key_part word)
+
+value : (word : List ℕ) → IfOk (value_in word) (λ v. IsTrue (is_value v))
+value word = where_passed (λ v. IsTrue (is_value v)) (is_value word) word fault.Value (λ t. t)
+
+amount : (word : List ℕ) → IfOk (amount_in word) (λ a. IsTrue (nat_lt a 4294967296))
+amount word = where_some (λ a. IsTrue (nat_lt a 4294967296)) _ _ fault.Number (λ t. (and_parts _ _ t).1)
+
+-- ---- bytes in hexadecimal
+
+-- what decodes is bytes
+decoded_small : (is_odd : Bool) (word bytes : List ℕ) → (if is_odd then Err OddLength else decode_pairs 0 word) ≡ Ok bytes → All (λ b. b < 256) bytes
+decoded_small true word bytes e = cc
+decoded_small false word bytes e = λ k d l. omega (arith, (decode_pairs-ok 0 word bytes e).2 k, get_or_default bytes k d 0 l)
+
+where_decoded : (r : Result (List ℕ) FromHexError) → ((bytes : List ℕ) → r ≡ Ok bytes → All (λ b. b < 256) bytes) → IfOk (ok_or (result_ok r) fault.Value) (All (λ b. b < 256))
+where_decoded (Ok bytes) small = small bytes refl
+where_decoded (Err e) small = tt
+
+hexadecimal : (word : List ℕ) → IfOk (bytes_in word) (All (λ b. b < 256))
+hexadecimal word = where_decoded (decode_of word) (decoded_small (length word % 2 == 1) word)
+
+-- ---- updates
+
+abbrev Valid : Act → Type 0
+Valid a = IsTrue (is_valid_act a)
+
+with_value : (argument : List ℕ) (make : List ℕ → Act) → ((v : List ℕ) → IsTrue (is_value v) → Valid (make v)) → IfOk (value_in argument >>= λ v. Ok (make v)) Valid
+with_value argument make valid = given (λ v. IsTrue (is_value v)) Valid (value_in argument) _ (value argument) valid
+
+with_amount : (argument : List ℕ) (make : ℕ → Act) → ((a : ℕ) → IsTrue (nat_lt a 4294967296) → Valid (make a)) → IfOk (amount_in argument >>= λ a. Ok (make a)) Valid
+with_amount argument make valid = given (λ a. IsTrue (nat_lt a 4294967296)) Valid (amount_in argument) _ (amount argument) valid
+
+set_is_valid : (o : Operation) (argument : Option (List ℕ)) → IfOk (set_act o argument) Valid
+set_is_valid operation.Add (Some argument) = with_value argument act.Add (λ v t. t)
+set_is_valid operation.Rmv (Some argument) = with_value argument act.Rmv (λ v t. t)
+set_is_valid operation.Clear None = refl
+set_is_valid o argument = tt
+
+flag_is_valid : (o : Operation) (argument : Option (List ℕ)) → IfOk (flag_act o argument) Valid
+flag_is_valid operation.Enable None = refl
+flag_is_valid operation.Disable None = refl
+flag_is_valid operation.Clear None = refl
+flag_is_valid o argument = tt
+
+register_is_valid : (o : Operation) (argument : Option (List ℕ)) → IfOk (register_act o argument) Valid
+register_is_valid operation.Write (Some argument) = with_value argument act.Write (λ v t. t)
+register_is_valid operation.Clear None = refl
+register_is_valid o argument = tt
+
+counter_is_valid : (o : Operation) (argument : Option (List ℕ)) → IfOk (counter_act o argument) Valid
+counter_is_valid operation.Inc (Some argument) = with_amount argument act.Inc (λ a t. t)
+counter_is_valid operation.Dec (Some argument) = with_amount argument act.Dec (λ a t. t)
+counter_is_valid o argument = tt
+
+clearable_is_valid : (o : Operation) (argument : Option (List ℕ)) → IfOk (clearable_act o argument) Valid
+clearable_is_valid operation.Inc (Some argument) = with_amount argument act.Inc (λ a t. t)
+clearable_is_valid operation.Dec (Some argument) = with_amount argument act.Dec (λ a t. t)
+clearable_is_valid operation.Clear None = refl
+clearable_is_valid o argument = tt
+
+act_is_valid : (k : Kind) (o : Operation) (argument : Option (List ℕ)) → IfOk (kind_act k o argument) Valid
+act_is_valid kind.AwSet o argument = set_is_valid o argument
+act_is_valid kind.RwSet o argument = set_is_valid o argument
+act_is_valid kind.EwFlag o argument = flag_is_valid o argument
+act_is_valid kind.DwFlag o argument = flag_is_valid o argument
+act_is_valid kind.MvReg o argument = register_is_valid o argument
+act_is_valid kind.Counter o argument = counter_is_valid o argument
+act_is_valid kind.RCounter o argument = clearable_is_valid o argument
+
+some_operation : (r : Result Operation Fault) → IfOk r (λ o. Unit {0})
+some_operation (Ok o) = tt
+some_operation (Err e) = tt
+
+update : (o word : List ℕ) (argument : Option (List ℕ)) → IfOk (update_in o word argument) (λ u. IsTrue (is_valid_update u))
+update o word argument =
+    given (λ (x : ObjectId). IsTrue (is_key x.key)) (λ u. IsTrue (is_valid_update u)) (object_in o) _ (object o) (λ x key.
+    given (λ (operation : Operation). Unit {0}) (λ u. IsTrue (is_valid_update u)) (operation_in word) _ (some_operation (operation_in word)) (λ operation any.
+    given Valid (λ u. IsTrue (is_valid_update u)) (kind_act x.kind operation argument) _ (act_is_valid x.kind operation argument) (λ a valid.
+    where_made (λ u. IsTrue (is_valid_update u)) (has_act x.kind a) _ fault.Operation (λ t. and_from (is_key x.key) (is_valid_act a) key valid))))
+
+-- ---- commands
+
+module _ (n : ℕ) where
+  abbrev Below : ℕ → Type 0
+  Below r = r < n
+
+  does : (r o word : List ℕ) (argument : Option (List ℕ)) → IfOk (do_command n r o word argument) (CanRun n)
+  does r o word argument =
+      given Below (CanRun n) (member_of n r) _ (member n r) (λ r l.
+      given (λ u. IsTrue (is_valid_update u)) (CanRun n) (update_in o word argument) _ (update o word argument) (λ u t. (l, t)))
+
+  do_can_run : (words : List (List ℕ)) → IfOk (do_words n words) (CanRun n)
+  do_can_run [] = tt
+  do_can_run (a ∷ []) = tt
+  do_can_run (a ∷ b ∷ []) = tt
+  do_can_run (r ∷ o ∷ word ∷ []) = does r o word None
+  do_can_run (r ∷ o ∷ word ∷ argument ∷ []) = does r o word (Some argument)
+  do_can_run (a ∷ b ∷ c ∷ d ∷ e ∷ words) = tt
+
+  ask_can_run : (words : List (List ℕ)) → IfOk (ask_words n words) (CanRun n)
+  ask_can_run [] = tt
+  ask_can_run (a ∷ []) = tt
+  ask_can_run (r ∷ o ∷ []) =
+      given Below (CanRun n) (member_of n r) _ (member n r) (λ r l. given (λ (x : ObjectId). IsTrue (is_key x.key)) (CanRun n) (object_in o) _ (object o) (λ x t. l))
+  ask_can_run (a ∷ b ∷ c ∷ words) = tt
+
+  give_can_run : (words : List (List ℕ)) → IfOk (give_words n words) (CanRun n)
+  give_can_run [] = tt
+  give_can_run (a ∷ []) = tt
+  give_can_run (a ∷ b ∷ []) = tt
+  give_can_run (r ∷ k ∷ s ∷ []) =
+      given Below (CanRun n) (member_of n r) _ (member n r) (λ r l. given Below (CanRun n) (member_of n k) _ (member n k) (λ k m.
+      given (λ a. IsTrue (nat_lt a 4294967296)) (CanRun n) (amount_in s) _ (amount s) (λ s t. l)))
+  give_can_run (a ∷ b ∷ c ∷ d ∷ words) = tt
+
+  resend_can_run : (words : List (List ℕ)) → IfOk (resend_words n words) (CanRun n)
+  resend_can_run [] = tt
+  resend_can_run (a ∷ []) = tt
+  resend_can_run (r ∷ k ∷ []) =
+      given Below (CanRun n) (member_of n r) _ (member n r) (λ r l. given Below (CanRun n) (member_of n k) _ (member n k) (λ k m. l))
+  resend_can_run (a ∷ b ∷ c ∷ words) = tt
+
+  raw_can_run : (words : List (List ℕ)) → IfOk (raw_words n words) (CanRun n)
+  raw_can_run [] = tt
+  raw_can_run (a ∷ []) = tt
+  raw_can_run (r ∷ hex ∷ []) =
+      given Below (CanRun n) (member_of n r) _ (member n r) (λ r l. given (All (λ b. b < 256)) (CanRun n) (bytes_in hex) _ (hexadecimal hex) (λ bytes small. (l, small)))
+  raw_can_run (a ∷ b ∷ c ∷ words) = tt
+
+  settle_can_run : (words : List (List ℕ)) → IfOk (settle_words words) (CanRun n)
+  settle_can_run [] = tt
+  settle_can_run (a ∷ words) = tt
+
+  lone : (words : List (List ℕ)) → IfOk (lone_member n words) Below
+  lone [] = tt
+  lone (r ∷ []) = member n r
+  lone (a ∷ b ∷ words) = tt
+
+  -- the words behind each verb
+  words_can_run : (words : List (List ℕ)) → IfOk (command_words n words) (CanRun n)
+  words_can_run [] = tt
+  words_can_run (word ∷ words) =
+      either_verb n (words_behind n) words (same_text (codes "do") word) _ _ (do_can_run words)
+      (either_verb n (words_behind n) words (same_text (codes "ask") word) _ _ (ask_can_run words)
+      (either_verb n (words_behind n) words (same_text (codes "beat") word) _ _ (given Below (CanRun n) (lone_member n words) _ (lone words) (λ r l. l))
+      (either_verb n (words_behind n) words (same_text (codes "give") word) _ _ (give_can_run words)
+      (either_verb n (words_behind n) words (same_text (codes "resend") word) _ _ (resend_can_run words)
+      (either_verb n (words_behind n) words (same_text (codes "raw") word) _ _ (raw_can_run words)
+      (either_verb n (words_behind n) words (same_text (codes "settle") word) _ _ (settle_can_run words)
+      (either_verb n (words_behind n) words (same_text (codes "log") word) _ _ (given Below (CanRun n) (lone_member n words) _ (lone words) (λ r l. l))
+      (either_verb n (words_behind n) words (same_text (codes "size") word) _ _ (given Below (CanRun n) (lone_member n words) _ (lone words) (λ r l. l))
+      (either_verb n (words_behind n) words (same_text (codes "stable") word) _ _ (given Below (CanRun n) (lone_member n words) _ (lone words) (λ r l. l))
+      (either_verb n (words_behind n) words (same_text (codes "seen") word) _ _ (given Below (CanRun n) (lone_member n words) _ (lone words) (λ r l. l))
+      tt))))))))))
+
+  not_bad : (o : Option ℕ) (c : Command) → bad_line o ≡ line.Run c → CanRun n c
+  not_bad None c e = cc
+  not_bad (Some code) c e = cc
+
+  runs : (passed : Bool) (x : Result Command Fault) (c : Command) → IfOk x (CanRun n) → cond passed line.Skip (run_or_bad x) ≡ line.Run c → CanRun n c
+  runs true x c can e = cc
+  runs false (Ok d) c can e = let same : d ≡ c = cc in subst (CanRun n) same can
+  runs false (Err why) c can e = not_bad (number_of_fault why) c e
+
+  -- a line that is read as a command can be run
+  pub line_can_run : (bytes : List ℕ) (c : Command) → line_of n bytes ≡ line.Run c → CanRun n c
+  line_can_run bytes c e =
+      runs (is_passed_over bytes) (command_of n bytes) c (either (CanRun n) (nat_lt most_line_bytes (length bytes)) (Err fault.TooLong) (command_words n (words_of bytes)) tt (words_can_run (words_of bytes))) e

@@ -1,0 +1,103 @@
+-- What a world that shows a plain world has of it: as many nodes as members, timestamps of as many numbers, and messages
+-- with a number of their origin.
+use Rattle.std.proofs.Common.{◌≡◌, ℕ, ◌<◌, ◌∙◌, Bool, true, false, cond, List, length, sym, ap, subst, arith}
+use Rattle.std.proofs.Math.Logic.{∥∥₁_elim}
+use Rattle.std.proofs.Props.{props}
+use Rattle.std.proofs.lemmas.List.{set-get_or, length-map}
+use Rattle.std.proofs.lemmas.List.FromFn.{length-map-range_with_len}
+use Rattle.op_base.specs.declared.message.Message.{Message}
+use Rattle.op_base.specs.declared.operation.Update.{Update}
+use Rattle.op_base.specs.declared.operation.Op.{Op}
+use Rattle.op_base.specs.declared.operation.Op.TheVariants as op
+use Rattle.causal_model.proofs.Counts.{length-counts, length-next_tag}
+use Rattle.causal_model.specs.Receiving.{start}
+use Rattle.causal_model.specs.Sending.{sends, busy, ended, beats, quiet, held, beat_ended, own_message}
+use Rattle.causal_model.specs.Stability.{stable_count}
+use Rattle.replica_core.specs.declared.answers.Local.{Local}
+use Rattle.replica_core.specs.declared.answers.Local.TheVariants as local
+use Rattle.replica_core.specs.declared.answers.Beat.{Beat}
+use Rattle.replica_core.specs.declared.answers.Beat.TheVariants as beat
+use Rattle.world.specs.Answers.{ShowsPlain, AnswersLocal, AnswersBeat}
+use Rattle.world.specs.Shows.{state_of}
+use Rattle.world.specs.declared.world.World.{World}
+use Rattle.world_model.specs.World.{PlainWorld, size_of, replica_of, with_state}
+use Rattle.world_model.specs.Worlds.{IsWorld}
+use Rattle.world_model.specs.Showing.{stable_at, seen_at}
+use Rattle.script_net.specs.Replied.{LocalHasNumber, BeatHasNumber}
+
+-- there are as many nodes as members
+pub as_many_nodes : (world : World) (plain : PlainWorld) → ShowsPlain world plain → length world.nodes.items ≡ size_of plain
+as_many_nodes world plain shows = sym (length-map world.nodes.items state_of) ∙ ap length shows.states
+
+-- a replica that comes to the state that it is in leaves its world as it is
+pub same_state : (plain : PlainWorld) (r : ℕ) → with_state plain r (replica_of plain r) ≡ plain
+same_state plain r = ap (λ replicas. record { w = plain.w; limit = plain.limit; replicas = replicas; sent = plain.sent }) (set-get_or plain.replicas r (start 0 0))
+
+-- the timestamps that a replica shows have a number for each member
+pub length-stable_at : (plain : PlainWorld) (r : ℕ) → IsWorld plain → r < size_of plain → length (stable_at plain r) ≡ size_of plain
+length-stable_at plain r w l =
+    let p = (replica_of plain r).history.present in
+    length-map-range_with_len (stable_count p.n p.me p.messages) 0 p.n ∙ (w.replicas r l).of_store
+
+pub length-seen_at : (plain : PlainWorld) (r : ℕ) → IsWorld plain → r < size_of plain → length (seen_at plain r) ≡ size_of plain
+length-seen_at plain r w l =
+    let p = (replica_of plain r).history.present in
+    length-counts p.n p.messages ∙ (w.replicas r l).of_store
+
+-- what is sent is the own message
+sent_own : (a b : Bool) (own m : Message) → cond a busy (cond b ended (sends own)) ≡ sends m → own ≡ m
+sent_own true b own m e = cc
+sent_own false true own m e = cc
+sent_own false false own m e = cc
+
+beaten_own : (a b d : Bool) (own m : Message) → cond a quiet (cond b held (cond d beat_ended (beats own))) ≡ beats m → own ≡ m
+beaten_own true b d own m e = cc
+beaten_own false true d own m e = cc
+beaten_own false false true own m e = cc
+beaten_own false false false own m e = cc
+
+-- an own message of a replica has a number of its origin
+own_has_number : (plain : PlainWorld) (r : ℕ) (o : Op) → IsWorld plain → r < size_of plain
+    → (let p = (replica_of plain r).history.present in let own = own_message p.n p.me p.messages o in own.origin < length own.tag)
+own_has_number plain r o w l =
+    let p = (replica_of plain r).history.present in
+    let is = w.replicas r l in
+    omega (arith, length-next_tag p.n p.me p.messages, is.of_store, is.of_member)
+
+module _ (world : World) (r : ℕ) (l : r < length world.nodes.items) where
+  -- a message that a world sends has a number of its origin
+  pub local_has_number : (update : Update) (answer : Local) (new : World) → ((plain : PlainWorld) → ShowsPlain world plain → AnswersLocal plain r update answer (ShowsPlain new)) → LocalHasNumber answer
+  local_has_number update (local.Sent m) new answers =
+      ∥∥₁_elim world.shows (search props) (λ shown.
+      let plain = shown.0 in
+      let inside : r < size_of plain = subst (λ n. r < n) (as_many_nodes world plain shown.1) l in
+      subst (λ (m : Message). m.origin < length m.tag) (sent_own _ _ _ m (answers plain shown.1).0) (own_has_number plain r (op.Update update) shown.1.is_world inside))
+  local_has_number update local.Busy new answers = tt
+  local_has_number update local.End new answers = tt
+  local_has_number update local.NoMemory new answers = tt
+
+  pub beat_has_number : (answer : Beat) (new : World) → ((plain : PlainWorld) → ShowsPlain world plain → AnswersBeat plain r answer (ShowsPlain new)) → BeatHasNumber answer
+  beat_has_number (beat.Sent m) new answers =
+      ∥∥₁_elim world.shows (search props) (λ shown.
+      let plain = shown.0 in
+      let inside : r < size_of plain = subst (λ n. r < n) (as_many_nodes world plain shown.1) l in
+      subst (λ (m : Message). m.origin < length m.tag) (beaten_own _ _ _ _ m (answers plain shown.1).0) (own_has_number plain r op.NoOp shown.1.is_world inside))
+  beat_has_number beat.Quiet new answers = tt
+  beat_has_number beat.Held new answers = tt
+  beat_has_number beat.End new answers = tt
+  beat_has_number beat.NoMemory new answers = tt
+
+  -- what a world shows to be stable and seen has a number for each node
+  pub stable_is_long : (tag : List ℕ) → ((plain : PlainWorld) → ShowsPlain world plain → tag ≡ stable_at plain r) → length tag ≡ length world.nodes.items
+  stable_is_long tag is =
+      ∥∥₁_elim world.shows (search props) (λ shown.
+      let plain = shown.0 in
+      let many = as_many_nodes world plain shown.1 in
+      ap length (is plain shown.1) ∙ length-stable_at plain r shown.1.is_world (subst (λ n. r < n) many l) ∙ sym many)
+
+  pub seen_is_long : (tag : List ℕ) → ((plain : PlainWorld) → ShowsPlain world plain → tag ≡ seen_at plain r) → length tag ≡ length world.nodes.items
+  seen_is_long tag is =
+      ∥∥₁_elim world.shows (search props) (λ shown.
+      let plain = shown.0 in
+      let many = as_many_nodes world plain shown.1 in
+      ap length (is plain shown.1) ∙ length-seen_at plain r shown.1.is_world (subst (λ n. r < n) many l) ∙ sym many)

@@ -1,0 +1,51 @@
+-- Replies to lines that are put together of others, and to bytes that are refused.
+use Rattle.std.proofs.Common.{◌≡◌, ℕ, true, List, [], ◌∷◌, ◌++◌, Result, Ok, Err, refl, sym, ap, ◌∙◌}
+use Rattle.std.proofs.lemmas.Bool.{false≢true}
+use Rattle.std.proofs.lemmas.List.{append_assoc, append-nil}
+use Rattle.op_base.specs.declared.message.Message.{Message}
+use Rattle.causal_model.specs.Receiving.{State, Receiving, old, again, far, accepts}
+use Rattle.frame_codec.specs.declared.fault.FrameFault.{FrameFault}
+use Rattle.world_model.specs.Raw.{read_at, rawing_of, world_rawed_of}
+use Rattle.world_model.specs.World.{PlainWorld, replica_of, with_state, state_received, receiving_at}
+use Rattle.script_net.specs.Commands.{receiving_reply, rawing_reply}
+use Rattle.script_net.specs.Laws.{OneLineMoreReplies, OneLineMoreLeaves, is_refusal, RefusedBytesChangeNothing, RefusedBytesGo}
+use Rattle.script_net.specs.Transcript.{line_world, text_of_line, world_of_line, replies_to, world_after}
+use Rattle.script_net.proofs.Shown.{same_state}
+
+-- the replies to two runs of lines, one behind the other
+pub replies-append : (world : PlainWorld) (lines more : List (List ℕ)) → replies_to world (lines ++ more) ≡ replies_to world lines ++ replies_to (world_after world lines) more
+replies-append world [] more = refl
+replies-append world (line ∷ lines) more =
+    ap (λ text. text_of_line world line ++ text) (replies-append (world_of_line world line) lines more)
+    ∙ sym (append_assoc (text_of_line world line) (replies_to (world_of_line world line) lines) (replies_to (world_after (world_of_line world line) lines) more))
+
+pub one_line_more_replies : OneLineMoreReplies
+one_line_more_replies world lines line =
+    replies-append world lines (line ∷ []) ∙ ap (λ text. replies_to world lines ++ text) (append-nil (text_of_line (world_after world lines) line))
+
+pub one_line_more_leaves : OneLineMoreLeaves
+one_line_more_leaves world [] line = refl
+one_line_more_leaves world (first ∷ lines) line = one_line_more_leaves (world_of_line world first) lines line
+
+-- a state that refuses a message stays
+refused_state : (s : State) (rule : Receiving) → is_refusal (receiving_reply rule) ≡ true → state_received s rule ≡ s
+refused_state s old t = refl
+refused_state s again t = refl
+refused_state s far t = refl
+refused_state s (accepts [] after) t = absurd (false≢true t)
+refused_state s (accepts (step ∷ steps) after) t = absurd (false≢true t)
+
+refused_bytes : (world : PlainWorld) (r : ℕ) (o : Result Message FrameFault) → is_refusal (rawing_reply (rawing_of world r o)) ≡ true → world_rawed_of world r o ≡ world
+refused_bytes world r (Err fault) t = refl
+refused_bytes world r (Ok m) t = ap (with_state world r) (refused_state (replica_of world r) (receiving_at world r m) t) ∙ same_state world r
+
+pub refused_bytes_change_nothing : RefusedBytesChangeNothing
+refused_bytes_change_nothing world line r bytes e t = ap (line_world world) e ∙ refused_bytes world r (read_at world r bytes) t
+
+pub refused_bytes_go : RefusedBytesGo
+refused_bytes_go world before after line r bytes e t =
+    let here = world_after world before in (
+      replies-append world before (line ∷ after)
+          ∙ ap (λ then. replies_to world before ++ (text_of_line here line ++ replies_to then after)) (refused_bytes_change_nothing here line r bytes e t),
+      replies-append world before after,
+    )

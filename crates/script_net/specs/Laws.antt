@@ -1,0 +1,84 @@
+-- What holds in every run of a script, of the plain world after any of its lines. Each statement is the contract of a
+-- function of laws.rt.
+use Rattle.std.specs.Prelude.{◌≡◌, ◌↔◌, ℕ, ◌*◌, ◌<◌, ◌≤◌, Bool, true, false, IsTrue, List, [], ◌∷◌, ◌++◌, Some}
+use Rattle.op_base.specs.declared.name.ObjectId.{ObjectId}
+use Rattle.op_base.specs.declared.operation.Update.{Update}
+use Rattle.causal_model.specs.Laws.Events.{SameEvents}
+use Rattle.causal_model.specs.Stability.{unstable_operations}
+use Rattle.script_lang.specs.Commands.{line_of}
+use Rattle.script_lang.specs.Headers.{header_of}
+use Rattle.script_lang.specs.declared.command.Line.TheVariants.{Run}
+use Rattle.script_lang.specs.declared.command.Command.TheVariants.{Do, Ask, Raw}
+use Rattle.script_lang.specs.declared.header.Header.TheVariants.{Store}
+use Rattle.script_lang.specs.declared.reply.Reply.{Reply}
+use Rattle.script_lang.specs.declared.reply.Reply.TheVariants.{Busy, Old, Again, Far, BadFrame}
+use Rattle.world_model.specs.World.{PlainWorld, size_of, replica_of, opening}
+use Rattle.world_model.specs.Showing.{entries_at}
+use Rattle.world_model.specs.Worlds.{IsWorld}
+use Rattle.script_net.specs.Commands.{command_reply}
+use Rattle.script_net.specs.Transcript.{line_reply, text_of_line, world_of_line, replies_to, world_after}
+
+-- the plain world of a store after lines
+abbrev pub world_by : ℕ → ℕ → ℕ → List (List ℕ) → PlainWorld
+world_by n w limit lines = world_after (opening n w limit) lines
+
+-- ---- every script
+
+-- behind a header each line leaves a world of as many members and with the window and the limit of the header
+abbrev pub ScriptsKeepWorlds : Type 0
+ScriptsKeepWorlds = (header : List ℕ) (lines : List (List ℕ)) (n w limit : ℕ) → header_of header ≡ Some (Store n w limit)
+    → IsWorld (world_by n w limit lines) × (size_of (world_by n w limit lines) ≡ n)
+    × ((world_by n w limit lines).w ≡ w) × ((world_by n w limit lines).limit ≡ limit)
+
+-- every log has at most n * w entries after every line
+abbrev pub LogsAreBounded : Type 0
+LogsAreBounded = (header : List ℕ) (lines : List (List ℕ)) (n w limit r : ℕ) → header_of header ≡ Some (Store n w limit)
+    → r < n → entries_at (world_by n w limit lines) r ≤ n * w
+
+-- a line that sends an update is replied to by busy exactly where as many own operations are unstable as the window has
+abbrev pub BusyIsExact : Type 0
+BusyIsExact = (header : List ℕ) (lines : List (List ℕ)) (line : List ℕ) (n w limit r : ℕ) (update : Update) → header_of header ≡ Some (Store n w limit)
+    → line_of n line ≡ Run (Do r update)
+    → (line_reply (world_by n w limit lines) (line_of n line) ≡ Some Busy)
+    ↔ (unstable_operations n r (replica_of (world_by n w limit lines) r).history.present.messages r ≡ w)
+
+-- after any lines, lines that ask two replicas of the same events for an object have the same reply
+abbrev pub EqualEventsAnswerAlike : Type 0
+EqualEventsAnswerAlike = (header : List ℕ) (lines : List (List ℕ)) (first second : List ℕ) (n w limit r k : ℕ) (object : ObjectId) → header_of header ≡ Some (Store n w limit)
+    → line_of n first ≡ Run (Ask r object) → line_of n second ≡ Run (Ask k object)
+    → SameEvents (replica_of (world_by n w limit lines) r).history (replica_of (world_by n w limit lines) k).history
+    → text_of_line (world_by n w limit lines) first ≡ text_of_line (world_by n w limit lines) second
+
+-- ---- one line more
+
+-- the replies to lines with one more are the replies to them, and that to it where they end
+abbrev pub OneLineMoreReplies : Type 0
+OneLineMoreReplies = (world : PlainWorld) (lines : List (List ℕ)) (line : List ℕ)
+    → replies_to world (lines ++ line ∷ []) ≡ replies_to world lines ++ text_of_line (world_after world lines) line
+
+abbrev pub OneLineMoreLeaves : Type 0
+OneLineMoreLeaves = (world : PlainWorld) (lines : List (List ℕ)) (line : List ℕ)
+    → world_after world (lines ++ line ∷ []) ≡ world_of_line (world_after world lines) line
+
+-- ---- refused bytes
+
+-- whether a reply says that bytes were no frame, or that their message was refused
+abbrev pub is_refusal : Reply → Bool
+is_refusal (BadFrame fault) = true
+is_refusal Old = true
+is_refusal Again = true
+is_refusal Far = true
+is_refusal reply = false
+
+-- a line whose bytes are refused leaves the plain world as it is
+abbrev pub RefusedBytesChangeNothing : Type 0
+RefusedBytesChangeNothing = (world : PlainWorld) (line : List ℕ) (r : ℕ) (bytes : List ℕ)
+    → line_of (size_of world) line ≡ Run (Raw r bytes) → IsTrue (is_refusal (command_reply world (Raw r bytes))) → world_of_line world line ≡ world
+
+-- so its reply is all that goes where it is removed from among lines
+abbrev pub RefusedBytesGo : Type 0
+RefusedBytesGo = (world : PlainWorld) (before after : List (List ℕ)) (line : List ℕ) (r : ℕ) (bytes : List ℕ)
+    → line_of (size_of (world_after world before)) line ≡ Run (Raw r bytes) → IsTrue (is_refusal (command_reply (world_after world before) (Raw r bytes)))
+    → (replies_to world (before ++ line ∷ after)
+    ≡ replies_to world before ++ (text_of_line (world_after world before) line ++ replies_to (world_after world before) after))
+    × (replies_to world (before ++ after) ≡ replies_to world before ++ replies_to (world_after world before) after)

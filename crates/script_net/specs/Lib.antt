@@ -1,0 +1,6 @@
+pub mod Lines
+pub mod Commands
+pub mod Transcript
+pub mod Replied
+pub mod Runs
+pub mod Laws

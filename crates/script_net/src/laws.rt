@@ -1,0 +1,27 @@
+//! Laws of transcripts. Each is the contract of a function that does nothing.
+
+ghost use Rattle.script_net.specs.Laws.{ScriptsKeepWorlds, LogsAreBounded, BusyIsExact, EqualEventsAnswerAlike, OneLineMoreReplies, OneLineMoreLeaves, RefusedBytesChangeNothing, RefusedBytesGo};
+
+/// Behind a header each line of a script leaves a world of the header's store, whose logs are bounded.
+pub fn scripts_keep_worlds()
+    ensures worlds { ScriptsKeepWorlds }
+    ensures logs { LogsAreBounded }
+{}
+
+/// What a line is replied to: `busy` exactly where the window is full, and the same answer by replicas of the same events.
+pub fn lines_are_replied_to()
+    ensures busy { BusyIsExact }
+    ensures answers { EqualEventsAnswerAlike }
+{}
+
+/// A script may be read as it comes: one line more adds its own reply.
+pub fn one_line_more()
+    ensures replies { OneLineMoreReplies }
+    ensures leaves { OneLineMoreLeaves }
+{}
+
+/// A line whose bytes are refused changes nothing: where it is removed, its reply alone goes.
+pub fn refused_bytes_change_nothing()
+    ensures nothing { RefusedBytesChangeNothing }
+    ensures goes { RefusedBytesGo }
+{}

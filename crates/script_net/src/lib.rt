@@ -1,0 +1,12 @@
+//! A script, run line by line on a world: what is replied is the reply of the plain world, which keeps every message.
+//!
+//! Scripts are this project's own profile.
+#![tactic(auto)]
+
+pub mod laws;
+mod reply;
+mod runner;
+#[cfg(test)]
+mod tests;
+
+pub use runner::Runner;

@@ -1,0 +1,170 @@
+//! Commands on a world, and what is replied to them.
+
+ghost use Rattle.std.specs.Prelude.{◌≡◌, ◌<◌, IfOk, length};
+ghost use Rattle.script_lang.specs.Replies.{HasItsEntries};
+ghost use Rattle.script_lang.specs.Ranges.{IsWithin};
+ghost use Rattle.world_model.specs.World.{PlainWorld, size_of};
+ghost use Rattle.world.specs.Answers.{ShowsPlain};
+ghost use Rattle.script_net.specs.Commands.{command_reply};
+ghost use Rattle.script_net.specs.Replied.{Told, IsReply, LocalHasNumber, BeatHasNumber, local_reply, beat_reply, receive_reply, given_reply, resent_reply, raw_reply, settle_reply};
+
+use op_base::NoMemory;
+use replica_core::{Beat, Local, Receive};
+use script_lang::{Command, Reply};
+use std::alloc::Global;
+use world::{Given, RawGot, Resent, Settle, World};
+
+/// Runs a command. On `NoMemory` nothing is replied, and the world may stand in the midst of the command.
+pub fn reply_to(alloc: Global, world: &mut World, command: &Command) -> Result<Reply, NoMemory>
+    requires { IsWithin (length world.old.nodes.items) command.now }
+    ensures told { (plain : PlainWorld) → ShowsPlain world.old plain → Told plain command.now result world.new }
+    ensures entries { IfOk result HasItsEntries }
+{
+    match command {
+        Command::Do { r, update } => local_reply(world.local(alloc, *r, update)),
+        Command::Ask { r, object } => Ok(Reply::Is(world.answer(alloc, *r, object)?)),
+        Command::Beat { r } => beat_reply(world.beat(alloc, *r)),
+        Command::Give { r, k, s } => given_reply(world.give(alloc, *r, *k, *s)),
+        Command::Resend { r, k } => resent_reply(world.resend(alloc, *r, *k)),
+        Command::Raw { r, bytes } => raw_reply(world.raw(alloc, *r, bytes.as_slice())),
+        Command::Settle => settle_reply(world.settle(alloc)),
+        Command::Log { r } => Ok(Reply::Log(world.kept(alloc, *r)?)),
+        Command::Size { r } => Ok(size_reply(world, *r)),
+        Command::Stable { r } => Ok(stable_reply(world, *r)),
+        Command::Seen { r } => Ok(seen_reply(world, *r)),
+    }
+}
+
+/// How much replica `r` keeps.
+fn size_reply(world: &World, r: u8) -> Reply
+    requires { r < length world.now.nodes.items }
+    ensures reply { (plain : PlainWorld) → ShowsPlain world.now plain → result ≡ command_reply plain (Command.Size r) }
+    ensures entries { HasItsEntries result }
+{
+    let (entries, items) = world.size(r);
+    Reply::Size { entries, items }
+}
+
+/// What is stable at replica `r`.
+fn stable_reply(world: &World, r: u8) -> Reply
+    requires { r < length world.now.nodes.items }
+    ensures reply { (plain : PlainWorld) → ShowsPlain world.now plain → result ≡ command_reply plain (Command.Stable r) }
+    ensures entries { HasItsEntries result }
+{
+    Reply::Stable {
+        n: members(world),
+        tag: world.stable(r),
+    }
+}
+
+/// What replica `r` has seen.
+fn seen_reply(world: &World, r: u8) -> Reply
+    requires { r < length world.now.nodes.items }
+    ensures reply { (plain : PlainWorld) → ShowsPlain world.now plain → result ≡ command_reply plain (Command.Seen r) }
+    ensures entries { HasItsEntries result }
+{
+    Reply::Seen {
+        n: members(world),
+        tag: world.seen(r),
+    }
+}
+
+/// How many members a world has.
+pub fn members(world: &World) -> u8
+    ensures nodes { result ≡ length world.now.nodes.items }
+    ensures size { (plain : PlainWorld) → ShowsPlain world.now plain → result ≡ size_of plain }
+{
+    world.nodes.len() as u8
+}
+
+/// The reply to what was sent.
+fn local_reply(answer: Local) -> Result<Reply, NoMemory>
+    requires { LocalHasNumber answer }
+    ensures told { IsReply (local_reply answer) result }
+    ensures entries { IfOk result HasItsEntries }
+{
+    match answer {
+        Local::Sent(message) => Ok(Reply::Sent(message.id().seq)),
+        Local::Busy => Ok(Reply::Busy),
+        Local::End => Ok(Reply::End),
+        Local::NoMemory => Err(NoMemory),
+    }
+}
+
+/// The reply to a beat.
+fn beat_reply(answer: Beat) -> Result<Reply, NoMemory>
+    requires { BeatHasNumber answer }
+    ensures told { IsReply (beat_reply answer) result }
+    ensures entries { IfOk result HasItsEntries }
+{
+    match answer {
+        Beat::Sent(message) => Ok(Reply::Sent(message.id().seq)),
+        Beat::Quiet => Ok(Reply::Quiet),
+        Beat::Held => Ok(Reply::Held),
+        Beat::End => Ok(Reply::End),
+        Beat::NoMemory => Err(NoMemory),
+    }
+}
+
+/// The reply to a message that was offered.
+fn receive_reply(answer: Receive) -> Result<Reply, NoMemory>
+    ensures told { IsReply (receive_reply answer) result }
+    ensures entries { IfOk result HasItsEntries }
+{
+    match answer {
+        Receive::Old => Ok(Reply::Old),
+        Receive::Again => Ok(Reply::Again),
+        Receive::Far => Ok(Reply::Far),
+        Receive::Kept => Ok(Reply::Kept),
+        Receive::Took(steps) => Ok(Reply::Took(steps)),
+        Receive::NoMemory => Err(NoMemory),
+    }
+}
+
+/// The reply to a message that was given.
+fn given_reply(answer: Given) -> Result<Reply, NoMemory>
+    ensures told { IsReply (given_reply answer) result }
+    ensures entries { IfOk result HasItsEntries }
+{
+    match answer {
+        Given::Unsent => Ok(Reply::Unsent),
+        Given::Got(answer) => receive_reply(answer),
+    }
+}
+
+/// The reply to an outbox that was offered.
+fn resent_reply(answer: Resent) -> Result<Reply, NoMemory>
+    ensures told { IsReply (resent_reply answer) result }
+    ensures entries { IfOk result HasItsEntries }
+{
+    match answer {
+        Resent::Took(steps) => Ok(Reply::Took(steps)),
+        Resent::Kept => Ok(Reply::Kept),
+        Resent::Nothing => Ok(Reply::Nothing),
+        Resent::NoMemory => Err(NoMemory),
+    }
+}
+
+/// The reply to bytes that were offered.
+fn raw_reply(answer: RawGot) -> Result<Reply, NoMemory>
+    ensures told { IsReply (raw_reply answer) result }
+    ensures entries { IfOk result HasItsEntries }
+{
+    match answer {
+        RawGot::Bad(fault) => Ok(Reply::BadFrame(fault.number())),
+        RawGot::Got(answer) => receive_reply(answer),
+        RawGot::NoMemory => Err(NoMemory),
+    }
+}
+
+/// The reply to settling.
+fn settle_reply(answer: Settle) -> Result<Reply, NoMemory>
+    ensures told { IsReply (settle_reply answer) result }
+    ensures entries { IfOk result HasItsEntries }
+{
+    match answer {
+        Settle::Settled => Ok(Reply::Settled),
+        Settle::Unsettled => Ok(Reply::Unsettled),
+        Settle::NoMemory => Err(NoMemory),
+    }
+}
