@@ -1,15 +1,16 @@
-//! Fills a part of a replica and empties it, many times, for `bench/run` to measure.
+//! Fills a part of a replica and empties it, many times, or lets whole replicas send, for `bench/run` to measure.
 //!
-//! Its words are the part (`window`, `buffer`, `matrix`, `outbox`, `log` or `items`); how many members the store has, 1 to
-//! 16; its window, 1 to 64; how much of the room is filled, in hundredths, or how many hundreds of items there are; the step:
-//! `order`, at the buffer `reverse` too, and at the log and the items those of their modules; and how many turns there are. It
-//! prints how many messages or steps went through the part.
+//! Its words are the part (`window`, `buffer`, `matrix`, `outbox`, `log`, `items` or `replica`); how many members the store
+//! has, 1 to 16; its window, 1 to 64; how much of the room is filled, in hundredths, or how many hundreds of items there are;
+//! the step: `order`, at the buffer `reverse` too, and at the log, the items and replicas those of their modules; and how many
+//! turns there are. It prints how many messages or steps went through the part.
 #![tactic(auto)]
 
 mod buffer;
 mod items;
 mod log;
 mod matrix;
+mod replica;
 mod sending;
 mod updates;
 mod window;
@@ -54,6 +55,7 @@ fn main(rt: HostRuntime) -> Result<()> {
     let step = step.as_str();
     let messages = match part.as_str() {
         "items" => items::measure(alloc, n, w, filled, step, turns)?,
+        "replica" => replica::measure(alloc, n, w, filled, step, turns)?,
         _ if filled > 100 => bail!("more than the room"),
         "buffer" => buffer::measure(alloc, n, w, filled, is_reverse(step)?, turns)?,
         "log" => log::measure(alloc, n, w, filled, step, turns)?,

@@ -1,4 +1,4 @@
-//! Adds and removes of numbers as values of sets.
+//! Adds and removes of numbers as values of sets, and increments of counters.
 
 ghost use Rattle.std.specs.Prelude.{◌≡◌, pos, IfOk};
 ghost use Rattle.causal_model.specs.Query.{amount_of};
@@ -42,6 +42,18 @@ pub fn remove(alloc: Global, letter: u8, number: u32) -> Result<Update>
 {
     let Ok(update) = Update::new(set(alloc, letter)?, Act::Rmv(value(alloc, number)?)) else {
         bail!("a set has no remove");
+    };
+    Ok(update)
+}
+
+/// The increment of a counter by one.
+pub fn inc(alloc: Global, letter: u8) -> Result<Update> {
+    let object = ObjectId {
+        kind: Kind::Counter,
+        key: Key::read(alloc, &[letter])?,
+    };
+    let Ok(update) = Update::new(object, Act::Inc(1)) else {
+        bail!("a counter has no increment");
     };
     Ok(update)
 }

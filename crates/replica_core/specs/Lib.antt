@@ -1,11 +1,15 @@
 pub mod Numbers
 pub mod Standing
 pub mod Rules
+pub mod Settling
+pub mod Steps
 pub use Rattle.causal_model.specs.Counts
 pub use Rattle.causal_model.specs.Chapter
 pub use Rattle.causal_model.specs.History
 pub use Rattle.causal_model.specs.Stability
 pub use Rattle.causal_model.specs.Sending
+pub use Rattle.causal_model.specs.Receiving
+pub use Rattle.causal_model.specs.Journal
 pub use Rattle.causal_model.specs.Query
 pub use Rattle.op_base.specs.Message
 pub use Rattle.op_base.specs.Object

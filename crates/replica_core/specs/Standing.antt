@@ -1,14 +1,64 @@
--- When the fields of a replica stand for messages that it delivered.
-use Rattle.std.specs.Prelude.{◌≡◌, ℕ, List, IsTrue}
-use Rattle.op_base.specs.declared.message.Message.{Message}
-use Rattle.causal_model.specs.Counts.{are_carried}
-use Rattle.causal_model.specs.Chapter.{is_chapter}
+-- When the fields of a replica stand for a state: a history, which they need not keep, and the early messages. One set of
+-- fields stands for many histories.
+use Rattle.std.specs.Prelude.{◌≡◌, ℕ, ◌*◌, Bool, List}
+use Rattle.causal_model.specs.Covering.{store_keeps, store_covers}
+use Rattle.causal_model.specs.History.{epoch_of}
+use Rattle.causal_model.specs.Receiving.{State, counted}
+use Rattle.causal_model.specs.Sending.{outbox_of, is_noop_due}
+use Rattle.causal_model.specs.States.{IsState}
+use Rattle.stability_matrix.specs.Rows.{Known}
+use Rattle.stability_matrix.specs.Standing.{IsMatrixOf}
+use Rattle.tag_window.specs.Window.{Window}
+use Rattle.tag_window.specs.History.{IsWindowOf}
+use Rattle.causal_buffer.specs.Buffer.{Buffer}
+use Rattle.causal_buffer.specs.Standing.{IsBufferOf}
+use Rattle.polog.specs.Value.{Log}
+use Rattle.polog.specs.Standing.{IsLogOf}
+use Rattle.stable_state.specs.Shelf.{Shelved}
+use Rattle.stable_state.specs.Standing.{AreSettledOf}
+use Rattle.outbox.specs.Sent.{Sent}
 
--- Member me of n members, with this window, this limit and these kept messages, stands for messages.
-pub record Standing (me n w limit : ℕ) (kept h : List Message) : Type 0 where
-  -- they are a chapter of the member
-  pub is_chapter : IsTrue (is_chapter n w me h)
-  -- each can be carried in the store
-  pub are_carried : IsTrue (are_carried limit h)
-  -- they are kept, in order
-  pub keeps_all : kept ≡ h
+-- the fields of a replica, as contracts see its parts
+pub record Fields : Type 0 where
+  pub me : ℕ
+  pub n : ℕ
+  pub w : ℕ
+  pub limit : ℕ
+  pub epoch : ℕ
+  pub counts : List ℕ
+  pub matrix : Known
+  pub window : Window
+  pub buffer : Buffer
+  pub log : Log
+  pub items : Shelved
+  pub outbox : Sent
+  pub due : Bool
+
+-- fields stand for a state
+pub record Standing (f : Fields) (s : State) : Type 0 where
+  -- it is a state that a replica can be in: a history of its member, none of whose messages is above the limit, and early
+  -- messages that are neither old nor far
+  pub is_state : IsState f.w f.limit s
+  pub of_member : s.history.present.me ≡ f.me
+  pub of_store : s.history.present.n ≡ f.n
+  pub in_epoch : epoch_of s.history ≡ f.epoch
+  -- the counts are how many messages of each member were delivered
+  pub counts : f.counts ≡ counted s.history
+  -- the rows are the known vectors
+  pub matrix : IsMatrixOf f.n f.me s.history.present.messages f.matrix
+  -- the timestamps of exactly the unstable messages are held, each with whether it is a no-op
+  pub window : IsWindowOf f.n f.w f.me s.history.present.messages f.window
+  -- exactly the early messages are held
+  pub buffer : IsBufferOf f.w s f.buffer
+  -- the log is that of the history, and the items are its settled ones
+  pub log : IsLogOf store_keeps store_covers f.n f.me s.history.present.messages f.log
+  pub log_room : f.log.room ≡ f.n * f.w
+  pub items : AreSettledOf s.history f.items
+  -- the own messages that aren't stable are sent again, oldest first
+  pub outbox : f.outbox ≡ record { n = f.n; w = f.w; messages = outbox_of f.n f.me s.history.present.messages }
+  -- whether a no-op is due
+  pub due : f.due ≡ is_noop_due f.me s.history.present.messages
+
+-- fields stand for some state
+abbrev pub StandsForSome : Fields → Type 0
+StandsForSome f = (s : State) × Standing f s

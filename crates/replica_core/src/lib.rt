@@ -1,14 +1,20 @@
-//! One replica: it sends operations of its own, and answers queries from the messages that it has.
+//! One replica: it sends operations of its own, receives those of others and delivers them in causal order, and answers
+//! queries. It forgets timestamps and messages once they are stable, and answers as one that forgets nothing.
 //!
-//! Its contracts speak of every history that its fields stand for, in the words of `causal_model`.
+//! That a replica keeps a partially ordered log beside a plain state, and moves into the state what is stable, is the idea
+//! of Baquero, Almeida and Shoker (arXiv 1710.04469); the windows, no-ops and checks are this project's own profile. The
+//! contracts speak of every history that a replica's fields stand for, in the words of `causal_model`.
 #![tactic(auto)]
 
 mod answers;
 mod numbers;
+mod queries;
+mod receiving;
 mod replica;
-#[cfg(test)]
-mod tests;
+mod sending;
+mod settling;
+mod step;
 
-pub use answers::{CreateFault, Local};
+pub use answers::{Beat, CreateFault, Local, Receive, Refusal};
 pub use numbers::are_numbers;
 pub use replica::Replica;

@@ -1,27 +1,25 @@
 //! A replica of a store.
-//!
-//! That operations are sent as themselves and delivered in causal order is the idea of Baquero, Almeida and Shoker
-//! (arXiv 1710.04469). Until stability is built, a replica keeps its whole history.
 
-ghost use Rattle.std.specs.Prelude.{◌≡◌, ◌+◌, ◌-◌, ◌*◌, ◌^◌, ◌<◌, ◌≤◌, ◌↔◌, ℤ, pos, neg_ℤ, ◌<ℤ◌, List, [], ◌∷◌, ◌++◌, length, IsTrue, IfOk, OnErr, IsErrOf, false};
-ghost use Rattle.op_base.specs.Message.{fits};
-ghost use Rattle.op_base.specs.declared.message.Message.{Message};
-ghost use Rattle.op_base.specs.declared.name.Kind.TheVariants as kinds;
-ghost use Rattle.op_base.specs.declared.operation.Op.TheVariants as op;
-ghost use Rattle.causal_model.specs.Counts.{are_carried, next_tag};
-ghost use Rattle.causal_model.specs.Chapter.{is_chapter};
-ghost use Rattle.causal_model.specs.History.{events_in};
-ghost use Rattle.causal_model.specs.Sending.{own_message};
-ghost use Rattle.causal_model.specs.Query.{amount_of, share_of, counter_sum};
+ghost use Rattle.std.specs.Prelude.{◌≡◌, ◌↔◌, IsTrue, IfOk, IsErrOf, false};
+ghost use Rattle.causal_model.specs.Receiving.{start};
+ghost use Rattle.stable_state.specs.Shown.{shown};
 ghost use Rattle.replica_core.specs.Numbers.{are_numbers};
+ghost use Rattle.replica_core.specs.Standing.{StandsForSome};
 
-use crate::answers::{CreateFault, Local};
+use crate::answers::CreateFault;
 use crate::numbers::are_numbers;
-use op_base::{Act, Message, MessageList, NoMemory, ObjectId, Op, Tag, Update, updates_are_valid};
+use causal_buffer::CausalBuffer;
+use op_base::{NoMemory, Tag};
+use outbox::Outbox;
+use polog::Polog;
+use stability_matrix::Matrix;
+use stable_state::Items;
 use std::alloc::Global;
+use tag_window::TagWindow;
 
-/// One member's copy of a store.
-#[derive(Debug, Drop)]
+/// One member's copy of a store. These fields are all that it has: of the messages that it delivered it keeps those that
+/// aren't stable, as far as they are needed, and a plain state.
+#[derive(Drop)]
 pub struct Replica {
     /// The member that it is.
     pub me: u8,
@@ -31,24 +29,41 @@ pub struct Replica {
     pub w: u8,
     /// How many messages it may send.
     pub limit: u32,
-    /// The messages that it has, oldest first.
-    pub history: MessageList,
+    /// The epoch that it is in.
+    pub epoch: u32,
+    /// How many messages of each member were delivered in this epoch.
+    pub counts: Tag,
+    /// What each member is known to have.
+    pub matrix: Matrix,
+    /// The timestamps of the unstable messages.
+    pub window: TagWindow,
+    /// The early messages.
+    pub buffer: CausalBuffer,
+    /// The unstable messages that nothing covers, of kinds that are logged.
+    pub log: Polog,
+    /// What is settled.
+    pub items: Items,
+    /// The own messages that aren't stable.
+    pub outbox: Outbox,
+    /// Whether a no-op is due.
+    pub due: bool,
     pub ghost numbers: { IsTrue (are_numbers me n w limit) },
-    pub ghost is_chapter: { IsTrue (is_chapter n w me history) },
-    pub ghost are_carried: { IsTrue (are_carried limit history) },
+    /// There is a state that these fields stand for.
+    pub ghost stands: { ∥ StandsForSome (record { me = me; n = n; w = w; limit = limit; epoch = epoch; counts = counts; matrix = matrix; window = window; buffer = buffer; log = log; items = shown items; outbox = outbox; due = due }) ∥₁ },
 }
 
 impl Replica {
-    ghost use Rattle.replica_core.specs.Rules.{StandsFor, SameSettings, AnswersLocal, OnSent, OnRefusal};
+    ghost use Rattle.replica_core.specs.Rules.{StandsFor};
 
-    /// A replica that has no message yet.
+    /// A replica that has no message yet, in epoch 0. It takes the memory for all but its items.
     pub fn create(alloc: Global, me: u8, n: u8, w: u8, limit: u32) -> Result<Replica, CreateFault>
         ensures bad_numbers { IsErrOf result CreateFault.BadNumbers ↔ (are_numbers me n w limit ≡ false) }
         ensures me { IfOk result (λ r. r.me ≡ me) }
         ensures n { IfOk result (λ r. r.n ≡ n) }
         ensures w { IfOk result (λ r. r.w ≡ w) }
         ensures limit { IfOk result (λ r. r.limit ≡ limit) }
-        ensures empty { IfOk result (λ r. StandsFor r []) }
+        ensures epoch { IfOk result (λ r. r.epoch ≡ 0) }
+        ensures empty { IfOk result (λ r. StandsFor r (start n me)) }
     {
         if !are_numbers(me.into(), n.into(), w.into(), limit) {
             return Err(CreateFault::BadNumbers);
@@ -58,103 +73,15 @@ impl Replica {
             n,
             w,
             limit,
-            history: MessageList::new(alloc),
+            epoch: 0,
+            counts: Tag::zero(n),
+            matrix: Matrix::new(n, me),
+            window: TagWindow::create(alloc, n, w)?,
+            buffer: CausalBuffer::create(alloc, n, w)?,
+            log: Polog::create(alloc, n, w)?,
+            items: Items::new(alloc),
+            outbox: Outbox::create(alloc, n, w)?,
+            due: false,
         })
-    }
-
-    /// Sends an update: the message is put at the end of the history, and handed out. Every refusal leaves the
-    /// replica as it was.
-    pub fn local(&mut self, alloc: Global, update: &Update) -> Local
-        ensures answer { (h : List Message) → StandsFor self.old h → AnswersLocal self.old h update.now result self.new }
-        ensures settings { SameSettings self.old self.new }
-        ensures refused { OnRefusal result (self.new.history ≡ self.old.history) }
-        ensures fits { OnSent result (λ m. IsTrue (fits self.old.n m)) }
-    {
-        let sent = self.history.len() as u64;
-        if sent == u64::from(self.limit) {
-            return Local::End;
-        }
-        match self.send(alloc, update) {
-            Ok(message) => Local::Sent(message),
-            Err(NoMemory) => Local::NoMemory,
-        }
-    }
-
-    /// Puts the own message of an update at the end of the history, and hands it out.
-    fn send(&mut self, alloc: Global, update: &Update) -> Result<Message, NoMemory>
-        requires { length self.old.history < self.old.limit }
-        ensures message { IfOk result (λ m. m ≡ own_message self.old.n self.old.me self.old.history (op.Update update.now)) }
-        ensures sent { IfOk result (λ m. self.new.history ≡ self.old.history ++ m ∷ []) }
-        ensures err { OnErr result (self.new.history ≡ self.old.history) }
-        ensures settings { SameSettings self.old self.new }
-    {
-        updates_are_valid(update);
-        let message = Message {
-            origin: self.me,
-            tag: self.next_tag(),
-            op: Op::Update(update.copy(alloc)?),
-        };
-        self.history.push(message.copy(alloc)?)?;
-        Ok(message)
-    }
-
-    /// The timestamp of the next own message. The one member's count is the length of its history.
-    fn next_tag(&self) -> Tag
-        requires { length self.now.history < self.now.limit }
-        ensures { result ≡ next_tag self.now.n self.now.me self.now.history }
-    {
-        let mut tag = Tag::zero(self.n);
-        tag.set(self.me, self.history.len() as u32 + 1);
-        tag
-    }
-
-    /// The value of a counter: all increments less all decrements.
-    pub fn count(&self, object: &ObjectId) -> i128
-        requires { object.now.kind ≡ kinds.Counter }
-        ensures { (h : List Message) → StandsFor self.now h → result ≡ counter_sum object.now (events_in 0 h) }
-    {
-        counter_sum(object, self.history.as_slice())
-    }
-}
-
-/// The value of a counter after a history.
-fn counter_sum(object: &ObjectId, history: &[Message]) -> i128
-    ensures { result ≡ counter_sum object.now (events_in 0 history.now) }
-{
-    let mut sum: i128 = 0;
-    for message in history {
-        sum += share_of(object, &message.op);
-    }
-    sum
-}
-
-/// What an operation adds to a counter.
-fn share_of(object: &ObjectId, op: &Op) -> i128
-    ensures share { result ≡ share_of object.now op.now }
-    ensures low { neg_ℤ (pos (2 ^ 32)) <ℤ result }
-    ensures high { result <ℤ pos (2 ^ 32) }
-{
-    match op {
-        Op::NoOp => 0,
-        Op::Update(update) => {
-            if update.object.is_same(object) {
-                amount_of(&update.act)
-            } else {
-                0
-            }
-        }
-    }
-}
-
-/// What an act adds to a counter.
-fn amount_of(act: &Act) -> i128
-    ensures amount { result ≡ amount_of act.now }
-    ensures low { neg_ℤ (pos (2 ^ 32)) <ℤ result }
-    ensures high { result <ℤ pos (2 ^ 32) }
-{
-    match act {
-        Act::Inc(amount) => i128::from(*amount),
-        Act::Dec(amount) => -i128::from(*amount),
-        _ => 0,
     }
 }

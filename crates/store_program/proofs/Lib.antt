@@ -1,10 +1,6 @@
-pub mod Places
+pub mod Splits
+pub mod Transcripts
+pub mod Standing
+pub mod Going
+pub mod Ending
 pub mod WordLemmas
-pub mod LineLemmas
-pub mod Commands
-pub mod Running
-pub mod Progress
-pub mod Beginning
-mod Giving
-pub mod Judgement
-pub mod Answering

@@ -1,72 +1,19 @@
--- Lemmas on the words of a line.
-use Rattle.std.proofs.Common.{◌≡◌, ℕ, ◌<◌, Bool, true, false, not, List, [], ◌∷◌, length, take, drop, get_or, refl, sym, ap, subst, ◌∙◌, arith, zero, suc, inl, inr, ◌⊎◌, add-one, drop-cons}
-use Rattle.std.proofs.Math.Nat.{eq-or-lt_of_le}
-use Rattle.std.proofs.Math.Seq.{take-length, drop-length}
-use Rattle.std.specs.List.{slice_split, position_or_len, filter, before_first, after_first}
-use Rattle.std.proofs.lemmas.List.Splits.{slice_split_first, slice_split-cons_yes}
-use Rattle.std.proofs.lemmas.List.Sums.{prefix_len-le-length, passes_at_first}
-use Rattle.store_program.proofs.Places.{place-no, place-yes, split_whole}
-use Rattle.store_program.specs.Lines.{is_blank, has_byte, words_of, IsNotBlank}
+-- Lemmas on the words of a run.
+use Rattle.std.proofs.Common.{◌≡◌, ◌∙◌, true, refl, ap, List}
+use Rattle.clap.specs.Words.{Row, Text, first_of, first_value, rows_of, is_simple, is_simple_and_free}
+use Rattle.clap.specs.declared.parser.matches.Found.{Found}
+use Rattle.clap.proofs.OnLiterals.{clap_on_literals}
+use Rattle.clap.proofs.WalkLemmas.{first_value-rows}
+use Rattle.store_program.specs.Words.{store_app, ask_for_script}
 
--- a blank at the front of a line is in no word
-words-blank : (b : ℕ) (line : List ℕ) → is_blank b ≡ true → words_of (b ∷ line) ≡ words_of line
-words-blank b line h = ap (filter has_byte) (slice_split-cons_yes is_blank b line h)
+pub command_is_simple : is_simple store_app ≡ true
+unfolding clap_on_literals
+command_is_simple = refl
 
--- the place of a line's first byte that isn't blank
-abbrev pub start_of : List ℕ → ℕ
-start_of line = position_or_len (λ b. not (is_blank b)) line
+pub command_is_free : is_simple_and_free store_app ≡ true
+unfolding clap_on_literals
+command_is_free = refl
 
--- the blanks before that are in no word
-pub words-start : (line : List ℕ) → words_of (drop (start_of line) line) ≡ words_of line
-words-start [] = refl
-words-start (b ∷ line) = by_test (is_blank b) refl (words-start line) where
-  by_test : (t : Bool) → is_blank b ≡ t → words_of (drop (start_of line) line) ≡ words_of line → words_of (drop (start_of (b ∷ line)) (b ∷ line)) ≡ words_of (b ∷ line)
-  by_test true h more = rw (place-no (λ x. not (is_blank x)) b line (ap not h)) (more ∙ sym (words-blank b line h))
-  by_test false h more = rw (place-yes (λ x. not (is_blank x)) b line (ap not h)) refl
-
-pub begins-start : (line : List ℕ) → IsNotBlank (drop (start_of line) line)
-begins-start [] = tt
-begins-start (b ∷ line) = by_test (is_blank b) refl (begins-start line) where
-  by_test : (t : Bool) → is_blank b ≡ t → IsNotBlank (drop (start_of line) line) → IsNotBlank (drop (start_of (b ∷ line)) (b ∷ line))
-  by_test true h more = rw (place-no (λ x. not (is_blank x)) b line (ap not h)) more
-  by_test false h more = rw (place-yes (λ x. not (is_blank x)) b line (ap not h)) h
-
-has_byte-take : (n : ℕ) (xs : List ℕ) → 0 < n → 0 < length xs → has_byte (take n xs) ≡ true
-has_byte-take zero xs h k = absurd (omega arith)
-has_byte-take (suc n) [] h k = absurd (omega arith)
-has_byte-take (suc n) (x ∷ xs) h k = refl
-
--- a word in front of other parts of a line
-words-part : (word : List ℕ) (parts : List (List ℕ)) → has_byte word ≡ true → filter has_byte (word ∷ parts) ≡ word ∷ filter has_byte parts
-words-part word parts h = rw h refl
-
--- the place of a line's first blank, and what stands from there on
-abbrev pub end_of : List ℕ → ℕ
-end_of line = position_or_len is_blank line
-
-abbrev pub behind_word : List ℕ → List ℕ
-behind_word line = drop (end_of line) line
-
-starts : (line : List ℕ) → 0 < length line → IsNotBlank line → 0 < end_of line
-starts [] h k = h
-starts (b ∷ line) h k = omega (arith, place-no is_blank b line k)
-
--- where a line begins with no blank, its first word ends at its first blank
-pub words-first : (line : List ℕ) → 0 < length line → IsNotBlank line → words_of line ≡ before_first is_blank line ∷ words_of (behind_word line)
-words-first line long begins = by_place (eq-or-lt_of_le (prefix_len-le-length (λ x. not (is_blank x)) line)) where
-  is_word : has_byte (before_first is_blank line) ≡ true
-  is_word = has_byte-take (end_of line) line (starts line long begins) long
-
-  by_place : (end_of line ≡ length line) ⊎ (end_of line < length line) → words_of line ≡ before_first is_blank line ∷ words_of (behind_word line)
-  by_place (inl whole) =
-      let front : before_first is_blank line ≡ line = ap (λ k. take k line) whole ∙ take-length line in
-      let rest : behind_word line ≡ [] = ap (λ k. drop k line) whole ∙ drop-length line in
-      let only = words-part line [] (subst (λ w. has_byte w ≡ true) front is_word) in
-      ap (filter has_byte) (split_whole is_blank line whole) ∙ only
-      ∙ sym (ap (λ w. w ∷ words_of (behind_word line)) front ∙ ap (λ r. line ∷ words_of r) rest)
-  by_place (inr cut) =
-      let blank = words-blank (get_or line (end_of line) 0) (after_first is_blank line) (passes_at_first is_blank line 0 cut) in
-      let rest : behind_word line ≡ get_or line (end_of line) 0 ∷ after_first is_blank line = rw add-one (drop-cons line (end_of line) 0 cut) in
-      let parts = words-part (before_first is_blank line) (slice_split is_blank (after_first is_blank line)) is_word in
-      ap (filter has_byte) (slice_split_first is_blank line 0 cut) ∙ parts
-      ∙ sym (ap (λ r. before_first is_blank line ∷ r) (ap words_of rest ∙ blank))
+-- what matches say is what their rows say
+pub said_by_rows : (f : Found) (rows : List Row) → rows_of f ≡ rows → ask_for_script (first_value f) ≡ ask_for_script (λ name. first_of name rows)
+said_by_rows f rows e = λ i. ask_for_script (λ (name : Text). (first_value-rows f name ∙ ap (λ (rows : List Row). first_of name rows) e) i)

@@ -1,12 +1,4 @@
-pub mod Lines
-pub mod Numbers
-pub mod Commands
-pub mod Replies
-pub mod Transcript
-pub mod Ranges
-pub mod Running
-pub mod Beginning
-pub mod Reading
+pub mod Words
+pub mod Feeding
 pub mod Run
-pub mod Judging
 pub mod Statuses

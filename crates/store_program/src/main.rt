@@ -1,16 +1,12 @@
-//! The store's program: it reads a script from standard input, runs it, and writes the transcript.
+//! The store's program: it runs a script from standard input, line by line, and writes the transcript.
 #![tactic(auto)]
 
-mod command;
+mod feed;
 mod line;
-mod number;
-mod read;
-mod reply;
 mod run;
-mod script;
 #[cfg(test)]
 mod tests;
-mod word;
+mod words;
 
 use run::{Status, run};
 use std::process::ExitCode;
@@ -19,7 +15,7 @@ use std::{env, io};
 use store_io::{OpenGate, StdinSource, StdoutSink};
 
 fn main(rt: HostRuntime) -> ExitCode {
-    let words = match words(&rt) {
+    let words = match given_words(&rt) {
         Ok(words) => words,
         Err(status) => return status.exit_code(),
     };
@@ -37,7 +33,7 @@ fn main(rt: HostRuntime) -> ExitCode {
 }
 
 /// The program's words, its own name first. Words that aren't UTF-8 are none of a run's.
-fn words(rt: &(impl Env + AllocGlobal)) -> Result<Vec<String>, Status> {
+fn given_words(rt: &(impl Env + AllocGlobal)) -> Result<Vec<String>, Status> {
     let words = match env::args(rt) {
         Ok(words) => words.collect(rt.alloc()),
         Err(error) if error.kind() == io::ErrorKind::InvalidData => return Err(Status::BadWords),

@@ -1,21 +1,33 @@
 //! The top call: a run of the program over words, a source and a sink.
 
-ghost use Rattle.std.specs.Prelude.{◌≡◌, ◌⊎◌, ◌↔◌, ◌<◌, false, List, ℕ, Some, map, length, take, IfOk, OnErr, Ok, IsTrue};
+ghost use Rattle.std.specs.Prelude.{◌≡◌, ◌⊎◌, ◌++◌, ◌∷◌, [], ◌<◌, false, List, ℕ, Option, Some, map, IfErr, OnOk, OnErr, IsTrue, MatchResult};
 ghost use Rattle.std.specs.Process.{exit_status};
 ghost use Rattle.std.specs.String.{string_bytes};
+ghost use Rattle.std.specs.Str.Lines.{strip_carriage_return};
 ghost use Rattle.store_io.specs.Bytes.{Took};
-ghost use Rattle.store_program.specs.Reading.{GaveSome};
-ghost use Rattle.store_program.specs.Transcript.{transcript};
-ghost use Rattle.store_program.specs.Judging.{IsReadAs, JudgedAs, HasRange, ConcludesAs, RunsInput, is_end, is_unbroken};
-ghost use Rattle.store_program.specs.Run.{ask_for_script, AnswersInput, verdict, IsGoodScript};
+ghost use Rattle.script_net.specs.Lines.{ended_lines_of};
+ghost use Rattle.script_net.specs.Transcript.{transcript};
+ghost use Rattle.store_program.specs.Feeding.{GoesOn, StopsAs, IsFed, Concludes};
+ghost use Rattle.store_program.specs.Run.{AnswersInput, IsGoodScript, TookFront};
 ghost use Rattle.store_program.specs.Statuses.{number_of_status};
+ghost use Rattle.store_program.specs.Words.{are_valid};
 
-use crate::read::{Ending, MOST_INPUT, read_all};
-use crate::script::{Start, find_header, run_script};
+use crate::feed::{Feed, Stop};
+use crate::line::split_line;
+use crate::words::are_valid;
 use op_base::{NoMemory, Text};
 use std::alloc::Global;
 use std::process::ExitCode;
 use store_io::{Gate, Sink, Source, write_whole};
+
+/// An input has at most so many bytes.
+pub const MOST_INPUT: usize = 4194304;
+
+/// A read asks for at most so many bytes.
+const MOST_PIECE: usize = 65536;
+
+/// Replies are written once there are so many bytes of them.
+const MOST_HELD: usize = 65536;
 
 /// How a run ended. The numbers are the program's exit statuses.
 #[derive(Clone, Copy, Debug, PartialEq, Eq)]
@@ -24,7 +36,7 @@ pub enum Status {
     Fine = 0,
     /// The words aren't those of a run.
     BadWords = 1,
-    /// The input doesn't begin with a header.
+    /// The input doesn't begin with a header of a script.
     BadHeader = 2,
     /// The input has more than 4194304 bytes.
     TooLong = 3,
@@ -45,95 +57,140 @@ impl Status {
     }
 }
 
-/// What becomes of an input.
-#[derive(Drop)]
-enum Judged {
-    /// It isn't run, for this reason.
-    Refused(Status),
-    /// It was run, and this is its transcript.
-    Ran(Text),
-}
-
-/// Whether the words ask for a script to be run: the program's own name, and `script`.
-fn is_script(words: &[String]) -> bool
-    ensures { result ≡ ask_for_script (map string_bytes words.now) }
+/// Writes the replies that are held, and holds none.
+fn flush<K: Sink>(out: &mut Text, sink: &mut K) -> Result<(), Status>
+    ensures empty { out.new ≡ [] }
+    ensures ok { (old : Option (List ℕ)) (written : List ℕ) → Took old (K.held sink.old) written
+        → OnOk result (Took old (K.held sink.new) (written ++ out.old)) }
+    ensures front { (old : Option (List ℕ)) (written : List ℕ) → Took old (K.held sink.old) written
+        → OnErr result (TookFront old (K.held sink.new) (written ++ out.old)) }
+    ensures some { OnErr result (out.old ≡ [] → ⊥) }
+    ensures steady { OnOk result (K.faults sink.new ≡ K.faults sink.old) }
+    ensures fault { OnErr result (K.faults sink.old < K.faults sink.new) }
+    ensures status { IfErr result (λ status. status ≡ Status.WriteFault) }
 {
-    match words {
-        [_, mode] => mode.as_str() == "script",
-        _ => false,
+    let written = write_whole(sink, out.as_slice());
+    out.truncate(0);
+    match written {
+        Ok(()) => Ok(()),
+        Err(_) => Err(Status::WriteFault),
     }
 }
 
-/// The bytes that an input may have.
-fn head(bytes: &[u8]) -> &[u8]
-    ensures { result.now ≡ take MOST_INPUT bytes.now }
+/// Ends a run that has no memory: the replies that are held are still written, where the sink takes them.
+fn give_up<K: Sink>(out: &mut Text, sink: &mut K) -> Status
+    ensures status { result ≡ Status.NoMemory }
+    ensures front { (old : Option (List ℕ)) (written : List ℕ) → Took old (K.held sink.old) written
+        → TookFront old (K.held sink.new) (written ++ out.old) }
 {
-    if bytes.len() > MOST_INPUT {
-        &bytes[..MOST_INPUT]
-    } else {
-        bytes
+    match flush(out, sink) {
+        Ok(()) => Status::NoMemory,
+        Err(_) => Status::NoMemory,
     }
 }
 
-/// Whether the source gave its end.
-fn is_end(ending: Ending) -> bool
-    ensures { result ≡ is_end ending }
-{
-    matches!(ending, Ending::End)
-}
-
-/// Judges an input by its length and its header, and runs it where it may be run.
-fn judge(alloc: Global, bytes: &[u8], ending: Ending) -> Result<Judged, NoMemory>
-    requires { IsReadAs ending (length bytes.now) }
-    ensures { IfOk result (JudgedAs (verdict (is_unbroken ending) bytes.now) bytes.now) }
-{
-    let start = find_header(alloc, head(bytes), is_end(ending))?;
-    conclude(alloc, start, ending)
-}
-
-/// Runs the lines behind a header that bytes begin with, where all of them were read.
-fn conclude(alloc: Global, start: Start<'_>, ending: Ending) -> Result<Judged, NoMemory>
-    requires { HasRange start }
-    ensures { IfOk result (ConcludesAs ending start.entry) }
-{
-    match (start, ending) {
-        (Start::NoHeader, _) => Ok(Judged::Refused(Status::BadHeader)),
-        (Start::NoCommand, Ending::End) => Ok(Judged::Refused(Status::BadHeader)),
-        (Start::Header(header, rest), Ending::End) => {
-            Ok(Judged::Ran(run_script(alloc, header, rest)?))
-        }
-        (_, Ending::TooLong) => Ok(Judged::Refused(Status::TooLong)),
-        (_, Ending::Failed) => Ok(Judged::Refused(Status::ReadFault)),
-    }
-}
-
-/// Reads the input, runs it and writes its transcript.
-fn run_input<S: Source, K: Sink>(
+/// Runs the line of which these are the last bytes, and writes what is held where it is enough.
+fn run_line<K: Sink>(
     alloc: Global,
-    source: &mut S,
+    feed: &mut Feed,
+    bytes: &[u8],
+    out: &mut Text,
     sink: &mut K,
-) -> Result<Status, NoMemory>
-    ensures ran { IfOk result (RunsInput (S.left source.old) (S.left source.new) (S.faults source.old) (S.faults source.new) (K.held sink.old) (K.held sink.new)) }
-    ensures write_fault { result ≡ Ok Status.WriteFault → K.faults sink.old < K.faults sink.new }
-    ensures given { OnErr result (GaveSome (S.left source.old) (S.left source.new)) }
-    ensures unwritten { OnErr result (K.held sink.new ≡ K.held sink.old) }
+) -> Result<(), Status>
+    ensures part { OnOk result (feed.new.part ≡ []) }
+    ensures goes { (done : List (List ℕ)) (old : Option (List ℕ)) (before : ℕ) → GoesOn feed.old.stage done out.old old (K.held sink.old) before (K.faults sink.old)
+        → MatchResult result
+        (λ _. GoesOn feed.new.stage (done ++ strip_carriage_return (feed.old.part ++ bytes.now) ∷ []) out.new old (K.held sink.new) before (K.faults sink.new))
+        (λ status. StopsAs status (done ++ strip_carriage_return (feed.old.part ++ bytes.now) ∷ []) old (K.held sink.new) before (K.faults sink.new)) }
 {
-    let (bytes, ending) = read_all(alloc, source)?;
-    match judge(alloc, bytes.as_slice(), ending)? {
-        Judged::Refused(status) => Ok(status),
-        Judged::Ran(text) => match write_whole(sink, text.as_slice()) {
-            Ok(()) => Ok(Status::Fine),
-            Err(_) => Ok(Status::WriteFault),
-        },
+    match feed.end_line(alloc, bytes, out) {
+        Ok(()) => {}
+        Err(Stop::BadHeader) => return Err(Status::BadHeader),
+        Err(Stop::NoMemory) => return Err(give_up(out, sink)),
+    }
+    if out.len() < MOST_HELD {
+        return Ok(());
+    }
+    flush(out, sink)
+}
+
+/// Runs each line that ends in a piece, keeps what stands behind the last, and writes all replies.
+fn run_piece<K: Sink>(
+    alloc: Global,
+    feed: &mut Feed,
+    piece: &[u8],
+    out: &mut Text,
+    sink: &mut K,
+) -> Result<(), Status>
+    ensures fed { (bytes : List ℕ) (old : Option (List ℕ)) (before : ℕ) → IsFed feed.old bytes out.old old (K.held sink.old) before (K.faults sink.old)
+        → MatchResult result
+        (λ _. IsFed feed.new (bytes ++ piece.now) [] old (K.held sink.new) before (K.faults sink.new))
+        (λ status. StopsAs status (ended_lines_of (bytes ++ piece.now)) old (K.held sink.new) before (K.faults sink.new)) }
+    ensures empty { OnOk result (out.new ≡ []) }
+{
+    let mut rest = piece;
+    'lines: while let Some((line, after)) = split_line(rest) {
+        if let Err(status) = run_line(alloc, feed, line, out, sink) {
+            return Err(status);
+        }
+        rest = after;
+    }
+    match feed.keep(rest) {
+        Ok(()) => flush(out, sink),
+        Err(NoMemory) => Err(give_up(out, sink)),
     }
 }
 
-/// Runs the program: reads its words, and runs the script that the source has. Standard output gets the transcript
-/// and nothing else.
+/// Ends a script whose bytes have all come: its last line runs without a newline.
+fn finish<K: Sink>(alloc: Global, feed: &mut Feed, out: &mut Text, sink: &mut K) -> Status
+    ensures { (bytes : List ℕ) (old : Option (List ℕ)) (before : ℕ) → IsFed feed.old bytes out.old old (K.held sink.old) before (K.faults sink.old)
+        → Concludes result bytes old (K.held sink.new) before (K.faults sink.new) }
+{
+    if let Err(status) = run_line(alloc, feed, &[], out, sink) {
+        return status;
+    }
+    if feed.is_opening() {
+        return Status::BadHeader;
+    }
+    match flush(out, sink) {
+        Ok(()) => Status::Fine,
+        Err(status) => status,
+    }
+}
+
+/// Reads the input, and runs each line once it has come.
+fn run_input<S: Source, K: Sink>(alloc: Global, source: &mut S, sink: &mut K) -> Status
+    ensures { AnswersInput result (S.left source.old) (S.left source.new) (S.faults source.old) (S.faults source.new) (K.faults sink.old) (K.faults sink.new) (K.held sink.old) (K.held sink.new) }
+{
+    let mut buffer = [0; MOST_PIECE];
+    let mut feed = Feed::new(alloc);
+    let mut out = Text::new(alloc);
+    let mut count = 0;
+    'reading: loop {
+        // Where an input has all its bytes, one more shows that it is too long.
+        let room = (MOST_INPUT - count).min(MOST_PIECE).max(1);
+        let Ok(taken) = source.read(&mut buffer[..room]) else {
+            return Status::ReadFault;
+        };
+        if taken == 0 {
+            return finish(alloc, &mut feed, &mut out, sink);
+        }
+        if count == MOST_INPUT {
+            return Status::TooLong;
+        }
+        if let Err(status) = run_piece(alloc, &mut feed, &buffer[..taken], &mut out, sink) {
+            return status;
+        }
+        count += taken;
+    }
+}
+
+/// Runs the program: reads its words, and runs the script that the source has, line by line as it comes. Standard output
+/// gets the transcript and nothing else.
 ///
-/// Input is read whole before it is run, and the transcript is made whole before it is written. So where the source
-/// fails, the input is too long or memory runs out, nothing is written. `rt` and `gate` serve runs over several
-/// threads, which are not built yet.
+/// Each line that has come whole is run, and its reply written, before more is read. So where the source fails, the
+/// input is too long or memory runs out, the replies to the lines before are written. `rt` and `gate` serve runs over
+/// several threads, which are not built yet.
 pub fn run<R, S: Source, K: Sink, G: Gate + Sync>(
     _rt: &R,
     alloc: Global,
@@ -143,13 +200,14 @@ pub fn run<R, S: Source, K: Sink, G: Gate + Sync>(
     _gate: &G,
 ) -> Status
     // The words decide first, and then nothing is read or written.
-    ensures bad_words { (result ≡ Status.BadWords) ↔ (ask_for_script (map string_bytes words.now) ≡ false) }
-    ensures unread { result ≡ Status.BadWords → source.new ≡ source.old }
-    ensures unwritten { result ≡ Status.BadWords → sink.new ≡ sink.old }
+    ensures bad_words { result ≡ Status.BadWords → are_valid (map string_bytes words.now) ≡ false }
+    ensures refused { are_valid (map string_bytes words.now) ≡ false → (result ≡ Status.BadWords) ⊎ (result ≡ Status.NoMemory) }
+    ensures unread { are_valid (map string_bytes words.now) ≡ false → source.new ≡ source.old }
+    ensures unwritten { are_valid (map string_bytes words.now) ≡ false → sink.new ≡ sink.old }
 
     // What is read, answered and written, of the bytes that the source gave in the call.
-    ensures answers { IsTrue (ask_for_script (map string_bytes words.now))
-        → AnswersInput (S.left source.old) (S.left source.new) (S.faults source.old) (S.faults source.new) (K.held sink.old) (K.held sink.new) result }
+    ensures answers { IsTrue (are_valid (map string_bytes words.now))
+        → AnswersInput result (S.left source.old) (S.left source.new) (S.faults source.old) (S.faults source.new) (K.faults sink.old) (K.faults sink.new) (K.held sink.old) (K.held sink.new) }
 
     // A fault is told only where one happened in the call.
     ensures read_fault { result ≡ Status.ReadFault → S.faults source.old < S.faults source.new }
@@ -161,11 +219,9 @@ pub fn run<R, S: Source, K: Sink, G: Gate + Sync>(
         → S.faults source.new ≡ S.faults source.old → K.faults sink.new ≡ K.faults sink.old
         → (result ≡ Status.NoMemory) ⊎ ((result ≡ Status.Fine) × Took (K.held sink.old) (K.held sink.new) (transcript input)) }
 {
-    if !is_script(words) {
-        return Status::BadWords;
-    }
-    match run_input(alloc, source, sink) {
-        Ok(status) => status,
+    match are_valid(alloc, words) {
+        Ok(true) => run_input(alloc, source, sink),
+        Ok(false) => Status::BadWords,
         Err(NoMemory) => Status::NoMemory,
     }
 }

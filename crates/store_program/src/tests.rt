@@ -2,8 +2,7 @@
 
 ghost use Rattle.std.specs.Prelude.{◌≤◌};
 
-use crate::read::MOST_INPUT;
-use crate::run::{Status, run};
+use crate::run::{MOST_INPUT, Status, run};
 use std::alloc::{AllocError, Global};
 use std::process::ExitCode;
 use std::test::Fail;
@@ -72,14 +71,15 @@ fn script(rt: &HostRuntime, input: &[u8]) -> Result<(Status, Vec<u8>), AllocErro
 
 #[test]
 fn scripts_give_their_transcripts(rt: HostRuntime) -> Result<(), Fail> {
-    let cases: [(&[u8], Status, &[u8]); 26] = [
+    let cases: [(&[u8], Status, &[u8]); 27] = [
         (FIRST, Status::Fine, b"ok 1\n= 5\n"),
         // Headers.
         (b"", Status::BadHeader, b""),
         (b"\n# no command\n \t \r\n", Status::BadHeader, b""),
         (b"store 17 1\n", Status::BadHeader, b""),
         (b"store 2 2 1000001\n", Status::BadHeader, b""),
-        (b"store 2 1\n", Status::BadHeader, b""),
+        (b"store 2 1\n", Status::Fine, b""),
+        (b"live 2 2 1 0 0\n", Status::BadHeader, b""),
         (b"store 1 0\n", Status::BadHeader, b""),
         (b"store 1 65\n", Status::BadHeader, b""),
         (b"store 1 1 0\n", Status::BadHeader, b""),
@@ -107,7 +107,7 @@ fn scripts_give_their_transcripts(rt: HostRuntime) -> Result<(), Fail> {
         (
             b"store 1 1\ndo 0 counter:a inc 4294967295\ndo 0 counter:a inc 4294967296\ndo 0 counter:a dec 00000000001\nask 0 counter:a\n",
             Status::Fine,
-            b"ok 1\nbad 9\nbad 9\n= 4294967295\n",
+            b"ok 1\nbad 8\nbad 8\n= 4294967295\n",
         ),
         // Sums below 0, and counters apart.
         (
@@ -115,22 +115,22 @@ fn scripts_give_their_transcripts(rt: HostRuntime) -> Result<(), Fail> {
             Status::Fine,
             b"ok 1\nok 2\nok 3\n= -8589934590\n= 1\n= 0\n",
         ),
-        // What is no command, or not built.
+        // What is no command, by its fault, and a command of another kind.
         (
-            b"store 1 1\nfrob\ndo 0\ndo 1 counter:a inc 1\ndo x counter:a inc 1\ndo 0 counter: inc 1\ndo 0 counter:A inc 1\ndo 0 set:a inc 1\ndo 0 rcounter:a inc 1\n",
+            b"store 1 1\nfrob\ndo 0\ndo 1 counter:a inc 1\ndo x counter:a inc 1\ndo 0 counter: inc 1\ndo 0 counter:A inc 1\ndo 0 awset:a inc 1\ndo 0 rcounter:a inc 1\n",
             Status::Fine,
-            b"bad 9\nbad 9\nbad 9\nbad 9\nbad 9\nbad 9\nbad 9\nbad 9\n",
+            b"bad 2\nbad 3\nbad 4\nbad 4\nbad 5\nbad 5\nbad 6\nok 1\n",
         ),
         (
             b"store 1 1\ndo 0 counter:a add x\ndo 0 counter:a inc\ndo 0 counter:a inc x\ndo 0 counter:a inc 1 1\nask 0\nask 0 counter:a b\nstore 1 1\n",
             Status::Fine,
-            b"bad 9\nbad 9\nbad 9\nbad 9\nbad 9\nbad 9\nbad 9\n",
+            b"bad 6\nbad 6\nbad 8\nbad 3\nbad 3\nbad 3\nbad 2\n",
         ),
         // Keys of 32 and of 33 bytes.
         (
             b"store 1 1\ndo 0 counter:abcdefghijklmnopqrstuvwxyz_0.9-x inc 1\ndo 0 counter:abcdefghijklmnopqrstuvwxyz_0.9-xy inc 1\n",
             Status::Fine,
-            b"ok 1\nbad 9\n",
+            b"ok 1\nbad 5\n",
         ),
         // A header after comments, and a second one that is no command.
         (
@@ -150,17 +150,43 @@ fn scripts_give_their_transcripts(rt: HostRuntime) -> Result<(), Fail> {
 
 #[test]
 fn only_the_words_of_a_script_are_taken(rt: HostRuntime) -> Result<(), Fail> {
-    let cases: [&[&str]; 6] = [
-        &[],
-        &["store_program"],
-        &["store_program", "frob"],
-        &["store_program", "scripts"],
-        &["store_program", "script", "script"],
-        &["script", ""],
+    let good: [&[&str]; 5] = [
+        &["store", "script"],
+        &["store", "script", "--seed", "5"],
+        &["store", "--seed=2147483647", "script"],
+        &["store", "script", "--count", "0", "--members", "16"],
+        &["store", "script", "--window", "0000000064"],
     ];
-    for words in cases {
+    for words in good {
         let (status, written) = outcome(&rt, words, FIRST, WHOLE)?;
-        assert_eq!(rt; status, Status::BadWords);
+        assert_eq!(rt; status, Status::Fine, "at {words:?}");
+        assert_eq!(rt; written.as_slice(), b"ok 1\n= 5\n".as_slice());
+    }
+    let bad: [&[&str]; 20] = [
+        &[],
+        &["store"],
+        &["store", "frob"],
+        &["store", "scripts"],
+        &["store", "live"],
+        &["store", "make"],
+        &["store", ""],
+        &["store", "script", "extra"],
+        &["store", "script", "script"],
+        &["store", "script", "--seed"],
+        &["store", "script", "--seed", "x"],
+        &["store", "script", "--seed", "00000000001"],
+        &["store", "script", "--seed", "2147483648"],
+        &["store", "script", "--seed", "1", "--seed", "1"],
+        &["store", "script", "--count", "20001"],
+        &["store", "script", "--members", "0"],
+        &["store", "script", "--members", "17"],
+        &["store", "script", "--window", "65"],
+        &["store", "script", "--help"],
+        &["store", "script", "--frob", "1"],
+    ];
+    for words in bad {
+        let (status, written) = outcome(&rt, words, FIRST, WHOLE)?;
+        assert_eq!(rt; status, Status::BadWords, "at {words:?}");
         assert!(rt; written.is_empty());
     }
     Ok(())
@@ -168,19 +194,36 @@ fn only_the_words_of_a_script_are_taken(rt: HostRuntime) -> Result<(), Fail> {
 
 #[test]
 fn pieces_change_nothing_and_faults_are_told(rt: HostRuntime) -> Result<(), Fail> {
-    let words = ["store_program", "script"];
+    let words = ["store", "script"];
     let none: &[u32] = &[];
     let first: &[u32] = &[1];
+    let second: &[u32] = &[2];
     let third: &[u32] = &[3];
-    let cases: [(usize, &[u32], usize, &[u32], Status, &[u8]); 9] = [
+    // The bytes of a read, the reads that fail, the bytes of a write, the writes that fail, and what comes of it.
+    let cases: [(usize, &[u32], usize, &[u32], Status, &[u8]); 15] = [
         (1, none, 1, none, Status::Fine, b"ok 1\n= 5\n"),
         (7, none, 2, none, Status::Fine, b"ok 1\n= 5\n"),
-        (1, none, 65536, none, Status::Fine, b"ok 1\n= 5\n"),
+        (40, none, 65536, none, Status::Fine, b"ok 1\n= 5\n"),
+        (47, none, 65536, none, Status::Fine, b"ok 1\n= 5\n"),
+        (65536, none, 65536, none, Status::Fine, b"ok 1\n= 5\n"),
+        // What had come whole is answered before the read that fails.
         (65536, first, 65536, none, Status::ReadFault, b""),
         (7, third, 1, none, Status::ReadFault, b""),
-        (47, &[2], 1, none, Status::ReadFault, b""),
+        (40, second, 65536, none, Status::ReadFault, b"ok 1\n"),
+        (47, second, 65536, none, Status::ReadFault, b"ok 1\n= 5\n"),
+        (
+            65536,
+            second,
+            65536,
+            none,
+            Status::ReadFault,
+            b"ok 1\n= 5\n",
+        ),
+        // A fault is told even where it is the read behind the last byte.
+        (40, third, 65536, none, Status::ReadFault, b"ok 1\n= 5\n"),
         (65536, none, 65536, first, Status::WriteFault, b""),
         (65536, none, 2, third, Status::WriteFault, b"ok 1"),
+        (40, none, 65536, second, Status::WriteFault, b"ok 1\n"),
         (7, none, 1, &[9], Status::WriteFault, b"ok 1\n= 5"),
     ];
     for (read, failing_reads, write, failing_writes, status, text) in cases {
@@ -192,15 +235,64 @@ fn pieces_change_nothing_and_faults_are_told(rt: HostRuntime) -> Result<(), Fail
             failing_writes,
         };
         let (found, written) = outcome(&rt, &words, FIRST, streams)?;
-        assert_eq!(rt; found, status);
+        assert_eq!(rt;
+            found,
+            status,
+            "at {read} {failing_reads:?} {write} {failing_writes:?}"
+        );
         assert_eq!(rt; written.as_slice(), text);
+    }
+    Ok(())
+}
+
+const TWO: &[u8] = b"store 2 2\ndo 0 counter:a inc 5\ngive 1 0 1\nask 1 counter:a\ngive 1 0 1\n";
+
+const TWO_REPLIES: [&[u8]; 5] = [
+    b"",
+    b"ok 1\n",
+    b"ok 1\ntook 0:1\n",
+    b"ok 1\ntook 0:1\n= 5\n",
+    b"ok 1\ntook 0:1\n= 5\nold\n",
+];
+
+#[test]
+fn each_read_and_each_write_can_fail(rt: HostRuntime) -> Result<(), Fail> {
+    let words = ["store", "script"];
+    // Pieces of 16 bytes: how many of the lines have come whole before each read.
+    for (call, lines) in [(1u32, 0usize), (2, 0), (3, 1), (4, 2), (5, 3), (6, 4)] {
+        let failing = [call];
+        let streams = Streams {
+            read: 16,
+            failing_reads: failing.as_slice(),
+            write: 65536,
+            failing_writes: &[],
+        };
+        let (status, written) = outcome(&rt, &words, TWO, streams)?;
+        assert_eq!(rt; status, Status::ReadFault, "at read {call}");
+        assert_eq!(rt; written.as_slice(), TWO_REPLIES[lines], "at read {call}");
+    }
+    for call in 1u32..5 {
+        let failing = [call];
+        let streams = Streams {
+            read: 1,
+            failing_reads: &[],
+            write: 65536,
+            failing_writes: failing.as_slice(),
+        };
+        let (status, written) = outcome(&rt, &words, TWO, streams)?;
+        assert_eq!(rt; status, Status::WriteFault, "at write {call}");
+        assert_eq!(rt;
+            written.as_slice(),
+            TWO_REPLIES[call as usize - 1],
+            "at write {call}"
+        );
     }
     // A whole first line that is no header is told before a fault that comes after it.
     let streams = Streams {
         read: 5,
-        failing_reads: third,
-        write: 1,
-        failing_writes: none,
+        failing_reads: &[3],
+        write: 65536,
+        failing_writes: &[],
     };
     assert_eq!(rt;
         outcome(&rt, &words, b"frob\nstore 1 1\n", streams)?.0,
@@ -281,7 +373,7 @@ fn a_command_has_at_most_16384_bytes(rt: HostRuntime) -> Result<(), Fail> {
     let alloc = rt.alloc();
     for (blanks, reply) in [
         (16364usize, b"ok 1\n".as_slice()),
-        (16365, b"bad 9\n".as_slice()),
+        (16365, b"bad 1\n".as_slice()),
     ] {
         let mut input = Vec::from_slice(alloc, b"store 1 1\ndo 0 counter:a inc 5")?;
         for _ in 0..blanks {

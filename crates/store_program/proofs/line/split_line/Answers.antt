@@ -1,11 +1,10 @@
 use Rattle.std.proofs.lemmas.List.{take_rest}
-use Rattle.store_program.proofs.LineLemmas.{lines-first, lines-only}
+use Rattle.script_net.specs.Lines.{is_newline}
+use Rattle.store_program.proofs.Splits.{split_there, split_nowhere}
 use Rattle.store_program.proofs.line.split_line.Goals as goal
 
-pub returns-in-Some-clause-lines : goal.returns-in-Some-clause-lines
-returns-in-Some-clause-lines c =
-    rw (take_rest, c.without_return.ensures) (lines-first c.args.bytes.now c.in-Some.at c.in-Some.ensures)
+pub returns-in-Some-clause-parts : goal.returns-in-Some-clause-parts
+returns-in-Some-clause-parts c = rw take_rest (split_there is_newline c.args.bytes.now c.in-Some.at c.in-Some.ensures)
 
-pub returns-in-None-clause-lines : goal.returns-in-None-clause-lines
-returns-in-None-clause-lines c =
-    rw c.without_return-in-None.ensures (lines-only c.args.bytes.now c.in-None.ensures)
+pub returns-in-None-clause-parts : goal.returns-in-None-clause-parts
+returns-in-None-clause-parts c = split_nowhere is_newline c.args.bytes.now c.in-None.ensures

@@ -1,37 +1,41 @@
-use Rattle.std.proofs.Common.{◌≡◌, ◌<◌, List, [], ◌∷◌, ◌++◌, length, ap, sym, subst, ◌∙◌, arith, IsTrue}
-use Rattle.op_base.specs.declared.message.Message.{Message}
+use Rattle.std.proofs.Common.{sym, ap, ◌∙◌}
 use Rattle.op_base.specs.declared.operation.Op.TheVariants as op
-use Rattle.causal_model.specs.Counts.{are_carried}
-use Rattle.causal_model.specs.Chapter.{is_chapter}
+use Rattle.op_base.specs.declared.operation.Update.{Update}
 use Rattle.causal_model.specs.Sending.{own_message, sends}
-use Rattle.replica_core.proofs.Alone.{alone, ends_alone, sends_alone, few_alone}
+use Rattle.replica_core.specs.Rules.{fields_of}
+use Rattle.replica_core.proofs.Bounds.{is_bounded}
+use Rattle.replica_core.proofs.Sends.{sending_has_ended, sending_sends, more_may_be_sent, window_has_room}
 use Rattle.replica_core.proofs.replica.Replica.local.Goals as goal
 
-pub returns-then-sent-from-clause-answer : goal.returns-then-sent-from-clause-answer
-returns-then-sent-from-clause-answer c = λ h stands.
-    let s = c.args.self.now in
-    (ends_alone s.me s.n s.w s.limit h c.args.update.now (alone s.me s.n s.w s.limit s.numbers) stands.is_chapter (ap length (sym stands.keeps_all) ∙ cc), stands)
+pub returns-then-has_ended-clause-answer : goal.returns-then-has_ended-clause-answer
+returns-then-has_ended-clause-answer c = λ s stands.
+    let r = c.args.self.now in
+    (sending_has_ended r.n r.w r.limit r.me s.history.present.messages c.args.update.now (sym (c.if-is_busy.ensures s stands)) (sym (c.if-has_ended.ensures s stands)), stands)
 
-pub send-requires : goal.send-requires
-send-requires c =
-    let s = c.args.self.now in
-    let few = few_alone s.me s.n s.w s.limit s.history c.args.update.now (alone s.me s.n s.w s.limit s.numbers) s.is_chapter s.are_carried in
-    omega arith
+pub send-requires-clause-ready : goal.send-requires-clause-ready
+send-requires-clause-ready c = λ s stands. window_has_room (fields_of c.args.self.now) s stands (sym (c.if-is_busy.ensures s stands))
 
-pub returns-in-Ok-clause-answer : goal.returns-in-Ok-clause-answer
-returns-in-Ok-clause-answer c = λ h stands.
-    let s = c.args.self.now in
-    let m = c.in-Ok.message in
-    let new = c.send.new.self in
-    let few = few_alone s.me s.n s.w s.limit s.history c.args.update.now (alone s.me s.n s.w s.limit s.numbers) s.is_chapter s.are_carried in
-    let lt : length h < s.limit = subst (λ (k : List Message). length k < s.limit) stands.keeps_all (omega arith) in
-    let own : m ≡ own_message s.n s.me h (op.Update c.args.update.now)
-    = c.in-Ok.ensures.message ∙ ap (λ (k : List Message). own_message s.n s.me k (op.Update c.args.update.now)) stands.keeps_all in
-    let kept : new.history ≡ h ++ m ∷ [] = c.in-Ok.ensures.sent ∙ ap (λ (k : List Message). k ++ m ∷ []) stands.keeps_all in (
-      sends_alone s.me s.n s.w s.limit h c.args.update.now (alone s.me s.n s.w s.limit s.numbers) stands.is_chapter lt ∙ ap sends (sym own),
-      record {
-        is_chapter = subst (λ (k : List Message). IsTrue (is_chapter new.n new.w new.me k)) kept new.is_chapter;
-        are_carried = subst (λ (k : List Message). IsTrue (are_carried new.limit k)) kept new.are_carried;
-        keeps_all = kept;
-      },
-    )
+pub send-requires-clause-more : goal.send-requires-clause-more
+send-requires-clause-more c = λ s stands. more_may_be_sent (fields_of c.args.self.now) s stands (sym (c.if-has_ended.ensures s stands))
+
+pub returns-in-Ok-send-clause-answer : goal.returns-in-Ok-send-clause-answer
+returns-in-Ok-send-clause-answer c = λ s stands.
+    let r = c.args.self.now in
+    let messages = s.history.present.messages in
+    let sent = ap (λ (u : Update). own_message r.n r.me messages (op.Update u)) (sym c.in-Ok.ensures) ∙ sym (c.in-Ok-send.ensures.sent s stands) in
+    (sending_sends r.n r.w r.limit r.me messages c.args.update.now (sym (c.if-is_busy.ensures s stands)) (sym (c.if-has_ended.ensures s stands)) ∙ ap sends sent, c.in-Ok-send.ensures.stands s stands)
+
+pub returns-then-is_busy-clause-bounded : goal.returns-then-is_busy-clause-bounded
+returns-then-is_busy-clause-bounded c = is_bounded _
+
+pub returns-then-has_ended-clause-bounded : goal.returns-then-has_ended-clause-bounded
+returns-then-has_ended-clause-bounded c = is_bounded _
+
+pub returns-in_default-clause-bounded : goal.returns-in_default-clause-bounded
+returns-in_default-clause-bounded c = is_bounded _
+
+pub returns-in-Ok-send-clause-bounded : goal.returns-in-Ok-send-clause-bounded
+returns-in-Ok-send-clause-bounded c = is_bounded _
+
+pub returns-in-Err-clause-bounded : goal.returns-in-Err-clause-bounded
+returns-in-Err-clause-bounded c = is_bounded _

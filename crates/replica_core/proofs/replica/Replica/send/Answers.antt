@@ -1,22 +1,46 @@
-use Rattle.std.proofs.Common.{◌≡◌, ◌∙◌, List, IsTrue}
-use Rattle.op_base.specs.declared.message.Message.{Message}
-use Rattle.op_base.specs.declared.operation.Op.TheVariants as op
-use Rattle.causal_model.specs.Counts.{are_carried}
-use Rattle.causal_model.specs.Chapter.{is_chapter}
-use Rattle.causal_model.specs.Sending.{own_message}
-use Rattle.replica_core.proofs.Alone.{alone}
-use Rattle.replica_core.proofs.Sent.{sent_is_chapter, sent_are_carried, pushed}
+use Rattle.std.proofs.Common.{IsTrue, sym, subst, ◌∙◌, arith}
+use denote.Struct.Props.{props}
+use Rattle.std.proofs.Math.Logic.{∥∥₁_elim, ∥∥₁_map}
+use Rattle.op_base.specs.Message.{fits}
+use Rattle.causal_model.specs.Journal.{with_own}
+use Rattle.stable_state.specs.Shown.{shown}
+use Rattle.replica_core.specs.Rules.{fields_of}
+use Rattle.replica_core.specs.Standing.{Standing}
+use Rattle.replica_core.proofs.Stands.{with_items, with_items_in}
+use Rattle.replica_core.proofs.Bounds.{few_logged}
+use Rattle.replica_core.proofs.Own.{own_is_state, own_is_carried}
 use Rattle.replica_core.proofs.replica.Replica.send.Goals as goal
 
-pub invariant_of-self-2 : goal.invariant_of-self-2
-invariant_of-self-2 c =
-    let s = c.args.self.now in
-    let u = c.args.update.now in
-    let a = alone s.me s.n s.w s.limit s.numbers in
-    let own : c.in_ok-copy-2.field-0 ≡ own_message s.n s.me s.history (op.Update u)
-    = c.in_ok-copy-2.ensures ∙ (λ i. record { origin = s.me; tag = c.next_tag.ensures i; op = op.Update (c.in_ok-copy.ensures i) }) in
-    record {
-      numbers = s.numbers;
-      is_chapter = pushed (λ (h : List Message). IsTrue (is_chapter s.n s.w s.me h)) c.push.result _ s.history _ c.push.ensures.ok c.push.ensures.err (rw own (sent_is_chapter s.me s.n s.w s.limit s.history u a s.is_chapter)) s.is_chapter;
-      are_carried = pushed (λ (h : List Message). IsTrue (are_carried s.limit h)) c.push.result _ s.history _ c.push.ensures.ok c.push.ensures.err (rw own (sent_are_carried s.me s.n s.w s.limit s.history u a s.is_chapter s.are_carried c.requires c.updates_are_valid.ensures)) s.are_carried;
-    }
+pub overflow_add-len : goal.overflow_add-len
+overflow_add-len c = omega (arith, few_logged c.args.self.now, c.len.ensures)
+
+pub invariant_of-self : goal.invariant_of-self
+invariant_of-self c =
+    let r = c.args.self.now in
+    record { numbers = r.numbers; stands = with_items_in (fields_of r) r.stands (shown c.reserve.new.self) c.reserve.ensures.items }
+
+pub step-requires-clause-next : goal.step-requires-clause-next
+step-requires-clause-next c =
+    let r = c.args.self.now in
+    let f = fields_of r in
+    ∥∥₁_map r.stands (λ x. (
+      x.0,
+      with_items f x.0 x.1 (shown c.reserve.new.self) c.reserve.ensures.items,
+      own_is_state f x.0 x.1 c.args.op c.next_message-message.result (c.next_message-message.ensures.message x.0 x.1) (c.requires.ready x.0 x.1) (c.requires.more x.0 x.1) c.requires.valid,
+    ))
+
+pub returns-clause-stands : goal.returns-clause-stands
+returns-clause-stands c = λ s stands.
+    let r = c.args.self.now in
+    let f = fields_of r in
+    subst (λ m. Standing (fields_of c.step.new.self) (with_own s m)) (sym c.in_ok-answer.ensures)
+    (c.step.ensures.stands s (with_items f s stands (shown c.reserve.new.self) c.reserve.ensures.items)
+    (own_is_state f s stands c.args.op c.next_message-message.result (c.next_message-message.ensures.message s stands) (c.requires.ready s stands) (c.requires.more s stands) c.requires.valid))
+
+pub returns-clause-fits : goal.returns-clause-fits
+returns-clause-fits c = subst (λ m. IsTrue (fits c.args.self.now.n m)) (sym c.in_ok-answer.ensures) c.next_message-message.ensures.fits
+
+pub returns-clause-carried : goal.returns-clause-carried
+returns-clause-carried c =
+    let r = c.args.self.now in
+    ∥∥₁_elim r.stands (search props) (λ x. own_is_carried (fields_of r) x.0 x.1 c.args.op c.in_ok-answer.answer (c.in_ok-answer.ensures ∙ c.next_message-message.ensures.message x.0 x.1) (c.requires.ready x.0 x.1) (c.requires.more x.0 x.1) c.requires.valid)

@@ -1,0 +1,58 @@
+-- The steps of receiving, some of which were made.
+use Rattle.std.proofs.Common.{◌≡◌, ℕ, ◌+◌, ◌≤◌, length, List, [], ◌∷◌, ◌++◌, sym, ap, ◌∙◌, append_assoc, None}
+use Rattle.std.proofs.lemmas.List.{append-nil}
+use Rattle.op_base.specs.declared.outcome.Step.{Step}
+use Rattle.causal_model.specs.Laws.States.{next_of}
+use Rattle.causal_model.specs.Receiving.{State, state_with, steps}
+use Rattle.causal_model.proofs.Steps.{steps_of_none, steps_of_one_more}
+use Rattle.stable_state.specs.Shown.{shown}
+use Rattle.replica_core.specs.Rules.{StandsFor, SameSettings}
+use Rattle.replica_core.specs.Steps.{HasStepped, IsStepOf}
+use Rattle.replica_core.specs.declared.replica.Replica.{Replica}
+
+-- the steps of a state are those that were made, and then those of a state that the fields stand for now
+pub record HasMade (w : ℕ) (s : State) (made : List Step) (now : Replica) : Type 0 where
+  pub after : State
+  pub stands : StandsFor now after
+  pub is : steps w s ≡ (made ++ (steps w after).0, (steps w after).1)
+
+-- before the first step
+pub none_is_made : (w : ℕ) (s : State) (made : List Step) (now : Replica) → made ≡ [] → StandsFor now s → HasMade w s made now
+none_is_made w s made now none stands = record { after = s; stands = stands; is = ap (λ (xs : List Step). (xs ++ (steps w s).0, (steps w s).1)) (sym none) }
+
+-- after one more
+pub one_more_is_made : (w : ℕ) (s : State) (made : List Step) (now new : Replica) (step : Step) (has : HasMade w s made now) → IsStepOf w has.after step new → HasMade w s (made ++ step ∷ []) new
+one_more_is_made w s made now new step has next =
+    let later_state = state_with w has.after next.message in
+    let later : steps w has.after ≡ (step ∷ (steps w later_state).0, (steps w later_state).1)
+    = steps_of_one_more w has.after next.message next.next ∙ ap (λ (made : Step). (made ∷ (steps w later_state).0, (steps w later_state).1)) (sym next.is) in
+    record {
+      after = later_state;
+      stands = next.stands;
+      is = has.is ∙ ap (λ (some : List Step × State). (made ++ some.0, some.1)) later ∙ ap (λ (all : List Step). (all, (steps w later_state).1)) (sym (append_assoc made (step ∷ []) (steps w later_state).0));
+    }
+
+-- where no early message can be delivered, all are made
+pub all_are_made : (w : ℕ) (s : State) (made : List Step) (now : Replica) (has : HasMade w s made now) (new : Replica) → next_of has.after ≡ None → StandsFor new has.after → HasStepped w s made new
+all_are_made w s made now has new none stands = record {
+  after = has.after;
+  is = has.is ∙ ap (λ (some : List Step × State). (made ++ some.0, some.1)) (steps_of_none w has.after none) ∙ ap (λ (all : List Step). (all, has.after)) (append-nil made);
+  stands = stands;
+}
+
+-- two replicas are of the same settings where each is of those of one between them
+pub same_settings_after : (old now new : Replica) → SameSettings old now → SameSettings now new → SameSettings old new
+same_settings_after old now new first next = record {
+  me = next.me ∙ first.me;
+  n = next.n ∙ first.n;
+  w = next.w ∙ first.w;
+  limit = next.limit ∙ first.limit;
+  epoch = next.epoch ∙ first.epoch;
+}
+
+-- a replica makes the steps that can be made from what it was, and there is room for them
+pub record IsMaking (old now : Replica) (made : List Step) (capacity : ℕ) : Type 0 where
+  pub settings : SameSettings old now
+  pub spare : length now.log.entries + length now.buffer.early ≤ (shown now.items).spare
+  pub room : length made + length now.buffer.early ≤ capacity
+  pub are_made : (s : State) → StandsFor old s → HasMade old.w s made now

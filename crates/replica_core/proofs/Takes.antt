@@ -1,0 +1,194 @@
+-- An early message that is taken out of the buffer of fields that stand for a state.
+use Rattle.std.proofs.Common.{◌≡◌, ◌≢◌, ℕ, ◌<◌, false, not, ◌&&◌, ◌==◌, nat_lt, IsTrue, List, [], ◌∷◌, ◌++◌, length, refl, sym, ap, ap₂, subst, ◌∙◌, Option, Some, None, Result, Ok, Err, if◌then◌else◌}
+use Rattle.std.proofs.lemmas.Bool.{and_parts, eqb-true, ne_eqb}
+use Rattle.std.specs.List.{Contains}
+use Rattle.std.proofs.lemmas.List.FromFn.{length-map-range_with_len}
+use Rattle.std.proofs.lemmas.List.Elements.{All-contains, All-filter}
+use Rattle.std.proofs.lemmas.List.Kept.{AllPairs-filter}
+use denote.Struct.Props.{props}
+use Rattle.std.proofs.Math.Logic.{∥∥₁_elim}
+use Rattle.op_base.specs.Message.{number, fits, id_of}
+use Rattle.op_base.specs.declared.message.Message.{Message}
+use Rattle.op_base.specs.declared.outcome.Crook.{Crook}
+use Rattle.op_base.specs.declared.outcome.Step.TheVariants as step
+use Rattle.op_base.specs.declared.tag.MessageId.{MessageId}
+use Rattle.causal_model.specs.Chapter.{is_chapter}
+use Rattle.causal_model.specs.Counts.{counts, is_deliverable, is_carried}
+use Rattle.causal_model.specs.Crook.{crook_of}
+use Rattle.causal_model.specs.History.{with_messages}
+use Rattle.causal_model.specs.Journal.{with_own}
+use Rattle.causal_model.specs.Laws.States.{next_of}
+use Rattle.causal_model.specs.Receiving.{State, counted, is_old, is_far, has_id, without, crook_after, step_of, messages_with, state_with}
+use Rattle.causal_model.specs.Stability.{last_tag, known_vector, stable_count, stable_vector}
+use Rattle.causal_model.specs.States.{IsState}
+use Rattle.causal_model.proofs.Early.{StandsBefore, IsNew-from_test, fits_member}
+use Rattle.causal_model.proofs.Finds.{found, fewer_pass}
+use Rattle.causal_model.proofs.States.{step_keeps_state}
+use Rattle.causal_model.proofs.Steps.{has_own_id}
+use Rattle.stability_matrix.specs.Standing.{IsMatrixOf, StableAfter}
+use Rattle.tag_window.specs.Check.{verdict}
+use Rattle.tag_window.specs.History.{IsWindowOf}
+use Rattle.causal_buffer.specs.Buffer.{Buffer, with_messages as with_early_messages}
+use Rattle.causal_buffer.specs.Standing.{IsNextInState, TakesNext}
+use Rattle.causal_buffer.proofs.Standing.{next_id_is_of_message}
+use Rattle.replica_core.specs.Rules.{StandsFor}
+use Rattle.replica_core.specs.Standing.{Fields, Standing, StandsForSome}
+use Rattle.replica_core.specs.Steps.{IsStepOf}
+use Rattle.replica_core.specs.declared.replica.Replica.{Replica}
+use Rattle.replica_core.proofs.Stands.{member_of, chapter_of, with_buffer}
+
+-- the state without the early message of an id
+abbrev pub state_without : MessageId → State → State
+state_without id s = record { history = s.history; early = without id s.early }
+
+without_is_state : (w limit : ℕ) (id : MessageId) (s : State) → IsState w limit s → IsState w limit (state_without id s)
+without_is_state w limit id s is =
+    let n = s.history.present.n in
+    let me = s.history.present.me in
+    let stays = λ (m : Message). not (has_id id m) in
+    record {
+      is_history = is.is_history;
+      is_limited = is.is_limited;
+      are_early = record {
+        rise = AllPairs-filter StandsBefore stays s.early is.are_early.rise;
+        fit = All-filter stays (λ m. IsTrue (fits n m)) s.early is.are_early.fit;
+        carried = All-filter stays (λ m. IsTrue (is_carried limit m)) s.early is.are_early.carried;
+        new = All-filter stays (λ m. is_old me (counted s.history) m ≡ false) s.early is.are_early.new;
+        near = All-filter stays (λ m. is_far n w me (counted s.history) m ≡ false) s.early is.are_early.near;
+      };
+    }
+
+fits_entries : (n : ℕ) (m : Message) → IsTrue (fits n m) → length m.tag ≡ n
+fits_entries n m t =
+    let formed = and_parts (length m.tag == n && nat_lt m.origin n) (nat_lt 0 (number m)) t in
+    eqb-true (length m.tag) n (and_parts (length m.tag == n) (nat_lt m.origin n) formed.0).0
+
+-- the verdict on a message is whether and why it is crooked
+pub not_crooked : (o : Option Crook) (u : Unit {0}) → Ok u ≡ verdict o → o ≡ None
+not_crooked None u e = refl
+not_crooked (Some crook) u e = cc
+
+pub is_crooked : (o : Option Crook) (crook : Crook) → Err crook ≡ verdict o → o ≡ Some crook
+is_crooked None crook e = cc
+is_crooked (Some other) crook e = cc
+
+-- a message of an id is the one that is taken next
+pub record IsTaken (s : State) (id : MessageId) (m : Message) : Type 0 where
+  pub next : next_of s ≡ Some m
+  pub of_id : id ≡ id_of m
+
+module _ (f : Fields) (s : State) (stands : Standing f s) (id : MessageId) where
+  -- without the early message of an id the fields stand for the state without it
+  pub without_stands : (buffer : Buffer) → buffer ≡ with_early_messages f.buffer (without id f.buffer.early) → Standing (record f { buffer = buffer }) (state_without id s)
+  without_stands buffer is =
+      with_buffer f s stands (without id s.early) buffer (without_is_state f.w f.limit id s stands.is_state) (record {
+        members = ap (λ (b : Buffer). b.n) is ∙ stands.buffer.members;
+        window = ap (λ (b : Buffer). b.w) is ∙ stands.buffer.window;
+        early = ap (λ (b : Buffer). b.early) is ∙ ap (without id) stands.buffer.early;
+      })
+
+  -- by the id of what is next the next message is found
+  pub next_is_found : (taken : Option Message) → IsNextInState f.counts f.buffer (Some id) → TakesNext id f.buffer taken → (m : Message) × (taken ≡ Some m) × IsTaken s id m
+  next_is_found taken next takes =
+      let named = next_id_is_of_message s id (sym (next f.w s stands.buffer stands.counts)) in
+      (named.0, takes f.w f.limit s named.0 stands.is_state stands.buffer named.1 named.2, record { next = named.1; of_id = named.2 })
+
+  pub is_taken : (m : Message) → IsNextInState f.counts f.buffer (Some id) → TakesNext id f.buffer (Some m) → IsTaken s id m
+  is_taken m next takes =
+      let there = next_is_found (Some m) next takes in
+      let same : there.0 ≡ m = cc there.1 in
+      subst (IsTaken s id) same there.2
+
+  module _ (m : Message) (taken : IsTaken s id m) where
+    is_found : Contains s.early m × IsTrue (is_deliverable s.history.present.n (counted s.history) m)
+    is_found = found (is_deliverable s.history.present.n (counted s.history)) s.early m taken.next
+
+    pub taken_fits : IsTrue (fits f.n m)
+    taken_fits = subst (λ n. IsTrue (fits n m)) stands.of_store (All-contains (λ y. IsTrue (fits s.history.present.n y)) s.early m stands.is_state.are_early.fit is_found.0)
+
+    pub taken_is_of_other : m.origin ≢ f.me
+    taken_is_of_other =
+        subst (λ me. m.origin ≢ me) stands.of_member
+        (IsNew-from_test s.history.present.me (counted s.history) m (All-contains (λ y. is_old s.history.present.me (counted s.history) y ≡ false) s.early m stands.is_state.are_early.new is_found.0)).other
+
+    taken_is_deliverable : IsTrue (is_deliverable f.n (counts f.n s.history.present.messages) m)
+    taken_is_deliverable = subst (λ n. IsTrue (is_deliverable n (counts n s.history.present.messages) m)) stands.of_store is_found.1
+
+    pub fewer_are_left : length (without id f.buffer.early) < length f.buffer.early
+    fewer_are_left =
+        subst (λ early. length (without id early) < length early) (sym stands.buffer.early)
+        (fewer_pass (λ (y : Message). not (has_id id y)) s.early m is_found.0 (ap not (ap (λ i. has_id i m) taken.of_id ∙ has_own_id m)))
+
+    -- the stable counts after the message
+    stable_is : (stable : List ℕ) → StableAfter m.origin m.tag f.matrix stable → stable ≡ stable_vector f.n f.me (s.history.present.messages ++ m ∷ [])
+    stable_is stable after = after f.n f.me s.history.present.messages m stands.matrix (record { of_origin = refl; with_tag = refl; deliverable = taken_is_deliverable })
+
+    pub length-stable_after : (stable : List ℕ) → StableAfter m.origin m.tag f.matrix stable → length stable ≡ f.n
+    length-stable_after stable after = ap length (stable_is stable after) ∙ length-map-range_with_len (stable_count f.n f.me (s.history.present.messages ++ m ∷ [])) 0 f.n
+
+    -- what a check with the sender's last timestamp and the stable counts after the message tells
+    pub check_tells : (result : Result (Unit {0}) Crook) (last stable : List ℕ)
+        → ((n me : ℕ) (messages : List Message) → IsMatrixOf n me messages f.matrix → last ≡ known_vector n me messages m.origin) → StableAfter m.origin m.tag f.matrix stable
+        → ((n w me : ℕ) (ms : List Message) → me < n → IsTrue (is_chapter n w me ms) → IsWindowOf n w me ms f.window → IsTrue (is_deliverable n (counts n ms) m) → m.origin ≢ me → last ≡ last_tag n ms m.origin
+        → stable ≡ stable_vector n me (ms ++ m ∷ []) → result ≡ verdict (crook_of n w me ms m))
+        → result ≡ verdict (crook_after f.w s.history m)
+    check_tells result last stable row after told =
+        let messages = s.history.present.messages in
+        let from_row : last ≡ last_tag f.n messages m.origin
+        = row f.n f.me messages stands.matrix ∙ ap (λ own. if own then counts f.n messages else last_tag f.n messages m.origin) (ne_eqb m.origin f.me taken_is_of_other) in
+        told f.n f.w f.me messages (member_of f s stands) (chapter_of f s stands) stands.window taken_is_deliverable taken_is_of_other from_row
+        (stable_is stable after)
+        ∙ ap₂ (λ n me. verdict (crook_of n f.w me messages m)) (sym stands.of_store) (sym stands.of_member)
+
+    -- where it isn't crooked it is delivered
+    module _ (right : crook_after f.w s.history m ≡ None) where
+      delivered : with_own (state_without id s) m ≡ state_with f.w s m
+      delivered =
+          ap₂ (λ o i. record { history = with_messages s.history (messages_with s.history.present.messages m o); early = without i s.early }) (sym right) taken.of_id
+
+      pub delivered_is_state : IsState f.w f.limit (with_own (state_without id s) m)
+      delivered_is_state = subst (IsState f.w f.limit) (sym delivered) (step_keeps_state f.w f.limit s m stands.is_state taken.next)
+
+      pub is_step_of_delivered : (new : Replica) → StandsFor new (with_own (state_without id s) m) → IsStepOf f.w s (step.Took id) new
+      is_step_of_delivered new stays = record {
+        message = m;
+        next = taken.next;
+        is = ap step.Took taken.of_id ∙ ap (step_of m) (sym right);
+        stands = subst (StandsFor new) delivered stays;
+      }
+
+    -- and dropped where it is
+    pub is_step_of_dropped : (crook : Crook) → crook_after f.w s.history m ≡ Some crook → (new : Replica) → StandsFor new (state_without id s) → IsStepOf f.w s (step.Crook id crook) new
+    is_step_of_dropped crook wrong new stays = record {
+      message = m;
+      next = taken.next;
+      is = ap (λ i. step.Crook i crook) taken.of_id ∙ ap (step_of m) (sym wrong);
+      stands = subst (StandsFor new) (ap₂ (λ o i. record { history = with_messages s.history (messages_with s.history.present.messages m o); early = without i s.early }) (sym wrong) taken.of_id) stays;
+    }
+
+absurd_is_alone : (a b : ⊥) → a ≡ b
+absurd_is_alone a b = absurd a
+
+-- what is true of a message that was taken, for some state, where it is a proposition
+module _ (f : Fields) (some : ∥ StandsForSome f ∥₁) (id : MessageId) (next : IsNextInState f.counts f.buffer (Some id)) where
+  pub next_is_found_in : (taken : Option Message) → TakesNext id f.buffer taken → ((m : Message) → taken ≡ Some m → ⊥) → ⊥
+  next_is_found_in taken takes missing = ∥∥₁_elim {P = ⊥} some absurd_is_alone (λ (x : StandsForSome f). missing (next_is_found f x.0 x.1 id taken next takes).0 (next_is_found f x.0 x.1 id taken next takes).1)
+
+  module _ (m : Message) (takes : TakesNext id f.buffer (Some m)) where
+    pub taken_fits_in : IsTrue (fits f.n m)
+    taken_fits_in = ∥∥₁_elim some (search props) (λ x. taken_fits f x.0 x.1 id m (is_taken f x.0 x.1 id m next takes))
+
+    pub taken_entries_in : length m.tag ≡ f.n
+    taken_entries_in = fits_entries f.n m taken_fits_in
+
+    pub taken_member_in : m.origin < f.n
+    taken_member_in = fits_member f.n m taken_fits_in
+
+    pub taken_is_of_other_in : m.origin ≢ f.me
+    taken_is_of_other_in own = ∥∥₁_elim {P = ⊥} some absurd_is_alone (λ (x : StandsForSome f). taken_is_of_other f x.0 x.1 id m (is_taken f x.0 x.1 id m next takes) own)
+
+    pub fewer_are_left_in : length (without id f.buffer.early) < length f.buffer.early
+    fewer_are_left_in = ∥∥₁_elim some (search props) (λ x. fewer_are_left f x.0 x.1 id m (is_taken f x.0 x.1 id m next takes))
+
+    pub length-stable_in : (stable : List ℕ) → StableAfter m.origin m.tag f.matrix stable → length stable ≡ f.n
+    length-stable_in stable after = ∥∥₁_elim some (search props) (λ x. length-stable_after f x.0 x.1 id m (is_taken f x.0 x.1 id m next takes) stable after)

@@ -1,0 +1,82 @@
+use Rattle.std.proofs.Common.{◌≡◌, ◌∙◌, ◌≤◌, ap, sym, subst, refl, arith}
+use denote.Struct.Props.{props}
+use Rattle.std.proofs.Math.Logic.{∥∥₁_elim, ∥∥₁_map}
+use Rattle.causal_model.specs.Acts.{acts_on}
+use Rattle.causal_model.specs.CellSteps.{puts_in}
+use Rattle.causal_model.specs.Covering.{store_keeps, store_covers}
+use Rattle.causal_model.specs.History.{with_message}
+use Rattle.polog.specs.Value.{Log}
+use Rattle.replica_core.specs.Settling.{room_of, applied_of, CanBeApplied}
+use Rattle.replica_core.proofs.Settles.{origin_of, fits_of, pruned_fits, pruned_has_room, pruned_is_numbered, are_logged, can_be_applied, range_is_prop, applied_has_range, no_more_than_came, pruned_of, logged_of}
+use Rattle.replica_core.proofs.settling.settle.Goals as goal
+
+pub prune-requires : goal.prune-requires
+prune-requires c = record { fits = ∥∥₁_elim c.requires.ready (search props) (λ x. fits_of x.3) }
+
+pub id-id-requires : goal.id-id-requires
+id-id-requires c = ∥∥₁_elim c.requires.ready (search props) (λ x. origin_of x.3)
+
+pub log_or_hand_back-applied-requires-clause-fits : goal.log_or_hand_back-applied-requires-clause-fits
+log_or_hand_back-applied-requires-clause-fits c = ∥∥₁_elim c.requires.ready (search props) (λ x. pruned_fits x.3 (pruned_of x.3 c.prune.ensures.pruned))
+
+pub log_or_hand_back-applied-requires-clause-room : goal.log_or_hand_back-applied-requires-clause-room
+log_or_hand_back-applied-requires-clause-room c = λ kept.
+    ∥∥₁_elim c.requires.ready (search props) (λ x. pruned_has_room x.3 (pruned_of x.3 c.prune.ensures.pruned) (ap (λ (l : Log). l.room) c.prune.ensures.kept) kept)
+
+pub log_or_hand_back-applied-requires-clause-numbers : goal.log_or_hand_back-applied-requires-clause-numbers
+log_or_hand_back-applied-requires-clause-numbers c = ∥∥₁_elim c.requires.ready (search props) (λ x. pruned_is_numbered x.3 (pruned_of x.3 c.prune.ensures.pruned))
+
+pub move_stable-requires-clause-logged : goal.move_stable-requires-clause-logged
+move_stable-requires-clause-logged c = ∥∥₁_map c.requires.ready (λ x. (
+  x.0,
+  x.1,
+  x.2,
+  c.args.message,
+  are_logged x.3 (logged_of x.3 (pruned_of x.3 c.prune.ensures.pruned) c.log_or_hand_back-applied.ensures.log) (c.cover.ensures.of x.2 c.args.message refl x.3.are_of.are_settled) c.id-id.result c.id-id.ensures,
+))
+
+pub move_stable-requires-clause-spare : goal.move_stable-requires-clause-spare
+move_stable-requires-clause-spare c =
+    let few = no_more_than_came c.args.message _ _ _ c.prune.ensures.kept c.log_or_hand_back-applied.ensures.log in
+    let room = c.requires.spare in
+    let more = c.cover.ensures.spare in
+    omega arith
+
+pub apply-requires : goal.apply-requires
+apply-requires c =
+    let m = c.args.message in
+    let moved = c.move_stable.new.items.shelf in
+    let few = no_more_than_came m _ _ _ c.prune.ensures.kept c.log_or_hand_back-applied.ensures.log in
+    let room = c.requires.spare in
+    let more = c.cover.ensures.spare in
+    let less = c.move_stable.ensures.spare in
+    let spare : room_of (applied_of m.op) ≤ moved.spare = omega arith in
+    let can : CanBeApplied (applied_of m.op) moved = can_be_applied m.op moved (λ u is kind. ∥∥₁_elim c.requires.ready (range_is_prop moved u) (λ x.
+    applied_has_range x.3 u moved is kind (c.move_stable.ensures.absorbed x.0 x.1 x.2 m
+    (are_logged x.3 (logged_of x.3 (pruned_of x.3 c.prune.ensures.pruned) c.log_or_hand_back-applied.ensures.log) (c.cover.ensures.of x.2 m refl x.3.are_of.are_settled) c.id-id.result c.id-id.ensures)))) spare in
+    subst (λ a. CanBeApplied a moved) (sym c.log_or_hand_back-applied.ensures.applied) can
+
+pub returns-clause-are_of : goal.returns-clause-are_of
+returns-clause-are_of c = λ w limit h ready.
+    let m = c.args.message in
+    let logged = are_logged ready (logged_of ready (pruned_of ready c.prune.ensures.pruned) c.log_or_hand_back-applied.ensures.log) (c.cover.ensures.of h m refl ready.are_of.are_settled) c.id-id.result c.id-id.ensures in
+    let log = c.move_stable.ensures.log w limit h m logged in
+    record {
+      is_log = log;
+      are_settled = c.settle_marks.ensures.of w h m ready.of_history
+          (λ object value. c.grouped.ensures.of store_keeps store_covers h.present.n h.present.me (with_message h m).present.messages (λ x. acts_on object (puts_in value) x.op) log)
+          (c.apply.ensures.of h m c.log_or_hand_back-applied.ensures.applied (c.move_stable.ensures.absorbed w limit h m logged));
+    }
+
+pub returns-clause-room : goal.returns-clause-room
+returns-clause-room c = c.move_stable.ensures.room ∙ c.log_or_hand_back-applied.ensures.room ∙ ap (λ (l : Log). l.room) c.prune.ensures.kept
+
+pub returns-clause-spare : goal.returns-clause-spare
+returns-clause-spare c =
+    let few = no_more_than_came c.args.message _ _ _ c.prune.ensures.kept c.log_or_hand_back-applied.ensures.log in
+    let more = c.cover.ensures.spare in
+    let less = c.move_stable.ensures.spare in
+    let same : room_of c.log_or_hand_back-applied.result ≡ room_of (applied_of c.args.message.op) = ap room_of c.log_or_hand_back-applied.ensures.applied in
+    let one = c.apply.ensures.spare in
+    let last = c.settle_marks.ensures.spare in
+    omega arith

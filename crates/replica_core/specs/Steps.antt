@@ -1,0 +1,33 @@
+-- What one message more makes of parts of a replica, and what the steps of receiving make of all its fields.
+use Rattle.std.specs.Prelude.{◌≡◌, ℕ, Bool, not, ◌&&◌, ◌||◌, ◌==◌, IsTrue, List, [], ◌∷◌, ◌++◌, Some}
+use Rattle.op_base.specs.declared.message.Message.{Message}
+use Rattle.op_base.specs.declared.outcome.Step.{Step}
+use Rattle.causal_model.specs.Chapter.{is_chapter}
+use Rattle.causal_model.specs.Laws.States.{next_of}
+use Rattle.causal_model.specs.Receiving.{State, crook_after, step_of, state_with, steps}
+use Rattle.causal_model.specs.Stability.{carries_operation}
+use Rattle.stability_matrix.specs.Rows.{Known}
+use Rattle.stability_matrix.specs.Standing.{IsMatrixOf}
+use Rattle.replica_core.specs.Rules.{StandsFor}
+use Rattle.replica_core.specs.declared.replica.Replica.{Replica}
+
+-- where the matrix was that of messages of which this is the next, it is that of those with it
+abbrev pub KeepsMatrix : Message → Known → Known → Type 0
+KeepsMatrix m old new = (n w me : ℕ) (messages : List Message) → IsTrue (is_chapter n w me (messages ++ m ∷ [])) → IsMatrixOf n me messages old → IsMatrixOf n me (messages ++ m ∷ []) new
+
+-- whether a no-op is due at a member after a message
+abbrev pub is_due_after : ℕ → Bool → Message → Bool
+is_due_after me due m = not (m.origin == me) && (due || carries_operation m.op)
+
+-- all steps of a state were made, and the fields stand for the state after them
+pub record HasStepped (w : ℕ) (s : State) (made : List Step) (new : Replica) : Type 0 where
+  pub after : State
+  pub is : steps w s ≡ (made, after)
+  pub stands : StandsFor new after
+
+-- it is the next step of a state, and the fields stand for the state after it
+pub record IsStepOf (w : ℕ) (s : State) (step : Step) (new : Replica) : Type 0 where
+  pub message : Message
+  pub next : next_of s ≡ Some message
+  pub is : step ≡ step_of message (crook_after w s.history message)
+  pub stands : StandsFor new (state_with w s message)

@@ -1,0 +1,87 @@
+//! One step of a replica: a message becomes the next of its history.
+
+ghost use Rattle.std.specs.Prelude.{◌≡◌, ◌+◌, ◌<◌, ◌≤◌, ◌==◌, ℕ, not, length, All, IsTrue, Some, None, if◌then◌else◌};
+ghost use Rattle.std.specs.Option.{IfSome};
+ghost use Rattle.op_base.specs.Message.{fits};
+ghost use Rattle.op_base.specs.declared.message.Message.{Message as AMessage};
+ghost use Rattle.causal_model.specs.Journal.{with_own, messages_and};
+ghost use Rattle.causal_model.specs.Receiving.{State};
+ghost use Rattle.causal_model.specs.Stability.{carries_operation};
+ghost use Rattle.causal_model.specs.States.{IsState};
+ghost use Rattle.outbox.specs.Sent.{ComesAfter, room_of};
+ghost use Rattle.stable_state.specs.Shown.{shown};
+ghost use Rattle.replica_core.specs.Steps.{KeepsMatrix, is_due_after};
+
+use crate::replica::Replica;
+use crate::settling::settle;
+use op_base::{Message, Op};
+use outbox::Outbox;
+use stability_matrix::Matrix;
+
+impl Replica {
+    ghost use Rattle.replica_core.specs.Rules.{StandsFor, SameSettings};
+
+    /// Makes a message the next of the history. Of an own message `sent` is a copy, which is sent again until it is stable.
+    pub(crate) fn step(&mut self, message: Message, sent: Option<Message>)
+        requires next { ∥ ((s : State) × StandsFor self.old s × IsState self.old.w self.old.limit (with_own s message)) ∥₁ }
+        requires sent { sent ≡ (if message.origin == self.old.me then Some message else None) }
+        requires spare { length self.old.log.entries + 1 ≤ (shown self.old.items).spare }
+        ensures stands { (s : State) → StandsFor self.old s → IsState self.old.w self.old.limit (with_own s message) → StandsFor self.new (with_own s message) }
+        ensures settings { SameSettings self.old self.new }
+        ensures buffer { self.new.buffer ≡ self.old.buffer }
+        ensures spare { (shown self.old.items).spare + length self.new.log.entries ≤ (shown self.new.items).spare + (length self.old.log.entries + 1) }
+    {
+        let (origin, tag) = (message.origin, message.tag);
+        let before = self.matrix.stable();
+        note(&mut self.matrix, self.me, &message);
+        self.counts.set(origin, tag.at(origin));
+        self.due = is_due(self.due, self.me, &message);
+        let stable = self.matrix.stable();
+        self.window.push(origin, tag, is_noop(&message.op));
+        self.window.drop_stable(&stable);
+        send_again(&mut self.outbox, sent);
+        self.outbox.drop_stable(&stable);
+        settle(&mut self.log, &mut self.items, message, &before, &stable);
+    }
+}
+
+/// Notes a member's next message in its matrix.
+fn note(matrix: &mut Matrix, me: u8, message: &Message)
+    requires me { matrix.old.me ≡ me }
+    requires origin { message.now.origin < length matrix.old.rows }
+    requires entries { length message.now.tag ≡ length matrix.old.rows }
+    ensures members { length matrix.new.rows ≡ length matrix.old.rows }
+    ensures known { KeepsMatrix message.now matrix.old matrix.new }
+{
+    if message.origin == me {
+        matrix.note_own(message.tag);
+    } else {
+        matrix.note(message.origin, message.tag);
+    }
+}
+
+/// Whether a no-op is due at a member after its next message, where one was due before it or wasn't.
+fn is_due(due: bool, me: u8, message: &Message) -> bool
+    ensures { result ≡ is_due_after me due message.now }
+{
+    message.origin != me && (due || !is_noop(&message.op))
+}
+
+/// Whether an operation is the no-op.
+fn is_noop(op: &Op) -> bool
+    ensures { result ≡ not (carries_operation op.now) }
+{
+    matches!(op, Op::NoOp)
+}
+
+/// Puts a message, where there is one, behind those that are sent again.
+fn send_again(outbox: &mut Outbox, sent: Option<Message>)
+    requires room { IfSome sent (λ m. length outbox.old.messages < room_of outbox.old.n outbox.old.w) }
+    requires fits { IfSome sent (λ m. IsTrue (fits outbox.old.n m)) }
+    requires next { IfSome sent (λ m. All (λ e. ComesAfter e m) outbox.old.messages) }
+    ensures { outbox.new ≡ record { n = outbox.old.n; w = outbox.old.w; messages = messages_and outbox.old.messages sent } }
+{
+    if let Some(message) = sent {
+        outbox.push(message);
+    }
+}
