@@ -14,6 +14,8 @@ mod replica;
 mod sending;
 mod settling;
 mod step;
+#[cfg(test)]
+mod tests;
 
 pub use answers::{Beat, CreateFault, Local, Receive, Refusal};
 pub use numbers::are_numbers;
