@@ -81,47 +81,71 @@ fn message(alloc: Global) -> Result<Message, Fail>
 }
 
 #[test]
-fn calls_answer_and_note(rt: HostRuntime) -> Result<(), Fail> {
+fn what_is_sent_is_noted(rt: HostRuntime) -> Result<(), Fail> {
     let alloc = rt.alloc();
     let mut node = Node::create(alloc, 0, 2, 4, 10, Journal::new(alloc))?;
-    assert!(rt; matches!(node.local(alloc, &update(alloc)?), Local::Sent(_)));
+    let update = update(alloc)?;
+    assert!(rt; matches!(node.local(alloc, &update), Local::Sent(_)));
     assert_eq!(rt; node.beat(alloc), Beat::Quiet);
-    assert!(rt; matches!(node.receive(alloc, message(alloc)?), Receive::Took(_)));
-    assert_eq!(rt; node.receive(alloc, message(alloc)?), Receive::Old);
-    assert!(rt; matches!(node.beat(alloc), Beat::Sent(_)));
-    assert_eq!(rt; node.answer(alloc, &counter(alloc)?)?, Answer::Sum(10));
     assert_eq!(rt;
         (node.places(), node.first(), node.replica().n),
-        (4, (0, 2), 2)
+        (1, (0, 2), 2)
     );
     let (_, journal) = node.finish();
-    // the message that was sent, the one that came, its step, and the no-op
+    assert!(rt; matches!(journal.notes(), [Note::Sent(_)]));
+    Ok(())
+}
+
+#[test]
+fn what_comes_is_noted_with_its_step(rt: HostRuntime) -> Result<(), Fail> {
+    let alloc = rt.alloc();
+    let mut node = Node::create(alloc, 0, 2, 4, 10, Journal::new(alloc))?;
+    let message = message(alloc)?;
+    let object = counter(alloc)?;
+    assert!(rt; matches!(node.receive(alloc, message), Receive::Took(_)));
+    assert!(rt; matches!(node.beat(alloc), Beat::Sent(_)));
+    assert_eq!(rt; node.answer(alloc, &object)?, Answer::Sum(5));
+    let (_, journal) = node.finish();
+    // the message, its step, and the no-op that was due
     assert!(rt;
         matches!(
             journal.notes(),
-            [Note::Sent(_), Note::Kept(_), Note::Took(_), Note::Sent(_)]
+            [Note::Kept(_), Note::Took(_), Note::Sent(_)]
         )
     );
     Ok(())
 }
 
 #[test]
-fn want_of_room_changes_nothing(rt: HostRuntime) -> Result<(), Fail> {
+fn nothing_is_sent_where_room_is_wanting(rt: HostRuntime) -> Result<(), Fail> {
     let alloc = rt.alloc();
-    let mut sends = node_refusing(alloc, 1)?;
-    assert_eq!(rt; sends.local(alloc, &update(alloc)?), Local::NoMemory);
-    let mut receives = node_refusing(alloc, 1)?;
-    assert_eq!(rt; receives.receive(alloc, message(alloc)?), Receive::NoMemory);
-    for node in [sends, receives] {
-        assert_eq!(rt; node.answer(alloc, &counter(alloc)?)?, Answer::Sum(0));
-        assert!(rt; node.finish().1.notes.is_empty());
-    }
-    let mut beats = node_refusing(alloc, 2)?;
-    assert!(rt; matches!(beats.receive(alloc, message(alloc)?), Receive::Took(_)));
-    assert_eq!(rt; beats.beat(alloc), Beat::NoMemory);
-    assert_eq!(rt; beats.places(), 2);
-    // it is still due, and is sent at the next call
-    assert!(rt; matches!(beats.beat(alloc), Beat::Sent(_)));
+    let mut node = node_refusing(alloc, 1)?;
+    let update = update(alloc)?;
+    assert_eq!(rt; node.local(alloc, &update), Local::NoMemory);
+    assert_eq!(rt; node.places(), 0);
+    // at the next call there is room
+    assert!(rt; matches!(node.local(alloc, &update), Local::Sent(_)));
+    Ok(())
+}
+
+#[test]
+fn nothing_is_received_where_room_is_wanting(rt: HostRuntime) -> Result<(), Fail> {
+    let alloc = rt.alloc();
+    let mut node = node_refusing(alloc, 1)?;
+    let message = message(alloc)?;
+    assert_eq!(rt; node.receive(alloc, message), Receive::NoMemory);
+    assert_eq!(rt; (node.places(), node.replica().due), (0, false));
+    Ok(())
+}
+
+#[test]
+fn a_beat_is_still_due_where_room_is_wanting(rt: HostRuntime) -> Result<(), Fail> {
+    let alloc = rt.alloc();
+    let mut node = node_refusing(alloc, 2)?;
+    let message = message(alloc)?;
+    assert!(rt; matches!(node.receive(alloc, message), Receive::Took(_)));
+    assert_eq!(rt; node.beat(alloc), Beat::NoMemory);
+    assert!(rt; matches!(node.beat(alloc), Beat::Sent(_)));
     Ok(())
 }
 
