@@ -1,6 +1,6 @@
 //! What no clause says: that calls answer where there is memory. A world has the fields that are named here and no others.
 
-ghost use Rattle.std.specs.Prelude.{◌≡◌};
+ghost use Rattle.std.specs.Prelude.{◌≡◌, length, IfOk};
 
 use crate::{Given, RawGot, Resent, Settle, World};
 use op_base::{Act, Answer, ObjectId, Update};
@@ -32,20 +32,37 @@ fn a_store_has_1_to_16_members(rt: HostRuntime) -> Result<(), Fail> {
 }
 
 #[test]
-fn an_acknowledged_update_makes_room_for_the_next(rt: HostRuntime) -> Result<(), Fail> {
+fn what_was_sent_is_given_once(rt: HostRuntime) -> Result<(), Fail> {
+    let alloc = rt.alloc();
+    let mut world = World::create(alloc, 2, 1, 9)?;
+    let update = one_more(alloc)?;
+    assert!(rt; matches!(world.local(alloc, 0, &update), Local::Sent(_)));
+    assert!(rt; matches!(world.give(alloc, 1, 0, 1), Given::Got(Receive::Took(_))));
+    assert_eq!(rt; world.give(alloc, 1, 0, 1), Given::Got(Receive::Old));
+    assert_eq!(rt; world.give(alloc, 1, 0, 2), Given::Unsent);
+    Ok(())
+}
+
+#[test]
+fn an_outbox_is_offered_and_acknowledged(rt: HostRuntime) -> Result<(), Fail> {
+    let alloc = rt.alloc();
+    let mut world = World::create(alloc, 2, 1, 9)?;
+    let update = one_more(alloc)?;
+    assert!(rt; matches!(world.local(alloc, 0, &update), Local::Sent(_)));
+    assert!(rt; matches!(world.resend(alloc, 1, 0), Resent::Took(_)));
+    assert!(rt; matches!(world.beat(alloc, 1), Beat::Sent(_)));
+    Ok(())
+}
+
+#[test]
+fn settling_makes_room_for_the_next_update(rt: HostRuntime) -> Result<(), Fail> {
     let alloc = rt.alloc();
     let mut world = World::create(alloc, 2, 1, 9)?;
     let update = one_more(alloc)?;
     assert!(rt; matches!(world.local(alloc, 0, &update), Local::Sent(_)));
     assert_eq!(rt; world.local(alloc, 0, &update), Local::Busy);
-    assert!(rt; matches!(world.give(alloc, 1, 0, 1), Given::Got(Receive::Took(_))));
-    assert_eq!(rt; world.give(alloc, 1, 0, 1), Given::Got(Receive::Old));
-    assert_eq!(rt; world.give(alloc, 1, 0, 2), Given::Unsent);
-    assert!(rt; matches!(world.beat(alloc, 1), Beat::Sent(_)));
-    assert!(rt; matches!(world.resend(alloc, 0, 1), Resent::Took(_)));
-    assert!(rt; matches!(world.local(alloc, 0, &update), Local::Sent(_)));
     assert_eq!(rt; world.settle(alloc), Settle::Settled);
-    assert_eq!(rt; world.answer(alloc, 1, &counter(alloc)?)?, Answer::Sum(2));
+    assert!(rt; matches!(world.local(alloc, 0, &update), Local::Sent(_)));
     Ok(())
 }
 
@@ -68,6 +85,60 @@ fn one_member_settles_alone(rt: HostRuntime) -> Result<(), Fail> {
     assert!(rt; matches!(world.local(alloc, 0, &update), Local::Sent(_)));
     assert_eq!(rt; world.settle(alloc), Settle::Settled);
     assert_eq!(rt; world.size(0), (0, 1));
+    Ok(())
+}
+
+/// A world of 16 members, each of whose windows is full of updates.
+fn full_world(alloc: Global, update: &Update) -> Result<World, Fail>
+    ensures { IfOk result (λ world. length world.nodes.items ≡ 16) }
+{
+    let mut world = World::create(alloc, 16, 64, 99)?;
+    for i in 0..16 * 64_u16 {
+        if world.nodes.len() != 16 {
+            return Err("a member was lost".into());
+        }
+        world.local(alloc, (i % 16) as u8, update);
+    }
+    Ok(world)
+}
+
+#[test]
+fn sixteen_full_windows_are_settled(rt: HostRuntime) -> Result<(), Fail> {
+    let alloc = rt.alloc();
+    let update = one_more(alloc)?;
+    let mut world = full_world(alloc, &update)?;
+    assert_eq!(rt; world.local(alloc, 0, &update), Local::Busy);
+    assert_eq!(rt; world.settle(alloc), Settle::Settled);
+    let object = counter(alloc)?;
+    for r in 0..16 {
+        // nothing is logged, and the one item is the counter
+        assert_eq!(rt;
+            (world.size(r), world.answer(alloc, r, &object)?),
+            ((0, 1), Answer::Sum(16 * 64))
+        );
+    }
+    Ok(())
+}
+
+/// Member 0's first message of three, which adds 5 to the counter.
+const FIVE: &[u8] =
+    b"\x01\x00\x03\x0F\x00\x00\x00\x01\x00\x00\x00\x00\x00\x00\x00\x00\x01c\x00\x00\x00\x05";
+
+/// Another of the same id, which adds 7.
+const SEVEN: &[u8] =
+    b"\x01\x00\x03\x0F\x00\x00\x00\x01\x00\x00\x00\x00\x00\x00\x00\x00\x01c\x00\x00\x00\x07";
+
+#[test]
+fn one_id_of_two_contents_is_not_settled(rt: HostRuntime) -> Result<(), Fail> {
+    let alloc = rt.alloc();
+    let mut world = World::create(alloc, 3, 2, 9)?;
+    assert!(rt; matches!(world.raw(alloc, 1, FIVE), RawGot::Got(Receive::Took(_))));
+    assert!(rt; matches!(world.raw(alloc, 2, SEVEN), RawGot::Got(Receive::Took(_))));
+    assert_eq!(rt; world.settle(alloc), Settle::Unsettled);
+    let object = counter(alloc)?;
+    for (r, sum) in [(0, 0), (1, 5), (2, 7)] {
+        assert_eq!(rt; world.answer(alloc, r, &object)?, Answer::Sum(sum));
+    }
     Ok(())
 }
 
