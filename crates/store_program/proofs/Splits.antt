@@ -1,12 +1,8 @@
 -- Lemmas on the lines of a text that comes in pieces.
-use Rattle.std.proofs.Common.{◌≡◌, ℕ, ◌+◌, ◌<◌, Bool, true, false, not, cond, Some, None, List, [], ◌∷◌, ◌++◌, map, length, take, drop, refl, sym, ap, subst, ◌∙◌, append_assoc, arith, suc}
-use Rattle.std.specs.List.{slice_split, onto_first, position, position_or_len}
+use Rattle.std.proofs.Common.{◌≡◌, ℕ, true, false, cond, List, [], ◌∷◌, ◌++◌, map, refl, sym, ap, subst, ◌∙◌, append_assoc}
+use Rattle.std.specs.List.{slice_split, onto_first}
 use Rattle.std.specs.Str.Lines.{strip_carriage_return}
-use Rattle.std.proofs.lemmas.Bool.Decides.{nat_tests}
-use Rattle.std.proofs.lemmas.Grind.{common_steps}
 use Rattle.std.proofs.lemmas.List.{append-nil, map-append}
-use Rattle.std.proofs.lemmas.List.Splits.{slice_split_first, slice_split-cons_no}
-use Rattle.std.proofs.lemmas.List.Sums.{prefix_len-le-length}
 use Rattle.script_net.specs.Lines.{is_newline, lines_of, all_but_last, ended_lines_of}
 use Rattle.store_program.specs.Feeding.{IsDone, IsPart}
 
@@ -66,34 +62,6 @@ parts_both (b ∷ bs) ys =
       | true ↦ ap (λ (zs : List (List ℕ)). [] ∷ zs) rest ∙ sym (merge_cons [] (parts_of bs) (parts_of ys) (some_part bs))
       | false ↦ ap (onto_first b) rest ∙ onto_some b (parts_of bs) (parts_of ys) (some_part bs)
     ]
-
--- ---- the first newline
-
-place-no : (p : ℕ → Bool) (b : ℕ) (bs : List ℕ) → p b ≡ false → position_or_len p (b ∷ bs) ≡ suc (position_or_len p bs)
-place-no p b bs h = grind (arith, common_steps)
-
-place-yes : (p : ℕ → Bool) (b : ℕ) (bs : List ℕ) → p b ≡ true → position_or_len p (b ∷ bs) ≡ 0
-place-yes p b bs h = grind (arith, common_steps)
-
--- without an element that passes a list is cut nowhere
-split_whole : (p : ℕ → Bool) (xs : List ℕ) → position_or_len p xs ≡ length xs → slice_split p xs ≡ xs ∷ []
-split_whole p [] h = refl
-split_whole p (x ∷ xs) h = by_test (p x) refl (split_whole p xs) where
-  by_test : (t : Bool) → p x ≡ t → (position_or_len p xs ≡ length xs → slice_split p xs ≡ xs ∷ []) → slice_split p (x ∷ xs) ≡ (x ∷ xs) ∷ []
-  by_test true e whole = absurd (omega (arith, place-yes p x xs e))
-  by_test false e whole = rw (slice_split-cons_no p x xs e, whole (omega (arith, place-no p x xs e))) refl
-
--- where one passes, a list is cut first there
-pub split_there : (p : ℕ → Bool) (xs : List ℕ) (at : ℕ) → Some at ≡ position p xs → slice_split p xs ≡ take at xs ∷ slice_split p (drop (at + 1) xs)
-split_there p xs at h =
-    let within : position_or_len p xs < length xs = grind (arith, common_steps, nat_tests) in
-    let same : at ≡ position_or_len p xs = grind (arith, common_steps, nat_tests) in
-    rw same (slice_split_first p xs 0 within)
-
-pub split_nowhere : (p : ℕ → Bool) (xs : List ℕ) → None ≡ position p xs → slice_split p xs ≡ xs ∷ []
-split_nowhere p xs h =
-    let whole : position_or_len p xs ≡ length xs = grind (arith, common_steps, nat_tests, prefix_len-le-length (λ x. not (p x)) xs) in
-    split_whole p xs whole
 
 -- ---- the lines that are done
 

@@ -1,6 +1,6 @@
 use Rattle.std.proofs.lemmas.List.{take_rest}
 use Rattle.script_net.specs.Lines.{is_newline}
-use Rattle.store_program.proofs.Splits.{split_there, split_nowhere}
+use Rattle.script_lang.proofs.Places.{split_there, split_nowhere}
 use Rattle.store_program.proofs.line.split_line.Goals as goal
 
 pub returns-in-Some-clause-parts : goal.returns-in-Some-clause-parts
