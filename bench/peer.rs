@@ -1,4 +1,4 @@
-// A replicated store of operations of the same behaviour as the proved program's scripts and made scripts, as a plain
+// A replicated store of operations of the same behaviour as the proved program's scripts, as a plain
 // engineer would write it for speed, without proofs: it measures speed, not right. A `give` offers the message itself, names
 // are interned once, and sums have 64 bits. `bench/scripts` builds it and runs it beside the proved program.
 // peer script < in > out   |   peer make [OPTIONS]   (four options, each with a number)

@@ -41,7 +41,7 @@ pub enum Local {
 pub enum Beat {
     /// The message that was sent.
     Sent(Message),
-    /// No no-op is due: no operation of another member came since the last own message. Nothing was sent.
+    /// No no-op is due: no operation of another member was delivered since the last own message. Nothing was sent.
     Quiet,
     /// As many own no-ops are unstable as their window has. Nothing was sent.
     Held,

@@ -19,9 +19,10 @@ impl Replica {
     ghost use Rattle.replica_core.specs.Rules.{StandsFor, SameSettings, Unchanged, IsBounded, TellsKnown, TellsRefusal, AnswersReceive, OnReceiveRefusal};
     ghost use Rattle.replica_core.specs.Steps.{HasStepped, IsStepOf};
 
-    /// Receives a message of the store, none of whose entries is above the limit. One that is old, early already or too far
-    /// ahead is let go, and changes nothing. Each other becomes early; then early messages are delivered, or dropped where
-    /// they are crooked, until none can be delivered. All memory is taken before the first change.
+    /// Receives a message of the store, none of whose entries is above the limit and whose operation is valid. One that is
+    /// old, early already or too far ahead is let go, and changes nothing. Each other becomes early; then early messages are
+    /// delivered, or dropped where they are crooked, until none can be delivered. All memory is taken before the first
+    /// change.
     pub fn receive(&mut self, alloc: Global, message: Message) -> Receive
         requires fits { IsTrue (fits self.old.n message) }
         requires carried { IsTrue (is_carried self.old.limit message) }

@@ -39,7 +39,7 @@ pub struct Replica {
     pub window: TagWindow,
     /// The early messages.
     pub buffer: CausalBuffer,
-    /// The unstable messages that nothing covers, of kinds that are logged.
+    /// The unstable messages that nothing covers, of acts that their kinds log.
     pub log: Polog,
     /// What is settled.
     pub items: Items,

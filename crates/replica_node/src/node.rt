@@ -126,9 +126,9 @@ impl<R: Recorder> Node<R> {
         answer
     }
 
-    /// Receives a message of the store, none of whose entries is above the limit: as the replica's call; a message that is
-    /// accepted is noted, and each step that follows. Every refusal leaves the node as it was, and takes no memory but for
-    /// `NoMemory`.
+    /// Receives a message of the store, none of whose entries is above the limit and whose operation is valid: as the
+    /// replica's call; a message that is accepted is noted, and each step that follows. Every refusal leaves the node as it
+    /// was, and takes no memory but for `NoMemory`.
     pub fn receive(&mut self, alloc: Global, message: Message) -> Receive
         requires fits { IsTrue (fits self.old.inner.n message) }
         requires carried { IsTrue (is_carried self.old.inner.limit message) }

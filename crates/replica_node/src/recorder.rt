@@ -7,7 +7,7 @@ use causal_model::Note;
 use op_base::NoMemory;
 use std::alloc::Global;
 
-/// A list of notes that grows. It has no call that reads, so nothing that is written over it can depend on what it holds.
+/// A list of notes that grows. It has no call that reads, so nothing but want of memory can depend on what it holds.
 pub trait Recorder {
     /// The notes, oldest first.
     ghost notes: { Self → List ANote };

@@ -1,5 +1,5 @@
-//! What no clause says: that calls answer and note where there is memory, and that a node asks for room before its first
-//! change. A node and a replica have the fields that are named here and no others.
+//! What no clause says: that calls answer and note where there is memory, and that a node and a replica have the fields that
+//! are named here and no others. What clauses say too: that a call whose room is refused has changed nothing.
 
 ghost use Rattle.std.specs.Prelude.{◌≡◌, ◌-◌, length, vec_capacity, IfOk, IsTrue};
 ghost use Rattle.op_base.specs.Message.{fits};

@@ -27,7 +27,7 @@ pub enum Fault {
     Value,
     /// The amount, or the number of a message, is no number.
     Number,
-    /// There is no memory for what the command keeps. The line is a command, or its fault is `Operation` or a later one.
+    /// There is no memory for what the command keeps. The line is a command, or its fault is `Object` or a later one.
     NoMemory,
 }
 

@@ -20,8 +20,8 @@ pub enum Header {
         w: u8,
         limit: u32,
     },
-    /// A live input, at a store of `n` members with a window of `w`, with 1 to 8 clients. A courier makes `turns`
-    /// turns, at most 10000, and of its letters each `loss`-th is lost, at most 1000000; at 0 none is.
+    /// A live input, at a store of `n` members with a window of `w`, with 1 to 8 clients, at most 10000 turns and a loss
+    /// of at most 1000000. The mode is not built yet.
     Live {
         n: u8,
         w: u8,

@@ -24,11 +24,11 @@ pub enum Reply {
     Is(Answer),
     /// The member has not sent the message.
     Unsent,
-    /// A message of its origin with its number, or a later one, was delivered.
+    /// It names the replica itself as its member, or a message of its member and number was delivered.
     Old,
     /// A message of its id is early already.
     Again,
-    /// The message is further ahead than early messages may be.
+    /// It is too far ahead, by its number or by own messages of the replica that it has seen and that weren't sent.
     Far,
     /// The message is kept as early.
     Kept,

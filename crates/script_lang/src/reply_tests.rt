@@ -95,7 +95,7 @@ fn plain_replies_have_their_lines(rt: HostRuntime) -> Result<(), Fail> {
         Reply::Seen { n: 3, tag: seen },
         b"seen 5 0 10\n",
     )?;
-    is_printed(&rt, alloc, Reply::Bad(9), b"bad 9\n")
+    is_printed(&rt, alloc, Reply::Bad(8), b"bad 8\n")
 }
 
 #[test]

@@ -18,7 +18,7 @@ NotedNode = Node Notes ghosts
 abbrev pub state_of : NotedNode → State
 state_of node = state_by node.first node.journal.notes
 
--- nodes, and the frames that each sent, show a plain world that commands lead to
+-- nodes, and the frames that each sent, show a plain world, which is one that has what commands keep
 pub record Shows (nodes : List NotedNode) (rows : List (List (List ℕ))) (plain : PlainWorld) : Type 0 where
   pub is_world : IsWorld plain
   -- each node's journal gives its replica's state

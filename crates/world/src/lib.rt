@@ -1,4 +1,4 @@
-//! A world: the nodes of all members of a store, and the frames of all that they sent. It is the plain world, whose replicas
+//! A world: the nodes of all members of a store, and the frames of all that they sent. It shows the plain world, whose replicas
 //! keep every message: each call's answer and effect are those of the plain world that it shows.
 //!
 //! What calls there are, and settling by rounds, is this project's own profile.

@@ -71,7 +71,7 @@ SettlingKeepsWorld = (world : PlainWorld) → IsWorld world → KeepsWorld world
 
 -- ---- settling
 
--- settling ends: its last round begins in a world of the store, and moves nothing
+-- settling gives what a round that moves nothing gives, of some world of the store
 abbrev pub SettlingEnds : Type 0
 SettlingEnds = (world : PlainWorld) → IsWorld world
     → (before : PlainWorld) × KeepsWorld world before × ((round_of before).moved ≡ false) × ((round_of before).world ≡ world_settled world)

@@ -1,4 +1,4 @@
--- The worlds that commands lead to: what each command keeps of them.
+-- What each command keeps of a plain world: every world that commands lead to is one, and others may be.
 use Rattle.std.specs.Prelude.{◌≡◌, ℕ, ◌<◌, ◌≤◌, ◌==◌, List, [], length, filter, None}
 use Rattle.op_base.specs.declared.message.Message.{Message}
 use Rattle.causal_model.specs.Laws.States.{next_of}
