@@ -322,10 +322,10 @@ fn an_input_has_at_most_4194304_bytes(rt: HostRuntime) -> Result<(), Fail> {
     let cases: [(&[u8], usize, &[u8], Status); 5] = [
         (b"store 1 1\n", MOST_INPUT, b"", Status::Fine),
         (b"store 1 1\n", MOST_INPUT, b"\n", Status::TooLong),
-        (b"store 9 1\n", MOST_INPUT, b"\n", Status::BadHeader),
+        (b"store 0 1\n", MOST_INPUT, b"\n", Status::BadHeader),
         // The newline of the first command line is the first byte that may not come, and the last one that may.
-        (b"", MOST_INPUT - 9, b"store 9 1\n", Status::TooLong),
-        (b"", MOST_INPUT - 10, b"store 9 1\n\n", Status::BadHeader),
+        (b"", MOST_INPUT - 9, b"store 0 1\n", Status::TooLong),
+        (b"", MOST_INPUT - 10, b"store 0 1\n\n", Status::BadHeader),
     ];
     for (head, len, tail, status) in cases {
         let input = padded(rt.alloc(), head, len, tail)?;
