@@ -17,7 +17,7 @@ struct Script {
     rows: &'static [(&'static str, &'static str)],
 }
 
-const SCRIPTS: [Script; 23] = [
+const SCRIPTS: [Script; 24] = [
     // A remove takes out the adds that it has seen; what is stable leaves the log.
     Script {
         n: 2,
@@ -390,6 +390,54 @@ const SCRIPTS: [Script; 23] = [
             ("settle", "unsettled"),
             ("seen 0", "seen 0 0 0"),
             ("seen 1", "seen 1 1 1"),
+        ],
+    },
+    // Acts of each kind that know nothing of each other, before they are stable and after.
+    Script {
+        n: 2,
+        w: 16,
+        limit: LIMIT,
+        rows: &[
+            ("do 0 awset:s add x", "ok 1"),
+            ("do 0 awset:s add y", "ok 2"),
+            ("do 0 ewflag:f enable", "ok 3"),
+            ("do 0 dwflag:g enable", "ok 4"),
+            ("do 0 mvreg:m write a", "ok 5"),
+            ("do 0 rcounter:c inc 1", "ok 6"),
+            ("resend 1 0", "took 0:1 0:2 0:3 0:4 0:5 0:6"),
+            ("do 0 awset:s add x", "ok 7"),
+            ("do 1 awset:s rmv x", "ok 1"),
+            ("do 0 awset:s rmv y", "ok 8"),
+            ("do 1 rwset:t add z", "ok 2"),
+            ("do 0 rwset:t rmv z", "ok 9"),
+            ("do 0 ewflag:f enable", "ok 10"),
+            ("do 1 ewflag:f disable", "ok 3"),
+            ("do 0 dwflag:g enable", "ok 11"),
+            ("do 1 dwflag:g disable", "ok 4"),
+            ("do 0 mvreg:m write b", "ok 12"),
+            ("do 1 mvreg:m write c", "ok 5"),
+            ("do 0 rcounter:c inc 2", "ok 13"),
+            ("do 1 rcounter:c clear", "ok 6"),
+            ("do 1 counter:d dec 4", "ok 7"),
+            ("resend 0 1", "took 1:1 1:2 1:3 1:4 1:5 1:6 1:7"),
+            ("resend 1 0", "took 0:7 0:8 0:9 0:10 0:11 0:12 0:13"),
+            ("ask 0 awset:s", "= x"),
+            ("ask 1 rwset:t", "="),
+            ("ask 0 ewflag:f", "= on"),
+            ("ask 1 dwflag:g", "= off"),
+            ("ask 0 mvreg:m", "= b c"),
+            ("ask 1 rcounter:c", "= 2"),
+            ("ask 0 counter:d", "= -4"),
+            ("log 0", "log 0:7 0:9 0:10 0:11 0:12 0:13"),
+            ("settle", "settled"),
+            ("log 0", "log"),
+            ("ask 1 awset:s", "= x"),
+            ("ask 0 rwset:t", "="),
+            ("ask 1 ewflag:f", "= on"),
+            ("ask 0 dwflag:g", "= off"),
+            ("ask 1 mvreg:m", "= b c"),
+            ("ask 0 rcounter:c", "= 2"),
+            ("ask 1 counter:d", "= -4"),
         ],
     },
     // Frames of the second version, of another epoch, and of the first.
