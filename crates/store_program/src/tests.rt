@@ -305,6 +305,39 @@ fn each_read_and_each_write_can_fail(rt: HostRuntime) -> Result<(), Fail> {
     Ok(())
 }
 
+const REMOVED: &[u8] =
+    b"store 2 2\ndo 0 awset:s add x\ngive 1 0 1\ndo 1 awset:s rmv x\ndo 0 awset:s add x\ngive 0 1 1\ngive 1 0 2\nask 0 awset:s\nask 1 awset:s\nlog 0\nlog 1\nsize 1\nseen 1\nstable 0\nstable 1\n";
+
+const REMOVED_REPLIES: &[u8] =
+    b"ok 1\ntook 0:1\nok 1\nok 2\ntook 1:1\ntook 0:2\n= x\n= x\nlog 0:2\nlog\nsize 0 1\nseen 2 1\nstable 1 1\nstable 2 0\n";
+
+#[test]
+fn each_piece_of_a_script_on_two_can_fail(rt: HostRuntime) -> Result<(), Fail> {
+    // Pieces of 64 bytes, and a write before each read: the read or the write that fails, and how much is written before.
+    let cases: [(&[u32], &[u32], Status, usize); 7] = [
+        (&[1], &[], Status::ReadFault, 0),
+        (&[2], &[], Status::ReadFault, 19),
+        (&[3], &[], Status::ReadFault, 50),
+        (&[4], &[], Status::ReadFault, 102),
+        (&[], &[1], Status::WriteFault, 0),
+        (&[], &[2], Status::WriteFault, 19),
+        (&[], &[3], Status::WriteFault, 50),
+    ];
+    for (failing_reads, failing_writes, status, len) in cases {
+        let streams = Streams {
+            read: 64,
+            failing_reads,
+            write: 65536,
+            failing_writes,
+        };
+        let (found, written) = outcome(&rt, &["store", "script"], REMOVED, streams)?;
+        assert_eq!(rt; found, status, "at {failing_reads:?} {failing_writes:?}");
+        assert!(rt; len <= REMOVED_REPLIES.len());
+        assert_eq!(rt; written.as_slice(), &REMOVED_REPLIES[..len]);
+    }
+    Ok(())
+}
+
 /// A header, newlines up to a length, and then more bytes.
 fn padded(alloc: Global, head: &[u8], len: usize, tail: &[u8]) -> Result<Vec<u8>, AllocError> {
     let mut bytes = Vec::with_capacity(alloc, len)?;
