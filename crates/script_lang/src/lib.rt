@@ -25,11 +25,12 @@ pub use command::{Command, Line, read_line};
 pub use fault::MOST_LINE_BYTES;
 pub use header::{Header, USUAL_LIMIT, read_header};
 pub use laws::replies_can_be_read_back;
+pub use listed::put_number;
 pub use live::{LiveCommand, LiveLine, read_live_line};
 pub use note::put_note;
 pub use number::read_number;
 pub use reply::{Reply, put_reply};
-pub use word::is_passed_over;
+pub use word::{Words, is_passed_over, split};
 
 #[cfg(test)]
 mod reply_tests;

@@ -1,0 +1,15 @@
+-- Numbers that are drawn: a linear congruential generator modulo 2^31, of which the lower 16 bits are not used.
+use Rattle.std.specs.Prelude.{ℕ, zero, suc, ◌+◌, ◌*◌, ◌/◌, ◌%◌}
+
+-- the state after a draw
+abbrev pub next_state : ℕ → ℕ
+next_state state = (state * 1103515245 + 12345) % 2147483648
+
+-- the state after so many draws
+abbrev pub state_after : ℕ → ℕ → ℕ
+state_after zero state = state
+state_after (suc draws) state = state_after draws (next_state state)
+
+-- what the k-th draw from a state gives below m, counted from 1
+abbrev pub drawn : (k m : ℕ) → ℕ → ℕ
+drawn k m state = (state_after k state / 65536) % m

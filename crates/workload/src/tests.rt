@@ -1,0 +1,1 @@
+//! Made scripts and their summary.
