@@ -2,8 +2,12 @@
 use Rattle.std.specs.Prelude.{ℕ, zero, suc, ◌+◌, ◌*◌, ◌/◌, ◌%◌}
 
 -- the state after a draw
-abbrev pub next_state : ℕ → ℕ
+unfoldable pub next_state : ℕ → ℕ
 next_state state = (state * 1103515245 + 12345) % 2147483648
+
+-- what a draw gives below m, by the state after it
+unfoldable pub given : (m : ℕ) → ℕ → ℕ
+given m state = (state / 65536) % m
 
 -- the state after so many draws
 abbrev pub state_after : ℕ → ℕ → ℕ
@@ -12,4 +16,4 @@ state_after (suc draws) state = state_after draws (next_state state)
 
 -- what the k-th draw from a state gives below m, counted from 1
 abbrev pub drawn : (k m : ℕ) → ℕ → ℕ
-drawn k m state = (state_after k state / 65536) % m
+drawn k m state = given m (state_after k state)

@@ -4,13 +4,14 @@ ghost use Rattle.std.specs.Prelude.{◌≡◌, ◌≤◌, ◌<◌};
 ghost use Rattle.workload.specs.Draws.{next_state, drawn};
 
 /// Numbers that are drawn one after the other, from a state.
-#[derive(Clone, Copy, Debug)]
+#[derive(Drop)]
 pub struct Draws {
     pub state: u32,
 }
 
 impl Draws {
     /// Draws a number below `m`.
+    #[tactic(auto, unfolding(crate::specs::Draws::next_state, crate::specs::Draws::given))]
     pub fn below(&mut self, m: u32) -> u32
         requires { 1 ≤ m }
         ensures number { result ≡ drawn 1 m self.old.state }

@@ -8,6 +8,8 @@ mod draws;
 mod laws;
 mod operation;
 mod script;
+#[cfg(test)]
+mod script_tests;
 mod summary;
 #[cfg(test)]
 mod tests;

@@ -1,12 +1,25 @@
-//! The operations by code.
+//! The operations by code, and the kinds by number.
 
-ghost use Rattle.std.specs.Prelude.{◌≡◌, ◌≤◌};
-ghost use Rattle.workload.specs.Script.{operation_of, kind_at};
+ghost use Rattle.std.specs.Prelude.{◌≡◌, ◌≤◌, ◌<◌};
+ghost use Rattle.workload.specs.Script.{verb_word, argument_of, operation_of, kind_at};
 
 use op_base::Kind;
 
+/// What an operation does.
+#[derive(Clone, Copy)]
+pub enum Verb {
+    Add,
+    Rmv,
+    Clear,
+    Enable,
+    Disable,
+    Write,
+    Inc,
+    Dec,
+}
+
 /// What stands behind an operation's word.
-#[derive(Clone, Copy, Debug, PartialEq, Eq)]
+#[derive(Clone, Copy)]
 pub enum Argument {
     /// No word.
     Nothing,
@@ -16,62 +29,146 @@ pub enum Argument {
     Amount,
 }
 
-/// An operation of a kind, by its word.
+/// An operation on the objects of a kind.
 #[derive(Clone, Copy)]
 pub struct Operation {
-    /// The kind of the objects that have it.
     pub kind: Kind,
-    /// Its word.
-    pub word: &'static [u8],
-    /// What stands behind the word.
-    pub argument: Argument,
+    pub verb: Verb,
 }
 
-/// The operation of a code from 1 to 19.
-pub fn operation_of(code: u32) -> Operation
-    ensures kind { result.kind ≡ (operation_of code).kind }
-    ensures word { result.word.now ≡ (operation_of code).word }
-    ensures argument { result.argument ≡ (operation_of code).argument }
-{
-    let (kind, word, argument): (Kind, &'static [u8], Argument) = match code {
-        1 => (Kind::AwSet, b"add", Argument::Value),
-        2 => (Kind::AwSet, b"rmv", Argument::Value),
-        3 => (Kind::AwSet, b"clear", Argument::Nothing),
-        4 => (Kind::RwSet, b"add", Argument::Value),
-        5 => (Kind::RwSet, b"rmv", Argument::Value),
-        6 => (Kind::RwSet, b"clear", Argument::Nothing),
-        7 => (Kind::EwFlag, b"enable", Argument::Nothing),
-        8 => (Kind::EwFlag, b"disable", Argument::Nothing),
-        9 => (Kind::EwFlag, b"clear", Argument::Nothing),
-        10 => (Kind::DwFlag, b"enable", Argument::Nothing),
-        11 => (Kind::DwFlag, b"disable", Argument::Nothing),
-        12 => (Kind::DwFlag, b"clear", Argument::Nothing),
-        13 => (Kind::MvReg, b"write", Argument::Value),
-        14 => (Kind::MvReg, b"clear", Argument::Nothing),
-        15 => (Kind::Counter, b"inc", Argument::Amount),
-        16 => (Kind::Counter, b"dec", Argument::Amount),
-        17 => (Kind::RCounter, b"inc", Argument::Amount),
-        18 => (Kind::RCounter, b"dec", Argument::Amount),
-        _ => (Kind::RCounter, b"clear", Argument::Nothing),
-    };
+/// The kinds, in their order.
+const KINDS: [Kind; 7] = [
+    Kind::AwSet,
+    Kind::RwSet,
+    Kind::EwFlag,
+    Kind::DwFlag,
+    Kind::MvReg,
+    Kind::Counter,
+    Kind::RCounter,
+];
+
+/// The operations by code, the first with code 1.
+const OPERATIONS: [Operation; 19] = [
     Operation {
-        kind,
-        word,
-        argument,
+        kind: Kind::AwSet,
+        verb: Verb::Add,
+    },
+    Operation {
+        kind: Kind::AwSet,
+        verb: Verb::Rmv,
+    },
+    Operation {
+        kind: Kind::AwSet,
+        verb: Verb::Clear,
+    },
+    Operation {
+        kind: Kind::RwSet,
+        verb: Verb::Add,
+    },
+    Operation {
+        kind: Kind::RwSet,
+        verb: Verb::Rmv,
+    },
+    Operation {
+        kind: Kind::RwSet,
+        verb: Verb::Clear,
+    },
+    Operation {
+        kind: Kind::EwFlag,
+        verb: Verb::Enable,
+    },
+    Operation {
+        kind: Kind::EwFlag,
+        verb: Verb::Disable,
+    },
+    Operation {
+        kind: Kind::EwFlag,
+        verb: Verb::Clear,
+    },
+    Operation {
+        kind: Kind::DwFlag,
+        verb: Verb::Enable,
+    },
+    Operation {
+        kind: Kind::DwFlag,
+        verb: Verb::Disable,
+    },
+    Operation {
+        kind: Kind::DwFlag,
+        verb: Verb::Clear,
+    },
+    Operation {
+        kind: Kind::MvReg,
+        verb: Verb::Write,
+    },
+    Operation {
+        kind: Kind::MvReg,
+        verb: Verb::Clear,
+    },
+    Operation {
+        kind: Kind::Counter,
+        verb: Verb::Inc,
+    },
+    Operation {
+        kind: Kind::Counter,
+        verb: Verb::Dec,
+    },
+    Operation {
+        kind: Kind::RCounter,
+        verb: Verb::Inc,
+    },
+    Operation {
+        kind: Kind::RCounter,
+        verb: Verb::Dec,
+    },
+    Operation {
+        kind: Kind::RCounter,
+        verb: Verb::Clear,
+    },
+];
+
+impl Verb {
+    /// Its word.
+    pub fn word(self) -> &'static [u8]
+        ensures { result.now ≡ verb_word self }
+    {
+        match self {
+            Verb::Add => b"add",
+            Verb::Rmv => b"rmv",
+            Verb::Clear => b"clear",
+            Verb::Enable => b"enable",
+            Verb::Disable => b"disable",
+            Verb::Write => b"write",
+            Verb::Inc => b"inc",
+            Verb::Dec => b"dec",
+        }
+    }
+
+    /// What stands behind it.
+    pub fn argument(self) -> Argument
+        ensures { result ≡ argument_of self }
+    {
+        match self {
+            Verb::Add | Verb::Rmv | Verb::Write => Argument::Value,
+            Verb::Inc | Verb::Dec => Argument::Amount,
+            _ => Argument::Nothing,
+        }
     }
 }
 
-/// The kind of a number from 0 to 6, in the order of kinds.
+/// The operation of a code.
+pub fn operation_of(code: u32) -> Operation
+    requires from { 1 ≤ code }
+    requires to { code ≤ 19 }
+    ensures { result ≡ operation_of code }
+{
+    OPERATIONS[code as usize - 1]
+}
+
+/// The kind of a number, in the order of kinds.
 pub fn kind_at(place: u32) -> Kind
+    requires { place < 7 }
     ensures { result ≡ kind_at place }
 {
-    match place {
-        0 => Kind::AwSet,
-        1 => Kind::RwSet,
-        2 => Kind::EwFlag,
-        3 => Kind::DwFlag,
-        4 => Kind::MvReg,
-        5 => Kind::Counter,
-        _ => Kind::RCounter,
-    }
+    KINDS[place as usize]
 }
