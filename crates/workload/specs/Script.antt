@@ -7,7 +7,6 @@ use Rattle.op_base.specs.declared.name.Kind.{Kind}
 use Rattle.op_base.specs.declared.name.Kind.TheVariants.{AwSet, RwSet, EwFlag, DwFlag, MvReg, Counter, RCounter}
 use Rattle.script_lang.specs.Replies.{joined}
 use Rattle.workload.specs.Draws.{state_after, drawn}
-use Rattle.workload.specs.declared.operation.Operation.{Operation}
 use Rattle.workload.specs.declared.operation.Verb.{Verb}
 use Rattle.workload.specs.declared.operation.Verb.TheVariants.{Add, Rmv, Clear, Enable, Disable, Write, Inc, Dec}
 use Rattle.workload.specs.declared.operation.Argument.{Argument}
@@ -36,11 +35,11 @@ argument_of Dec = Amount
 argument_of verb = Nothing
 
 -- the operations of a kind
-abbrev pub operations_of : Kind → List Verb → List Operation
-operations_of kind verbs = map (λ verb. record { kind = kind; verb = verb }) verbs
+abbrev pub operations_of : Kind → List Verb → List (Kind × Verb)
+operations_of kind verbs = map (λ verb. (kind, verb)) verbs
 
 -- the operations by code, from 1 to 19
-abbrev pub operations : List Operation
+abbrev pub operations : List (Kind × Verb)
 operations =
     operations_of AwSet (Add ∷ Rmv ∷ Clear ∷ [])
     ++ operations_of RwSet (Add ∷ Rmv ∷ Clear ∷ [])
@@ -51,8 +50,8 @@ operations =
     ++ operations_of RCounter (Inc ∷ Dec ∷ Clear ∷ [])
 
 -- the operation of a code
-abbrev pub operation_of : ℕ → Operation
-operation_of code = slice_index_or operations (code - 1) (record { kind = AwSet; verb = Add })
+abbrev pub operation_of : ℕ → Kind × Verb
+operation_of code = slice_index_or operations (code - 1) (AwSet, Add)
 
 -- the kinds by number, from 0 in their order
 abbrev pub kind_at : ℕ → Kind
@@ -82,11 +81,11 @@ argument_after Value state = state_after 1 state
 argument_after Amount state = state_after 1 state
 
 -- do: an operation on an object of its kind; the key is drawn, and then the argument
-abbrev pub do_operation : Operation → ℕ → ℕ → Made
+abbrev pub do_operation : Kind × Verb → ℕ → ℕ → Made
 do_operation o r state = record {
-  words = codes "do" ∷ decimal r ∷ object_word o.kind (drawn 1 2 state) ∷ verb_word o.verb
-      ∷ argument_words (argument_of o.verb) (state_after 1 state);
-  after = argument_after (argument_of o.verb) (state_after 1 state);
+  words = codes "do" ∷ decimal r ∷ object_word o.0 (drawn 1 2 state) ∷ verb_word o.1
+      ∷ argument_words (argument_of o.1) (state_after 1 state);
+  after = argument_after (argument_of o.1) (state_after 1 state);
 }
 
 -- do: the code is drawn, and then the rest

@@ -29,13 +29,6 @@ pub enum Argument {
     Amount,
 }
 
-/// An operation on the objects of a kind.
-#[derive(Clone, Copy)]
-pub struct Operation {
-    pub kind: Kind,
-    pub verb: Verb,
-}
-
 /// The kinds, in their order.
 const KINDS: [Kind; 7] = [
     Kind::AwSet,
@@ -47,84 +40,27 @@ const KINDS: [Kind; 7] = [
     Kind::RCounter,
 ];
 
-/// The operations by code, the first with code 1.
-const OPERATIONS: [Operation; 19] = [
-    Operation {
-        kind: Kind::AwSet,
-        verb: Verb::Add,
-    },
-    Operation {
-        kind: Kind::AwSet,
-        verb: Verb::Rmv,
-    },
-    Operation {
-        kind: Kind::AwSet,
-        verb: Verb::Clear,
-    },
-    Operation {
-        kind: Kind::RwSet,
-        verb: Verb::Add,
-    },
-    Operation {
-        kind: Kind::RwSet,
-        verb: Verb::Rmv,
-    },
-    Operation {
-        kind: Kind::RwSet,
-        verb: Verb::Clear,
-    },
-    Operation {
-        kind: Kind::EwFlag,
-        verb: Verb::Enable,
-    },
-    Operation {
-        kind: Kind::EwFlag,
-        verb: Verb::Disable,
-    },
-    Operation {
-        kind: Kind::EwFlag,
-        verb: Verb::Clear,
-    },
-    Operation {
-        kind: Kind::DwFlag,
-        verb: Verb::Enable,
-    },
-    Operation {
-        kind: Kind::DwFlag,
-        verb: Verb::Disable,
-    },
-    Operation {
-        kind: Kind::DwFlag,
-        verb: Verb::Clear,
-    },
-    Operation {
-        kind: Kind::MvReg,
-        verb: Verb::Write,
-    },
-    Operation {
-        kind: Kind::MvReg,
-        verb: Verb::Clear,
-    },
-    Operation {
-        kind: Kind::Counter,
-        verb: Verb::Inc,
-    },
-    Operation {
-        kind: Kind::Counter,
-        verb: Verb::Dec,
-    },
-    Operation {
-        kind: Kind::RCounter,
-        verb: Verb::Inc,
-    },
-    Operation {
-        kind: Kind::RCounter,
-        verb: Verb::Dec,
-    },
-    Operation {
-        kind: Kind::RCounter,
-        verb: Verb::Clear,
-    },
+/// The operations by code, the first with code 1: the kind of their objects, and what they do.
+const OPERATIONS: [(Kind, Verb); 19] = [
+    (Kind::AwSet, Verb::Add),
+    (Kind::AwSet, Verb::Rmv),
+    (Kind::AwSet, Verb::Clear),
+    (Kind::RwSet, Verb::Add),
+    (Kind::RwSet, Verb::Rmv),
+    (Kind::RwSet, Verb::Clear),
+    (Kind::EwFlag, Verb::Enable),
+    (Kind::EwFlag, Verb::Disable),
+    (Kind::EwFlag, Verb::Clear),
+    (Kind::DwFlag, Verb::Enable),
+    (Kind::DwFlag, Verb::Disable),
+    (Kind::DwFlag, Verb::Clear),
+    (Kind::MvReg, Verb::Write),
+    (Kind::MvReg, Verb::Clear),
+    (Kind::Counter, Verb::Inc),
+    (Kind::Counter, Verb::Dec),
+    (Kind::RCounter, Verb::Inc),
+    (Kind::RCounter, Verb::Dec),
+    (Kind::RCounter, Verb::Clear),
 ];
 
 impl Verb {
@@ -156,8 +92,8 @@ impl Verb {
     }
 }
 
-/// The operation of a code.
-pub fn operation_of(code: u32) -> Operation
+/// The operation of a code: the kind of its objects, and what it does.
+pub fn operation_of(code: u32) -> (Kind, Verb)
     requires from { 1 ≤ code }
     requires to { code ≤ 19 }
     ensures { result ≡ operation_of code }
