@@ -1,9 +1,8 @@
 //! The made script.
 
-ghost use Rattle.std.specs.Prelude.{◌≡◌, ◌≤◌, ◌<◌, ◌++◌, ◌∷◌, [], codes, IfOk, OnOk};
+ghost use Rattle.std.specs.Prelude.{◌≡◌, ◌≤◌, ◌++◌, ◌∷◌, [], codes, IfOk, OnOk};
 ghost use Rattle.std.specs.Fmt.{decimal};
 ghost use Rattle.script_lang.specs.Replies.{joined, spaced};
-ghost use Rattle.workload.specs.Draws.{state_after};
 ghost use Rattle.workload.specs.Script.{object_word, argument_words, argument_after, do_operation, do_line, ask_line, beat_line, resend_line, give_line, line_of_kind, line_from, lines_from, header_words, questions_of, closing_lines, line_of, text_of, made_script};
 
 use crate::draws::Draws;
@@ -12,14 +11,14 @@ use op_base::{Kind, NoMemory, Text};
 use script_lang::put_number;
 use std::alloc::Global;
 
-/// A line has at most so many bytes.
-const LINE_BYTES: usize = 25;
+/// A line that is drawn has at most so many bytes.
+const LINE_BYTES: usize = 26;
 
 /// The header and the closing lines have at most so many bytes.
 const OTHER_BYTES: usize = 300;
 
 /// The script of a seed: a header of `n` members and a window of `w`, `count` lines that are drawn, and then `settle` and
-/// a question for each of the fourteen objects.
+/// a question for each of the fourteen objects. The same numbers give the same script.
 pub fn make(alloc: Global, seed: u32, count: u32, n: u8, w: u8) -> Result<Text, NoMemory>
     requires { 1 ≤ n }
     ensures { IfOk result (λ text. text ≡ made_script seed count n w) }
@@ -59,7 +58,7 @@ fn put_header(n: u8, w: u8, out: &mut Text) -> Result<(), NoMemory>
     out.extend_from_slice(b" 65535\n")
 }
 
-/// Puts a line of each draw, so many from a state on.
+/// Puts so many lines that are drawn from a state on.
 fn put_lines(count: u32, n: u8, state: u32, out: &mut Text) -> Result<(), NoMemory>
     requires { 1 ≤ n }
     ensures { OnOk result (out.new ≡ out.old ++ text_of (lines_from n count state)) }
