@@ -1,2 +1,9 @@
 mod Lines
 mod Headers
+mod Views
+mod Kept
+mod Counting
+mod Puts
+mod ByteOrder
+mod SortedCounts
+mod Summed

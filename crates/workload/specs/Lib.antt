@@ -1,4 +1,5 @@
 pub mod Draws
 pub mod Script
 pub mod Summary
+pub mod Counts
 pub mod Laws

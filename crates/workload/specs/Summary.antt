@@ -1,6 +1,6 @@
 -- The summary of a script and its transcript.
 use Rattle.std.specs.Prelude.{ℕ, ◌-◌, ◌==◌, List, [], ◌∷◌, ◌++◌, length, map, fold, take, drop, codes, slice_index_or}
-use Rattle.std.specs.List.{slice_split, flat_map, filter, zip}
+use Rattle.std.specs.List.{slice_split, flat_map, count_by, zip}
 use Rattle.std.specs.Fmt.{decimal}
 use Rattle.op_base.specs.Name.{same_text}
 use Rattle.causal_model.specs.Query.{put_value}
@@ -10,6 +10,10 @@ use Rattle.script_lang.specs.Words.{words_of}
 -- the lines of a text that a newline ends, without it
 abbrev pub lines_of : List ℕ → List (List ℕ)
 lines_of text = take (length (slice_split (λ b. b == 10) text) - 1) (slice_split (λ b. b == 10) text)
+
+-- the text of lines, each ended by a newline
+abbrev pub ended : List (List ℕ) → List ℕ
+ended lines = flat_map (λ line. line ++ 10 ∷ []) lines
 
 -- a word of a line, counted from 0, or nothing where there are fewer
 abbrev pub word_at : ℕ → List ℕ → List ℕ
@@ -21,19 +25,19 @@ in_byte_order words = fold (λ sorted word. put_value word sorted) [] words
 
 -- how often a word comes
 abbrev pub times : List (List ℕ) → List ℕ → ℕ
-times words word = length (filter (same_text word) words)
+times words word = count_by (same_text word) words
 
--- a word, and how often it comes
-abbrev pub count_line : List (List ℕ) → List ℕ → List ℕ
-count_line words word = joined (word ∷ decimal (times words word) ∷ [])
+-- each of the words in byte order, and how often it comes
+abbrev pub counts_of : List (List ℕ) → List (List ℕ × ℕ)
+counts_of words = map (λ word. (word, times words word)) (in_byte_order words)
 
--- for each of the words, in byte order, how often it comes
-abbrev pub count_lines : List (List ℕ) → List (List ℕ)
-count_lines words = map (count_line words) (in_byte_order words)
+-- a word, a space and a number
+abbrev pub count_line : List ℕ × ℕ → List ℕ
+count_line counted = joined (counted.0 ∷ decimal counted.1 ∷ [])
 
--- the last so many lines
-abbrev pub last_lines : ℕ → List (List ℕ) → List (List ℕ)
-last_lines count lines = drop (length lines - count) lines
+-- the last fourteen lines
+abbrev pub last_lines : List (List ℕ) → List (List ℕ)
+last_lines lines = drop (length lines - 14) lines
 
 -- the object of a question, which is its third word, and the reply to it
 abbrev pub reply_line : List ℕ × List ℕ → List ℕ
@@ -43,9 +47,9 @@ reply_line asked = word_at 2 asked.0 ++ 32 ∷ asked.1
 -- replies to the last fourteen lines
 abbrev pub summary_lines : List (List ℕ) → List (List ℕ) → List (List ℕ)
 summary_lines lines replies =
-    joined (codes "lines" ∷ decimal (length replies) ∷ [])
-    ∷ (count_lines (map (word_at 0) replies) ++ map reply_line (zip (last_lines 14 lines) (last_lines 14 replies)))
+    count_line (codes "lines", length replies)
+    ∷ (map count_line (counts_of (map (word_at 0) replies)) ++ map reply_line (zip (last_lines lines) (last_lines replies)))
 
 -- the summary of a script and its transcript, each line ended by a newline
 abbrev pub summary : List ℕ → List ℕ → List ℕ
-summary script transcript = flat_map (λ line. line ++ 10 ∷ []) (summary_lines (lines_of script) (lines_of transcript))
+summary script transcript = ended (summary_lines (lines_of script) (lines_of transcript))

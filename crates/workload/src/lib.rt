@@ -12,6 +12,8 @@ mod script;
 mod script_tests;
 mod summary;
 #[cfg(test)]
+mod summary_tests;
+#[cfg(test)]
 mod tests;
 
 pub use laws::made_scripts_begin_with_a_header;
