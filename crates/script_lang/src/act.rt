@@ -1,7 +1,7 @@
 //! The acts of each kind, and the updates that words make.
 
 ghost use Rattle.std.specs.Prelude.{◌≡◌, option_copied};
-ghost use Rattle.script_lang.specs.Acts.{operation_in, set_act, flag_act, register_act, counter_act, clearable_act, kind_act, update_in};
+ghost use Rattle.script_lang.specs.Acts.{operation_word, operation_in, set_act, flag_act, register_act, counter_act, clearable_act, kind_act, update_in};
 ghost use Rattle.script_lang.specs.Memory.{Reads};
 
 use crate::fault::Fault;
@@ -20,6 +20,24 @@ pub enum Operation {
     Write,
     Inc,
     Dec,
+}
+
+impl Operation {
+    /// Its word.
+    pub fn word(self) -> &'static [u8]
+        ensures { result.now ≡ operation_word self }
+    {
+        match self {
+            Operation::Add => b"add",
+            Operation::Rmv => b"rmv",
+            Operation::Clear => b"clear",
+            Operation::Enable => b"enable",
+            Operation::Disable => b"disable",
+            Operation::Write => b"write",
+            Operation::Inc => b"inc",
+            Operation::Dec => b"dec",
+        }
+    }
 }
 
 /// The operation whose word this is.

@@ -21,6 +21,7 @@ mod number;
 mod reply;
 mod word;
 
+pub use act::Operation;
 pub use command::{Command, Line, read_line};
 pub use fault::MOST_LINE_BYTES;
 pub use header::{Header, USUAL_LIMIT, read_header};

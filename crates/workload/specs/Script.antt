@@ -5,41 +5,31 @@ use Rattle.std.specs.Fmt.{decimal}
 use Rattle.op_base.specs.Name.{kind_word, kinds}
 use Rattle.op_base.specs.declared.name.Kind.{Kind}
 use Rattle.op_base.specs.declared.name.Kind.TheVariants.{AwSet, RwSet, EwFlag, DwFlag, MvReg, Counter, RCounter}
+use Rattle.script_lang.specs.Acts.{operation_word}
 use Rattle.script_lang.specs.Replies.{joined}
+use Rattle.script_lang.specs.declared.act.Operation.{Operation}
+use Rattle.script_lang.specs.declared.act.Operation.TheVariants.{Add, Rmv, Clear, Enable, Disable, Write, Inc, Dec}
 use Rattle.workload.specs.Draws.{state_after, drawn}
-use Rattle.workload.specs.declared.operation.Verb.{Verb}
-use Rattle.workload.specs.declared.operation.Verb.TheVariants.{Add, Rmv, Clear, Enable, Disable, Write, Inc, Dec}
 use Rattle.workload.specs.declared.operation.Argument.{Argument}
 use Rattle.workload.specs.declared.operation.Argument.TheVariants.{Nothing, Value, Amount}
 
 -- ---- operations
 
--- the word of an operation
-abbrev pub verb_word : Verb → List ℕ
-verb_word Add = codes "add"
-verb_word Rmv = codes "rmv"
-verb_word Clear = codes "clear"
-verb_word Enable = codes "enable"
-verb_word Disable = codes "disable"
-verb_word Write = codes "write"
-verb_word Inc = codes "inc"
-verb_word Dec = codes "dec"
-
--- what stands behind it
-abbrev pub argument_of : Verb → Argument
+-- what stands behind the word of an operation
+abbrev pub argument_of : Operation → Argument
 argument_of Add = Value
 argument_of Rmv = Value
 argument_of Write = Value
 argument_of Inc = Amount
 argument_of Dec = Amount
-argument_of verb = Nothing
+argument_of operation = Nothing
 
 -- the operations of a kind
-abbrev pub operations_of : Kind → List Verb → List (Kind × Verb)
-operations_of kind verbs = map (λ verb. (kind, verb)) verbs
+abbrev pub operations_of : Kind → List Operation → List (Kind × Operation)
+operations_of kind operations = map (λ operation. (kind, operation)) operations
 
 -- the operations by code, from 1 to 19
-abbrev pub operations : List (Kind × Verb)
+abbrev pub operations : List (Kind × Operation)
 operations =
     operations_of AwSet (Add ∷ Rmv ∷ Clear ∷ [])
     ++ operations_of RwSet (Add ∷ Rmv ∷ Clear ∷ [])
@@ -50,7 +40,7 @@ operations =
     ++ operations_of RCounter (Inc ∷ Dec ∷ Clear ∷ [])
 
 -- the operation of a code
-abbrev pub operation_of : ℕ → Kind × Verb
+abbrev pub operation_of : ℕ → Kind × Operation
 operation_of code = slice_index_or operations (code - 1) (AwSet, Add)
 
 -- the kinds by number, from 0 in their order
@@ -81,9 +71,9 @@ argument_after Value state = state_after 1 state
 argument_after Amount state = state_after 1 state
 
 -- do: an operation on an object of its kind; the key is drawn, and then the argument
-abbrev pub do_operation : Kind × Verb → ℕ → ℕ → Made
+abbrev pub do_operation : Kind × Operation → ℕ → ℕ → Made
 do_operation o r state = record {
-  words = codes "do" ∷ decimal r ∷ object_word o.0 (drawn 1 2 state) ∷ verb_word o.1
+  words = codes "do" ∷ decimal r ∷ object_word o.0 (drawn 1 2 state) ∷ operation_word o.1
       ∷ argument_words (argument_of o.1) (state_after 1 state);
   after = argument_after (argument_of o.1) (state_after 1 state);
 }

@@ -13,8 +13,6 @@ mod script_tests;
 mod summary;
 #[cfg(test)]
 mod summary_tests;
-#[cfg(test)]
-mod tests;
 
 pub use laws::made_scripts_begin_with_a_header;
 pub use script::make;

@@ -1,22 +1,10 @@
 //! The operations by code, and the kinds by number.
 
 ghost use Rattle.std.specs.Prelude.{◌≡◌, ◌≤◌, ◌<◌};
-ghost use Rattle.workload.specs.Script.{verb_word, argument_of, operation_of, kind_at};
+ghost use Rattle.workload.specs.Script.{argument_of, operation_of, kind_at};
 
 use op_base::Kind;
-
-/// What an operation does.
-#[derive(Clone, Copy)]
-pub enum Verb {
-    Add,
-    Rmv,
-    Clear,
-    Enable,
-    Disable,
-    Write,
-    Inc,
-    Dec,
-}
+use script_lang::Operation;
 
 /// What stands behind an operation's word.
 #[derive(Clone, Copy)]
@@ -41,59 +29,41 @@ const KINDS: [Kind; 7] = [
 ];
 
 /// The operations by code, the first with code 1: the kind of their objects, and what they do.
-const OPERATIONS: [(Kind, Verb); 19] = [
-    (Kind::AwSet, Verb::Add),
-    (Kind::AwSet, Verb::Rmv),
-    (Kind::AwSet, Verb::Clear),
-    (Kind::RwSet, Verb::Add),
-    (Kind::RwSet, Verb::Rmv),
-    (Kind::RwSet, Verb::Clear),
-    (Kind::EwFlag, Verb::Enable),
-    (Kind::EwFlag, Verb::Disable),
-    (Kind::EwFlag, Verb::Clear),
-    (Kind::DwFlag, Verb::Enable),
-    (Kind::DwFlag, Verb::Disable),
-    (Kind::DwFlag, Verb::Clear),
-    (Kind::MvReg, Verb::Write),
-    (Kind::MvReg, Verb::Clear),
-    (Kind::Counter, Verb::Inc),
-    (Kind::Counter, Verb::Dec),
-    (Kind::RCounter, Verb::Inc),
-    (Kind::RCounter, Verb::Dec),
-    (Kind::RCounter, Verb::Clear),
+const OPERATIONS: [(Kind, Operation); 19] = [
+    (Kind::AwSet, Operation::Add),
+    (Kind::AwSet, Operation::Rmv),
+    (Kind::AwSet, Operation::Clear),
+    (Kind::RwSet, Operation::Add),
+    (Kind::RwSet, Operation::Rmv),
+    (Kind::RwSet, Operation::Clear),
+    (Kind::EwFlag, Operation::Enable),
+    (Kind::EwFlag, Operation::Disable),
+    (Kind::EwFlag, Operation::Clear),
+    (Kind::DwFlag, Operation::Enable),
+    (Kind::DwFlag, Operation::Disable),
+    (Kind::DwFlag, Operation::Clear),
+    (Kind::MvReg, Operation::Write),
+    (Kind::MvReg, Operation::Clear),
+    (Kind::Counter, Operation::Inc),
+    (Kind::Counter, Operation::Dec),
+    (Kind::RCounter, Operation::Inc),
+    (Kind::RCounter, Operation::Dec),
+    (Kind::RCounter, Operation::Clear),
 ];
 
-impl Verb {
-    /// Its word.
-    pub fn word(self) -> &'static [u8]
-        ensures { result.now ≡ verb_word self }
-    {
-        match self {
-            Verb::Add => b"add",
-            Verb::Rmv => b"rmv",
-            Verb::Clear => b"clear",
-            Verb::Enable => b"enable",
-            Verb::Disable => b"disable",
-            Verb::Write => b"write",
-            Verb::Inc => b"inc",
-            Verb::Dec => b"dec",
-        }
-    }
-
-    /// What stands behind it.
-    pub fn argument(self) -> Argument
-        ensures { result ≡ argument_of self }
-    {
-        match self {
-            Verb::Add | Verb::Rmv | Verb::Write => Argument::Value,
-            Verb::Inc | Verb::Dec => Argument::Amount,
-            _ => Argument::Nothing,
-        }
+/// What stands behind an operation's word.
+pub fn argument_of(operation: Operation) -> Argument
+    ensures { result ≡ argument_of operation }
+{
+    match operation {
+        Operation::Add | Operation::Rmv | Operation::Write => Argument::Value,
+        Operation::Inc | Operation::Dec => Argument::Amount,
+        _ => Argument::Nothing,
     }
 }
 
 /// The operation of a code: the kind of its objects, and what it does.
-pub fn operation_of(code: u32) -> (Kind, Verb)
+pub fn operation_of(code: u32) -> (Kind, Operation)
     requires from { 1 ≤ code }
     requires to { code ≤ 19 }
     ensures { result ≡ operation_of code }

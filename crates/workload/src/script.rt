@@ -6,9 +6,9 @@ ghost use Rattle.script_lang.specs.Replies.{joined, spaced};
 ghost use Rattle.workload.specs.Script.{object_word, argument_words, argument_after, do_operation, do_line, ask_line, beat_line, resend_line, give_line, line_of_kind, line_from, lines_from, header_words, questions_of, closing_lines, line_of, text_of, made_script};
 
 use crate::draws::Draws;
-use crate::operation::{Argument, Verb, kind_at, operation_of};
+use crate::operation::{Argument, argument_of, kind_at, operation_of};
 use op_base::{Kind, NoMemory, Text};
-use script_lang::put_number;
+use script_lang::{Operation, put_number};
 use std::alloc::Global;
 
 /// A line that is drawn has at most so many bytes.
@@ -108,7 +108,7 @@ fn put_do(r: u32, draws: &mut Draws, out: &mut Text) -> Result<(), NoMemory>
 
 /// Puts the words of an operation.
 fn put_operation(
-    operation: (Kind, Verb),
+    operation: (Kind, Operation),
     r: u32,
     draws: &mut Draws,
     out: &mut Text,
@@ -116,13 +116,13 @@ fn put_operation(
     ensures text { OnOk result (out.new ≡ out.old ++ joined (do_operation operation r draws.old.state).words) }
     ensures state { OnOk result (draws.new.state ≡ (do_operation operation r draws.old.state).after) }
 {
-    let (kind, verb) = operation;
+    let (kind, what) = operation;
     out.extend_from_slice(b"do")?;
     put_spaced(r, out)?;
     put_object(kind, draws.below(2), out)?;
     out.push(b' ')?;
-    out.extend_from_slice(verb.word())?;
-    put_argument(verb.argument(), draws, out)
+    out.extend_from_slice(what.word())?;
+    put_argument(argument_of(what), draws, out)
 }
 
 /// Puts a space and an argument, where there is one.

@@ -1,1 +1,0 @@
-//! Made scripts and their summary.
