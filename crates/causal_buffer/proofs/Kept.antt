@@ -1,103 +1,100 @@
 -- The queues that a buffer keeps, after an edit of one of them, and what is next.
-use Rattle.std.proofs.Common.{◌≡◌, ◌≢◌, ℕ, suc, ◌+◌, ◌<◌, ◌≤◌, true, false, not, cond, if◌then◌else◌, ◌||◌, ◌==◌, nat_le, IsTrue, All, List, [], ◌∷◌, ◌++◌, length, get_or, set, refl, sym, ap, subst, ◌∙◌, inl, inr, Some, None, Result, IfOk, IfErr, arith}
-use Rattle.std.specs.declared.collections.VecDeque.{VecDeque}
-use Rattle.std.specs.List.{find, list_all, list_any, flat_map}
-use Rattle.std.specs.Option.{is_some}
-use Rattle.std.specs.Result.{is_ok}
-use Rattle.std.specs.VecDeque.{deque_items, deque_len, deque_capacity}
-use Rattle.std.proofs.lemmas.Bool.{and_left, cases_eq, cond-false, cond-true, false≢true, ne_eqb, not-true}
-use Rattle.std.proofs.lemmas.List.{get_or-set_same, get_or-set_other, length-set, length-append, get_or_append_left}
+use Rattle.std.proofs.Common.{◌≡◌, ◌≢◌, ℕ, ◌+◌, ◌^◌, ◌<◌, ◌≤◌, Bool, true, false, not, cond, ◌&&◌, if◌then◌else◌, ◌==◌, nat_lt, IsTrue, All, List, [], ◌∷◌, ◌++◌, length, get_or, set, refl, sym, ap, subst, ◌∙◌, inl, inr, Option, Some, None, Bor, arith}
+use Rattle.std.specs.List.{find, list_any, flat_map}
+use Rattle.std.specs.Option.{is_some, option_map, option_copied, option_to_list}
+use Rattle.std.specs.Bool.{then_some}
+use Rattle.std.specs.VecDeque.{deque_capacity}
+use Rattle.std.proofs.lemmas.Bool.{and_left, and_right, and_parts, or_left, or_from, lt-ltb, le-ltb, cases_eq, cond-false, false≢true, false_from_ne_true, ne_eqb, eq-eqb, eqb-true, not-true}
+use Rattle.std.proofs.lemmas.List.{get_or_default, get_or-set_same, get_or-set_other, length-set, length-append, get_or_append_left}
 use Rattle.std.proofs.Math.Seq.{get_or-append_seam}
-use Rattle.std.proofs.lemmas.List.Elements.{All-nil, All-cons, All-filter, filter_passes}
-use Rattle.std.proofs.lemmas.List.Filters.{length-filter_both}
-use Rattle.std.proofs.lemmas.List.Kept.{AllPairs-filter}
+use Rattle.std.proofs.lemmas.List.Elements.{All-nil, All-cons, All-head, All-tail, All-filter, filter_passes}
 use Rattle.op_base.specs.Timestamp.{entry}
 use Rattle.op_base.specs.Message.{number, id_of, fits}
 use Rattle.op_base.specs.declared.message.Message.{Message}
 use Rattle.op_base.specs.declared.tag.MessageId.{MessageId}
-use Rattle.causal_model.specs.Counts.{is_deliverable, members}
+use Rattle.causal_model.specs.Counts.{is_deliverable}
 use Rattle.causal_model.specs.Stability.{noop_window}
 use Rattle.causal_model.specs.Receiving.{is_again, is_far, stands_before, put_early, has_id, without}
-use Rattle.causal_model.proofs.Early.{StandsBefore, All-put_early, put_early_rises, IsNear-from_test}
+use Rattle.causal_model.proofs.Early.{All-put_early, IsNear-from_test, IsDeliverable-from_test}
 use Rattle.causal_model.proofs.Finds.{none_found}
-use Rattle.causal_model.proofs.Risings.{AllPairs-nil, rising_numbers}
 use Rattle.causal_buffer.specs.Buffer.{Buffer, offer_of, AreAhead, AreNear, IsNextId}
 use Rattle.causal_buffer.specs.declared.buffer.Offer.TheVariants.{Kept, Again, Far}
-use Rattle.causal_buffer.specs.Queue.{IsQueue, IsAt, IsGapFor, IsKept, AreKept}
-use Rattle.causal_buffer.proofs.OneQueue.{numbers_rise, has, search_finds}
-use Rattle.causal_buffer.proofs.AllQueues.{AreOwn, All-part, any_is_found, find_flat, without_flat, put_flat}
+use Rattle.causal_buffer.specs.declared.queue.Queue.{Queue}
+use Rattle.causal_buffer.specs.Queue.{messages, IsQueue, AreWithin, IsKept, AreKept, is_ready}
+use Rattle.causal_buffer.proofs.Places.{has, all_at, standing_few, find_of_id}
+use Rattle.causal_buffer.proofs.Parts.{All-flat, All-part, any_is_found, IsPartFor, FailElsewhere, find_flat, without_flat, put_flat, first_flat, none_flat}
 
--- ---- one queue
+pub some_copied : {X : Type 0} (r : Option (Bor X)) → is_some r ≡ is_some (option_copied r)
+some_copied None = refl
+some_copied (Some x) = refl
 
-pub put_is_queue : (m : Message) (q : List Message) → IsQueue m.origin q → is_again q m ≡ false → IsQueue m.origin (put_early m q)
-put_is_queue m q is new = record {
-  own = All-put_early (λ e. e.origin ≡ m.origin) m q (λ _. m.origin) is.own;
-  rise = put_early_rises m q new is.rise;
-}
+pub some_mapped : {X Y : Type 0} (f : X → Y) (o : Option X) (y : Y) → Some y ≡ option_map f o → is_some o ≡ true
+some_mapped f None y e = cc
+some_mapped f (Some x) y e = refl
 
-length-put_early : (m : Message) (q : List Message) → length (put_early m q) ≡ length q + 1
-length-put_early m [] = omega arith
-length-put_early m (e ∷ q) =
-    let rest = length-put_early m q in
-    elim (stands_before m e) as (λ b. length (cond b (m ∷ e ∷ q) (e ∷ put_early m q)) ≡ length (e ∷ q) + 1) [ true ↦ omega arith | false ↦ omega (arith, rest) ]
+none_from : {X : Type 0} (o : Option X) → is_some o ≡ false → o ≡ None
+none_from None e = refl
+none_from (Some x) e = cc
 
--- what is put is within the two windows with all others of its member, so there is room for it
-pub put_fits : (n w : ℕ) (counted : List ℕ) (m : Message) (q : List Message) → IsQueue m.origin q → is_again q m ≡ false
-    → entry counted m.origin < number m → number m ≤ entry counted m.origin + (w + noop_window n w) → AreAhead counted q → AreNear n w counted q
-    → length (put_early m q) ≤ w + noop_window n w
-put_fits n w counted m q is new ahead near held_ahead held_near =
-    let c = entry counted m.origin in
-    let most = w + noop_window n w in
-    let put = put_is_queue m q is new in
-    let above : All (λ e. c < number e) q = λ k d l. omega (arith, held_ahead k d l, ap (entry counted) (is.own k d l)) in
-    let below : All (λ e. number e ≤ c + most) q = λ k d l. omega (arith, held_near k d l, ap (entry counted) (is.own k d l)) in
-    omega (
-      arith,
-      rising_numbers number c (c + most) (put_early m q) (λ i j d l inside. numbers_rise m.origin (put_early m q) put i j d l inside)
-          (All-put_early (λ e. c < number e) m q ahead above) (All-put_early (λ e. number e ≤ c + most) m q near below) (omega arith),
-    )
+find_same : (p q : Message → Bool) (xs : List Message) → All (λ x. p x ≡ q x) xs → find p xs ≡ find q xs
+find_same p q [] same = refl
+find_same p q (x ∷ xs) same =
+    ap (λ b. cond b (Some x) (find p xs)) (All-head (λ z. p z ≡ q z) x xs same) ∙ ap (λ o. cond (q x) (Some x) o) (find_same p q xs (All-tail (λ z. p z ≡ q z) x xs same))
 
-without_is_queue : (member : ℕ) (id : MessageId) (q : List Message) → IsQueue member q → IsQueue member (without id q)
-without_is_queue member id q is = record {
-  own = All-filter (λ m. not (has_id id m)) (λ m. m.origin ≡ member) q is.own;
-  rise = AllPairs-filter StandsBefore (λ m. not (has_id id m)) q is.rise;
-}
-
--- only the first of a queue can be delivered, since the others are above its number
-pub next_of_queue : (n member : ℕ) (counted : List ℕ) (x : Message) (q : List Message) → IsQueue member (x ∷ q) → AreAhead counted (x ∷ q)
-    → is_deliverable n counted x ≡ false → find (is_deliverable n counted) (x ∷ q) ≡ None
-next_of_queue n member counted x q is ahead fails = none_found (is_deliverable n counted) (x ∷ q) (All-cons (λ m. is_deliverable n counted m ≡ false) x q fails (λ k d l.
-    let m = get_or q k d in
-    let above : number x < number m = numbers_rise member (x ∷ q) is 0 (suc k) d (omega arith) (omega (arith, l)) in
-    let first : entry counted x.origin < number x = ahead 0 x (omega arith) in
-    let same : m.origin ≡ x.origin = is.own (suc k) d (omega (arith, l)) ∙ sym (is.own 0 x (omega arith)) in
-    and_left (number m == entry counted m.origin + 1) (list_all (λ y. (y == m.origin) || nat_le (entry m.tag y) (entry counted y)) (members n))
-    (ne_eqb (number m) (entry counted m.origin + 1) (λ e. omega (arith, e, above, first, ap (entry counted) same)))))
-
-module _ (n member : ℕ) (counted : List ℕ) (m : Message) where
-  -- the first of a queue, where it can be delivered and where it can't
-  pub first_is_next : (q : List Message) → 0 < length q → m ≡ get_or q 0 m → is_deliverable n counted m ≡ true → find (is_deliverable n counted) q ≡ Some m
-  first_is_next [] l e t = absurd (omega (arith, l))
-  first_is_next (x ∷ q) l e t = cond-true (is_deliverable n counted x) (Some x) (find (is_deliverable n counted) q) (ap (is_deliverable n counted) (sym e) ∙ t) ∙ ap Some (sym e)
-
-  pub first_is_not_next : (q : List Message) → IsQueue member q → AreAhead counted q → 0 < length q → m ≡ get_or q 0 m → is_deliverable n counted m ≡ false → find (is_deliverable n counted) q ≡ None
-  first_is_not_next [] is ahead l e f = absurd (omega (arith, l))
-  first_is_not_next (x ∷ q) is ahead l e f = next_of_queue n member counted x q is ahead (ap (is_deliverable n counted) (sym e) ∙ f)
-
-pub none_is_next : (n : ℕ) (counted : List ℕ) (q : List Message) → (0 < length q → ⊥) → find (is_deliverable n counted) q ≡ None
-none_is_next n counted [] empty = refl
-none_is_next n counted (x ∷ q) empty = absurd (empty (omega arith))
+-- ---- messages of several members
 
 pub not_of_member : (id : MessageId) (m : Message) → m.origin ≢ id.origin → has_id id m ≡ false
 not_of_member id m ne = and_left (id.origin == m.origin) (id.seq == number m) (ne_eqb id.origin m.origin (λ e. ne (sym e)))
 
+stands_by_origin : (a b : Message) → a.origin < b.origin → stands_before a b ≡ true
+stands_by_origin a b l = or_left (nat_lt a.origin b.origin) ((a.origin == b.origin) && nat_lt (number a) (number b)) (lt-ltb a.origin b.origin l)
+
+higher_stands_after : (a b : Message) → b.origin < a.origin → stands_before a b ≡ false
+higher_stands_after a b l = or_from (nat_lt a.origin b.origin) ((a.origin == b.origin) && nat_lt (number a) (number b)) (le-ltb a.origin b.origin (omega (arith, l))) (and_left (a.origin == b.origin) (nat_lt (number a) (number b)) (ne_eqb a.origin b.origin (λ e. omega (arith, e, l))))
+
+pub has_parts : (id : MessageId) (m : Message) → has_id id m ≡ true → (m.origin ≡ id.origin) × (number m ≡ id.seq)
+has_parts id m t =
+    let parts = and_parts (id.origin == m.origin) (id.seq == number m) t in
+    (sym (eqb-true id.origin m.origin parts.0), sym (eqb-true id.seq (number m) parts.1))
+
+-- of a member's messages only the next can be delivered
+pub not_ready : (n member : ℕ) (counted : List ℕ) (m : Message) → number m ≢ entry counted member + 1 → is_ready n counted member m ≡ false
+not_ready n member counted m ne = elim (cases_eq m.origin member) [
+  | inl own ↦ and_right (m.origin == member) (is_deliverable n counted m) (false_from_ne_true (is_deliverable n counted m) (λ t. ne ((IsDeliverable-from_test n counted m t).next ∙ ap (λ x. entry counted x + 1) own)))
+  | inr other ↦ and_left (m.origin == member) (is_deliverable n counted m) (ne_eqb m.origin member other)
+]
+
+own_ready : (n member : ℕ) (counted : List ℕ) (m : Message) → m.origin ≡ member → is_ready n counted member m ≡ is_deliverable n counted m
+own_ready n member counted m own = ap (λ b. b && is_deliverable n counted m) (eq-eqb m.origin member own)
+
+-- what is found of the next message of a member
+pub next_is_told : (n : ℕ) (counted : List ℕ) (id : MessageId) (m : Message) (can : Bool) → has_id id m ≡ true → can ≡ is_deliverable n counted m
+    → then_some can id ≡ option_map id_of (find (is_ready n counted id.origin) (option_to_list (Some m)))
+next_is_told n counted id m can t same =
+    let parts = has_parts id m t in
+    let of : id ≡ id_of m = λ j. record { origin = sym parts.0 j; seq = sym parts.1 j } in
+    let own : can ≡ is_ready n counted id.origin m = same ∙ sym (own_ready n id.origin counted m parts.0) in
+    elim can as (λ b. then_some b id ≡ option_map id_of (cond b (Some m) None)) [ true ↦ ap Some of | false ↦ refl ]
+    ∙ ap (λ b. option_map id_of (cond b (Some m) None)) own
+
+-- ---- one queue
+
+-- its messages are its member's
+pub queue_own : (member : ℕ) (q : Queue) → IsQueue member q → All (λ m. m.origin ≡ member) (messages q)
+queue_own member q is = All-flat option_to_list (λ m. m.origin ≡ member) q.places.items (λ k d l. all_at (λ m. m.origin ≡ member) (get_or q.places.items k d) (λ m e. is.are_places.own k m (get_or_default q.places.items k None d l ∙ e)))
+
+-- some queue of queues
+one_of : (qs : List Queue) (x : ℕ) → x < length qs → Queue
+one_of [] x l = absurd (omega (arith, l))
+one_of (q ∷ qs) x l = q
+
 -- ---- all queues
 
-module _ {G : Type 0} (n w : ℕ) where
-  pub own : (qs : List (VecDeque Message G)) → AreKept n w qs → AreOwn deque_items 0 qs
-  own qs kept x d l k e i = omega (arith, (kept x d l).is_queue.own k e i)
+module _ (n w : ℕ) where
+  own : (qs : List Queue) → AreKept n w qs → (x : ℕ) (d : Queue) → x < length qs → All (λ m. m.origin ≡ x) (messages (get_or qs x d))
+  own qs kept x d l = queue_own x (get_or qs x d) (kept x d l).is_queue
 
-  pub kept_set : (qs : List (VecDeque Message G)) (x : ℕ) (q : VecDeque Message G) → AreKept n w qs → IsKept n w x q → AreKept n w (set qs x q)
+  pub kept_set : (qs : List Queue) (x : ℕ) (q : Queue) → AreKept n w qs → IsKept n w x q → AreKept n w (set qs x q)
   kept_set qs x q kept is member d l =
       let inside : member < length qs = omega (arith, l, length-set qs x q) in
       elim (cases_eq member x) [
@@ -106,33 +103,32 @@ module _ {G : Type 0} (n w : ℕ) where
       ]
 
   -- a queue with a message put into it, and one without a message
-  pub kept_put : (m : Message) (old new : VecDeque Message G) → IsKept n w m.origin old → IsTrue (fits n m) → is_again old.items m ≡ false
-      → length (put_early m old.items) ≤ w + noop_window n w → new.items ≡ put_early m old.items → deque_capacity old ≤ deque_capacity new → IsKept n w m.origin new
-  kept_put m old new is fit fresh few e room = record {
-    is_queue = subst (IsQueue m.origin) (sym e) (put_is_queue m old.items is.is_queue fresh);
-    fit = subst (All (λ z. IsTrue (fits n z))) (sym e) (All-put_early (λ z. IsTrue (fits n z)) m old.items fit is.fit);
-    few = omega (arith, few, ap length e);
-    room = omega (arith, room, is.room);
+  pub kept_put : (m : Message) (old new : Queue) → IsKept n w m.origin old → IsTrue (fits n m) → IsQueue m.origin new → messages new ≡ put_early m (messages old) → deque_capacity new.places ≡ deque_capacity old.places → IsKept n w m.origin new
+  kept_put m old new is fit queue e room = record {
+    is_queue = queue;
+    fit = subst (All (λ z. IsTrue (fits n z))) (sym e) (All-put_early (λ z. IsTrue (fits n z)) m (messages old) fit is.fit);
+    room = room ∙ is.room;
   }
 
-  pub kept_without : (id : MessageId) (old new : VecDeque Message G) → IsKept n w id.origin old → new.items ≡ without id old.items
-      → deque_capacity new ≡ deque_capacity old → IsKept n w id.origin new
-  kept_without id old new is e room = record {
-    is_queue = subst (IsQueue id.origin) (sym e) (without_is_queue id.origin id old.items is.is_queue);
-    fit = subst (All (λ z. IsTrue (fits n z))) (sym e) (All-filter (λ m. not (has_id id m)) (λ z. IsTrue (fits n z)) old.items is.fit);
-    few = omega (arith, ap length e, length-filter_both (has_id id) (λ m. not (has_id id m)) (λ m. refl) old.items, is.few);
-    room = omega (arith, room, is.room);
+  pub kept_without : (id : MessageId) (old new : Queue) → IsKept n w id.origin old → IsQueue id.origin new → messages new ≡ without id (messages old) → deque_capacity new.places ≡ deque_capacity old.places → IsKept n w id.origin new
+  kept_without id old new is queue e room = record {
+    is_queue = queue;
+    fit = subst (All (λ z. IsTrue (fits n z))) (sym e) (All-filter (λ m. not (has_id id m)) (λ z. IsTrue (fits n z)) (messages old) is.fit);
+    room = room ∙ is.room;
   }
 
-  pub kept_empty : (x : ℕ) (q : VecDeque Message G) → q.items ≡ [] → w + noop_window n w ≤ deque_capacity q → IsKept n w x q
-  kept_empty x q e room = record {
-    is_queue = subst (IsQueue x) (sym e) (record { own = All-nil (λ m. m.origin ≡ x); rise = AllPairs-nil StandsBefore });
+  pub kept_empty : (x : ℕ) (q : Queue) → IsQueue x q → messages q ≡ [] → deque_capacity q.places ≡ w + noop_window n w → IsKept n w x q
+  kept_empty x q queue e room = record {
+    is_queue = queue;
     fit = subst (All (λ z. IsTrue (fits n z))) (sym e) (All-nil (λ z. IsTrue (fits n z)));
-    few = omega (arith, ap length e);
     room = room;
   }
 
-  pub kept_push : (qs : List (VecDeque Message G)) (q : VecDeque Message G) → AreKept n w qs → IsKept n w (length qs) q → AreKept n w (qs ++ q ∷ [])
+  -- it has at most as many messages as it has room for
+  pub few_kept : (x : ℕ) (q : Queue) → IsKept n w x q → q.filled ≤ w + noop_window n w
+  few_kept x q is = omega (arith, is.is_queue.counted, standing_few q.places.items, q.places.ok.0, q.places.small, is.room)
+
+  pub kept_push : (qs : List Queue) (q : Queue) → AreKept n w qs → IsKept n w (length qs) q → AreKept n w (qs ++ q ∷ [])
   kept_push qs q kept is x d l = elim (cases_eq x (length qs)) [
     | inl e ↦ subst (λ y. IsKept n w y (get_or (qs ++ q ∷ []) y d)) (sym e) (subst (IsKept n w (length qs)) (sym (get_or-append_seam qs q [] d)) is)
     | inr ne ↦
@@ -142,61 +138,88 @@ module _ {G : Type 0} (n w : ℕ) where
 
   -- ---- what is found by an id, and what an edit of the id's queue makes of the list
 
-  module _ (qs : List (VecDeque Message G)) (d : VecDeque Message G) (kept : AreKept n w qs) where
-    pub find_in_queue : (id : MessageId) → id.origin < length qs → find (has_id id) (flat_map deque_items qs) ≡ find (has_id id) (deque_items (get_or qs id.origin d))
-    find_in_queue id l = find_flat deque_items (has_id id) id.origin (not_of_member id) 0 qs id.origin d (own qs kept) l (omega arith)
+  module _ (qs : List Queue) (d : Queue) (kept : AreKept n w qs) where
+    -- a test that only messages of one member pass
+    fail_elsewhere : (p : Message → Bool) (member : ℕ) → ((m : Message) → m.origin ≢ member → p m ≡ false) → FailElsewhere messages p member qs
+    fail_elsewhere p member off y c l ne k e i = off (get_or (messages (get_or qs y c)) k e) (λ same. ne (sym (own qs kept y c l k e i) ∙ same))
 
-    pub any_in_queue : (id : MessageId) → id.origin < length qs → list_any (has_id id) (flat_map deque_items qs) ≡ is_some (find (has_id id) (deque_items (get_or qs id.origin d)))
-    any_in_queue id l = any_is_found (has_id id) (flat_map deque_items qs) ∙ ap is_some (find_in_queue id l)
+    pub find_in_queue : (id : MessageId) → id.origin < length qs → find (has_id id) (flat_map messages qs) ≡ find (has_id id) (messages (get_or qs id.origin d))
+    find_in_queue id l = find_flat messages (has_id id) qs id.origin d l (fail_elsewhere (has_id id) id.origin (not_of_member id))
 
-    pub without_in_queue : (id : MessageId) (q : VecDeque Message G) → id.origin < length qs → q.items ≡ without id (deque_items (get_or qs id.origin d))
-        → flat_map deque_items (set qs id.origin q) ≡ without id (flat_map deque_items qs)
-    without_in_queue id q l e = without_flat deque_items (has_id id) id.origin (not_of_member id) 0 qs id.origin q d (own qs kept) l (omega arith) e
+    pub any_in_queue : (id : MessageId) → id.origin < length qs → list_any (has_id id) (flat_map messages qs) ≡ is_some (find (has_id id) (messages (get_or qs id.origin d)))
+    any_in_queue id l = any_is_found (has_id id) (flat_map messages qs) ∙ ap is_some (find_in_queue id l)
 
-    pub put_in_queue : (m : Message) (q : VecDeque Message G) → m.origin < length qs → q.items ≡ put_early m (deque_items (get_or qs m.origin d))
-        → flat_map deque_items (set qs m.origin q) ≡ put_early m (flat_map deque_items qs)
-    put_in_queue m q l e = put_flat deque_items 0 qs m.origin q d m (own qs kept) l (omega arith) e
+    pub without_in_queue : (id : MessageId) (q : Queue) → id.origin < length qs → messages q ≡ without id (messages (get_or qs id.origin d)) → flat_map messages (set qs id.origin q) ≡ without id (flat_map messages qs)
+    without_in_queue id q l e = without_flat messages (has_id id) qs id.origin q d l (fail_elsewhere (has_id id) id.origin (not_of_member id)) e
 
-  module _ (qs : List (VecDeque Message G)) (kept : AreKept n w qs) where
-    pub kept_at : (x : ℕ) (q : VecDeque Message G) → x < length qs → q ≡ get_or qs x q → IsKept n w x q
+    pub put_in_queue : (m : Message) (q : Queue) → m.origin < length qs → messages q ≡ put_early m (messages (get_or qs m.origin d)) → flat_map messages (set qs m.origin q) ≡ put_early m (flat_map messages qs)
+    put_in_queue m q l e = put_flat messages m qs m.origin q d l part e where
+      part : IsPartFor messages m m.origin qs
+      part = record {
+        lower = λ y c below k e i. higher_stands_after m (get_or (messages (get_or qs y c)) k e) (omega (arith, below, own qs kept y c (omega (arith, below, l)) k e i));
+        higher = λ y c above i k e j. stands_by_origin m (get_or (messages (get_or qs y c)) k e) (omega (arith, above, own qs kept y c i k e j));
+      }
+
+    -- what can be delivered of one member's messages
+    pub ready_in_queue : (counted : List ℕ) (member : ℕ) → member < length qs → find (is_ready n counted member) (flat_map messages qs) ≡ find (is_ready n counted member) (messages (get_or qs member d))
+    ready_in_queue counted member l = find_flat messages (is_ready n counted member) qs member d l (fail_elsewhere (is_ready n counted member) member (λ m ne. and_left (m.origin == member) (is_deliverable n counted m) (ne_eqb m.origin member ne)))
+
+  module _ (qs : List Queue) (kept : AreKept n w qs) where
+    pub kept_at : (x : ℕ) (q : Queue) → x < length qs → q ≡ get_or qs x q → IsKept n w x q
     kept_at x q l at = subst (IsKept n w x) (sym at) (kept x q l)
 
-    pub part_at : (P : Message → Type 0) (x : ℕ) (q : VecDeque Message G) → x < length qs → q ≡ get_or qs x q → All P (flat_map deque_items qs) → All P q.items
-    part_at P x q l at each = subst (λ z. All P (deque_items z)) (sym at) (All-part deque_items P qs x q l each)
+    pub part_at : (P : Message → Type 0) (x : ℕ) (q : Queue) → x < length qs → q ≡ get_or qs x q → All P (flat_map messages qs) → All P (messages q)
+    part_at P x q l at each = subst (λ z. All P (messages z)) (sym at) (All-part messages P qs x q l each)
 
-    -- a search in the id's queue finds what is early
-    pub any_is_ok : (id : MessageId) (q : VecDeque Message G) (seq : ℕ) (r : Result ℕ ℕ) → id.origin < length qs → q ≡ get_or qs id.origin q → seq ≡ id.seq
-        → IfOk r (IsAt q.items seq) → IfErr r (IsGapFor q.items seq) → list_any (has_id id) (flat_map deque_items qs) ≡ is_ok r
-    any_is_ok id q seq r l at e found absent =
-        any_in_queue qs q kept id l ∙ ap (λ z. is_some (find (has_id id) (deque_items z))) (sym at)
-        ∙ sym (search_finds id q.items r (kept_at id.origin q l at).is_queue (subst (λ k. IfOk r (IsAt q.items k)) e found) (subst (λ k. IfErr r (IsGapFor q.items k)) e absent))
+    -- a member's next message, looked for by its id
+    pub ready_by_id : (counted : List ℕ) (id : MessageId) (q : Queue) → id.origin < length qs → q ≡ get_or qs id.origin q → id.seq ≡ entry counted id.origin + 1
+        → find (is_ready n counted id.origin) (flat_map messages qs) ≡ find (is_ready n counted id.origin) (option_to_list (find (has_id id) (messages q)))
+    ready_by_id counted id q l at e =
+        ready_in_queue qs q kept counted id.origin l ∙ ap (λ z. find (is_ready n counted id.origin) (messages z)) (sym at)
+        ∙ find_of_id id.origin q.first q.places.items (kept_at id.origin q l at).is_queue.are_places id refl (is_ready n counted id.origin) (λ m ne. not_ready n id.origin counted m (λ same. ne (same ∙ sym e)))
 
-    -- a new message that is neither old nor far is put into its member's queue
-    module _ (me : ℕ) (counted : List ℕ) (m : Message) (q : VecDeque Message G) (l : m.origin < length qs) (at : q ≡ get_or qs m.origin q)
-        (fresh : is_again (flat_map deque_items qs) m ≡ false) (ahead : entry counted m.origin < number m) (not_far : is_far n w me counted m ≡ false)
-        (held_ahead : AreAhead counted (flat_map deque_items qs)) (held_near : AreNear n w counted (flat_map deque_items qs)) where
-      fresh_here : is_again q.items m ≡ false
-      fresh_here = any_is_found (has_id (id_of m)) q.items ∙ ap (λ z. is_some (find (has_id (id_of m)) (deque_items z))) at ∙ sym (any_in_queue qs q kept (id_of m) l) ∙ fresh
+    -- there is none where its number would fit no number's type
+    pub none_ready : (counted : List ℕ) (member : ℕ) (q : Queue) → member < length qs → q ≡ get_or qs member q → 2 ^ 32 ≤ entry counted member + 1 → find (is_ready n counted member) (flat_map messages qs) ≡ None
+    none_ready counted member q l at high =
+        ready_in_queue qs q kept counted member l ∙ ap (λ z. find (is_ready n counted member) (messages z)) (sym at)
+        ∙ none_found (is_ready n counted member) (messages q) (λ k d i. not_ready n member counted (get_or (messages q) k d) (λ same. omega (arith, same, high, (kept_at member q l at).is_queue.small k d i)))
 
-      put_is_few : length (put_early m q.items) ≤ w + noop_window n w
-      put_is_few = put_fits n w counted m q.items (kept_at m.origin q l at).is_queue fresh_here ahead (IsNear-from_test n w me counted m not_far).within
-          (part_at (λ e. entry counted e.origin < number e) m.origin q l at held_ahead)
-          (part_at (λ e. number e ≤ entry counted e.origin + (w + noop_window n w)) m.origin q l at held_near)
+    -- of a member's messages what can be delivered is what is ready
+    ready_is_deliverable : (counted : List ℕ) (member : ℕ) (d : Queue) → member < length qs → find (is_ready n counted member) (flat_map messages qs) ≡ find (is_deliverable n counted) (messages (get_or qs member d))
+    ready_is_deliverable counted member d l =
+        ready_in_queue qs d kept counted member l
+        ∙ find_same (is_ready n counted member) (is_deliverable n counted) (messages (get_or qs member d)) (λ k e i. own_ready n member counted (get_or (messages (get_or qs member d)) k e) (own qs kept member d l k e i))
 
-      pub has_room : deque_len q < deque_capacity q
-      has_room = omega (arith, put_is_few, length-put_early m q.items, q.ok.0, (kept_at m.origin q l at).room)
+    -- what is next is of the lowest member of which a message can be delivered
+    pub next_is_lowest : (counted : List ℕ) (member : ℕ) → member < length qs → ((k : ℕ) → k < member → find (is_ready n counted k) (flat_map messages qs) ≡ None)
+        → is_some (find (is_ready n counted member) (flat_map messages qs)) ≡ true → find (is_deliverable n counted) (flat_map messages qs) ≡ find (is_ready n counted member) (flat_map messages qs)
+    next_is_lowest counted member l none some =
+        let d = one_of qs member l in
+        first_flat messages (is_deliverable n counted) qs member d l (λ k c below. sym (ready_is_deliverable counted k c (omega (arith, below, l))) ∙ none k below) (ap is_some (sym (ready_is_deliverable counted member d l)) ∙ some)
+        ∙ sym (ready_is_deliverable counted member d l)
 
-      pub kept_after_put : (new : VecDeque Message G) → IsTrue (fits n m) → new.items ≡ put_early m q.items → deque_capacity q ≤ deque_capacity new → AreKept n w (set qs m.origin new)
-      kept_after_put new fit e room = kept_set qs m.origin new kept (kept_put m q new (kept_at m.origin q l at) fit fresh_here put_is_few e room)
+    pub none_is_next : (counted : List ℕ) → ((k : ℕ) → k < length qs → find (is_ready n counted k) (flat_map messages qs) ≡ None) → find (is_deliverable n counted) (flat_map messages qs) ≡ None
+    none_is_next counted none = none_flat messages (is_deliverable n counted) qs (λ k c l. sym (ready_is_deliverable counted k c l) ∙ none k l)
+
+    -- a new message that is neither old nor far can be put into its member's queue
+    module _ (me : ℕ) (counted : List ℕ) (m : Message) (q : Queue) (l : m.origin < length qs) (at : q ≡ get_or qs m.origin q) where
+      pub fresh_here : is_again (flat_map messages qs) m ≡ false → find (has_id (id_of m)) (messages q) ≡ None
+      fresh_here fresh = none_from (find (has_id (id_of m)) (messages q)) (ap (λ z. is_some (find (has_id (id_of m)) (messages z))) at ∙ sym (any_in_queue qs q kept (id_of m) l) ∙ fresh)
+
+      pub near_here : (count : ℕ) → count ≡ entry counted m.origin → entry counted m.origin < number m → is_far n w me counted m ≡ false
+          → AreAhead counted (flat_map messages qs) → AreNear n w counted (flat_map messages qs) → AreWithin count (deque_capacity q.places) (m ∷ messages q)
+      near_here count is ahead not_far held_ahead held_near =
+          let kept_here = kept_at m.origin q l at in
+          let near = IsNear-from_test n w me counted m not_far in
+          let above = part_at (λ e. entry counted e.origin < number e) m.origin q l at held_ahead in
+          let below = part_at (λ e. number e ≤ entry counted e.origin + (w + noop_window n w)) m.origin q l at held_near in
+          All-cons (λ e. (count < number e) × (number e ≤ count + deque_capacity q.places)) m (messages q)
+          (omega (arith, is, ahead), omega (arith, is, near.within, kept_here.room))
+          (λ k d i.
+          let own = ap (entry counted) (queue_own m.origin q kept_here.is_queue k d i) in
+          (omega (arith, is, own, above k d i), omega (arith, is, own, below k d i, kept_here.room)))
 
 -- ---- what comes of an offer
-
-pub offer_again : (b : Buffer) (me : ℕ) (counted : List ℕ) (m : Message) → is_again b.early m ≡ true → offer_of b me counted m ≡ Again m
-offer_again b me counted m e = cond-true (is_again b.early m) (Again m) (if is_far b.n b.w me counted m then Far m else Kept) e
-
-pub offer_far : (b : Buffer) (me : ℕ) (counted : List ℕ) (m : Message) → is_again b.early m ≡ false → is_far b.n b.w me counted m ≡ true → offer_of b me counted m ≡ Far m
-offer_far b me counted m e f =
-    cond-false (is_again b.early m) (Again m) (if is_far b.n b.w me counted m then Far m else Kept) e ∙ cond-true (is_far b.n b.w me counted m) (Far m) Kept f
 
 pub offer_kept : (b : Buffer) (me : ℕ) (counted : List ℕ) (m : Message) → is_again b.early m ≡ false → is_far b.n b.w me counted m ≡ false → offer_of b me counted m ≡ Kept
 offer_kept b me counted m e f =

@@ -1,4 +1,4 @@
-pub mod OneQueue
-pub mod AllQueues
+pub mod Parts
+pub mod Places
 pub mod Kept
 pub mod Standing

@@ -25,7 +25,7 @@ use Rattle.causal_buffer.specs.Standing.{IsBufferOf, state_offered, AnswersInSta
 use Rattle.causal_buffer.specs.declared.buffer.Offer.{Offer}
 use Rattle.causal_buffer.specs.declared.buffer.Offer.TheVariants.{Kept, Again, Far}
 use Rattle.causal_buffer.proofs.Kept.{not_of_member}
-use Rattle.causal_buffer.proofs.OneQueue.{has_not}
+use Rattle.causal_buffer.proofs.Places.{has_not}
 
 -- the buffer of a state
 abbrev buffer_in : ℕ → State → Buffer

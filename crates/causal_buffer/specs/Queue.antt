@@ -1,46 +1,57 @@
--- The early messages of one member, as a buffer keeps them: a queue by number.
-use Rattle.std.specs.Prelude.{◌≡◌, ℕ, ◌+◌, ◌<◌, ◌≤◌, List, length, slice_index_or, All, AllPairs, IsTrue}
-use Rattle.std.specs.declared.collections.VecDeque.{VecDeque}
+-- The early messages of one member, as a buffer keeps them: a place for each number.
+use Rattle.std.specs.Prelude.{◌≡◌, ℕ, ◌+◌, ◌^◌, ◌<◌, ◌≤◌, Bool, ◌&&◌, ◌==◌, List, length, slice_index_or, All, IsTrue, Option, Some, None}
+use Rattle.std.specs.List.{flat_map}
+use Rattle.std.specs.Option.{option_to_list}
 use Rattle.std.specs.VecDeque.{deque_capacity}
 use Rattle.op_base.specs.Message.{number, fits}
 use Rattle.op_base.specs.declared.message.Message.{Message}
 use Rattle.op_base.specs.declared.tag.TheConstants.{MOST_MEMBERS}
 use Rattle.causal_model.specs.declared.room.TheConstants.{MOST_WINDOW}
+use Rattle.causal_model.specs.Counts.{is_deliverable}
 use Rattle.causal_model.specs.Stability.{noop_window}
-use Rattle.causal_model.specs.Receiving.{stands_before}
+use Rattle.causal_buffer.specs.declared.queue.Queue.{Queue}
 
--- messages are a member's, and their numbers rise
-pub record IsQueue (member : ℕ) (messages : List Message) : Type 0 where
-  pub own : All (λ m. m.origin ≡ member) messages
-  pub rise : AllPairs (λ (a b : Message). IsTrue (stands_before a b)) messages
+-- the messages that stand at places, in their order
+abbrev pub standing : List (Option Message) → List Message
+standing places = flat_map option_to_list places
 
--- the message at a place has a number
-pub record IsAt (messages : List Message) (seq place : ℕ) : Type 0 where
-  pub in_range : place < length messages
-  pub is : (d : Message) → number (slice_index_or messages place d) ≡ seq
+-- what stands at each place, from that of the number `first` on, is the member's message of the place's number
+pub record ArePlaces (member first : ℕ) (places : List (Option Message)) : Type 0 where
+  pub own : (place : ℕ) (m : Message) → slice_index_or places place None ≡ Some m → m.origin ≡ member
+  pub numbered : (place : ℕ) (m : Message) → slice_index_or places place None ≡ Some m → number m ≡ first + place
 
--- a number would stand at a place: lower ones before it, and higher ones from it on
-pub record IsGapFor (messages : List Message) (seq place : ℕ) : Type 0 where
-  pub in_range : place ≤ length messages
-  pub lower : (k : ℕ) (d : Message) → k < place → number (slice_index_or messages k d) < seq
-  pub higher : (k : ℕ) (d : Message) → place ≤ k → k < length messages → seq < number (slice_index_or messages k d)
+-- the early messages of a queue, by number
+abbrev pub messages : Queue → List Message
+messages queue = standing queue.places.items
 
-module _ {G : Type 0} where
-  -- a queue is a member's in a store of n members with a window w, and has room for all that can be early at once
-  pub record IsKept (n w member : ℕ) (queue : VecDeque Message G) : Type 0 where
-    pub is_queue : IsQueue member queue.items
-    pub fit : All (λ m. IsTrue (fits n m)) queue.items
-    pub few : length queue.items ≤ w + noop_window n w
-    pub room : w + noop_window n w ≤ deque_capacity queue
+-- a queue is a member's, its messages are counted, and their numbers fit a number's type
+pub record IsQueue (member : ℕ) (queue : Queue) : Type 0 where
+  pub are_places : ArePlaces member queue.first queue.places.items
+  pub counted : queue.filled ≡ length (messages queue)
+  pub small : All (λ m. number m < 2 ^ 32) (messages queue)
 
-  -- queues are those of the members, from the first on
-  abbrev pub AreKept : ℕ → ℕ → List (VecDeque Message G) → Type 0
-  AreKept n w queues = (member : ℕ) (d : VecDeque Message G) → member < length queues → IsKept n w member (slice_index_or queues member d)
+-- the numbers of messages are above a count, by no more than so many
+abbrev pub AreWithin : ℕ → ℕ → List Message → Type 0
+AreWithin count room early = All (λ m. (count < number m) × (number m ≤ count + room)) early
 
-  -- the queues of a store
-  pub record AreQueues (n w : ℕ) (queues : List (VecDeque Message G)) : Type 0 where
-    pub some : 1 ≤ n
-    pub few : n ≤ MOST_MEMBERS
-    pub narrow : w ≤ MOST_WINDOW
-    pub count : length queues ≡ n
-    pub kept : AreKept n w queues
+-- a queue is a member's in a store of n members with a window w, and has just the room for all that can be early at once
+pub record IsKept (n w member : ℕ) (queue : Queue) : Type 0 where
+  pub is_queue : IsQueue member queue
+  pub fit : All (λ m. IsTrue (fits n m)) (messages queue)
+  pub room : deque_capacity queue.places ≡ w + noop_window n w
+
+-- queues are those of the members, from the first on
+abbrev pub AreKept : ℕ → ℕ → List Queue → Type 0
+AreKept n w queues = (member : ℕ) (d : Queue) → member < length queues → IsKept n w member (slice_index_or queues member d)
+
+-- the queues of a store
+pub record AreQueues (n w : ℕ) (queues : List Queue) : Type 0 where
+  pub some : 1 ≤ n
+  pub few : n ≤ MOST_MEMBERS
+  pub narrow : w ≤ MOST_WINDOW
+  pub count : length queues ≡ n
+  pub kept : AreKept n w queues
+
+-- a message is a member's, and can be delivered where so many of each of n members were
+abbrev pub is_ready : ℕ → List ℕ → ℕ → Message → Bool
+is_ready n counted member m = (m.origin == member) && is_deliverable n counted m

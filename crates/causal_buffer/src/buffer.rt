@@ -9,12 +9,12 @@ ghost use Rattle.op_base.specs.declared.tag.TheConstants.{MOST_MEMBERS};
 ghost use Rattle.causal_model.specs.Counts.{is_deliverable};
 ghost use Rattle.causal_model.specs.Receiving.{start, is_old, is_far, has_id, without, next_early};
 ghost use Rattle.causal_buffer.specs.Buffer.{with_messages, offer_of, after_offer, AreAhead, AreNear, IsNextId, KeepsAhead, KeepsNear};
+ghost use Rattle.causal_buffer.specs.Queue.{is_ready};
 
-use crate::queue::{number, put, search, take};
+use crate::queue::{Queue, number};
 use causal_model::{MOST_WINDOW, most_unstable};
 use op_base::{Message, MessageId, NoMemory, Tag};
 use std::alloc::Global;
-use std::collections::VecDeque;
 use std::marker::Model;
 
 /// What comes of an offer: the message is kept, or it comes back.
@@ -30,41 +30,35 @@ pub enum Offer {
 
 /// The early messages of a store of 1 to 16 members with a window of at most 64, with room for all that can be early at once.
 ///
-/// It is a queue by number for each member. A message that comes in order or in reverse is kept at an end of its member's
-/// queue at once, and the first of a queue is found and removed at once. Any other place costs a search by halving, and a
-/// move of what stands on its shorter side. What is next is the first of a queue, so it is found by a look at each member.
-/// Contracts see the early messages as one list, by origin and then by number; where that is a state's, they say what each
-/// call makes of the state.
+/// It is a queue for each member, with a place for each number from that of the member's next message on. So a message is
+/// kept, found and removed at once by its number, whatever else is early and in whatever order messages come, and what is next
+/// is found by one look at each member. Contracts see the early messages as one list, by origin and then by number; where that
+/// is a state's, they say what each call makes of the state.
 #[derive(Debug, Drop)]
 pub struct CausalBuffer {
     n: u8,
     w: u8,
-    queues: Vec<VecDeque<Message>>,
+    queues: Vec<Queue>,
 }
 
 impl Model for CausalBuffer {
     ghost use Rattle.std.specs.List.{flat_map};
-    ghost use Rattle.std.specs.VecDeque.{deque_items};
     ghost use Rattle.causal_buffer.specs.Buffer.{Buffer};
-    ghost use Rattle.causal_buffer.specs.Queue.{AreQueues};
+    ghost use Rattle.causal_buffer.specs.Queue.{AreQueues, messages};
 
     ghost Value = { Buffer };
 
-    ghost view = { λ b. record { n = b.n; w = b.w; early = flat_map deque_items b.queues.items } };
+    ghost view = { λ b. record { n = b.n; w = b.w; early = flat_map messages b.queues.items } };
 
     ghost invariant = { λ b. AreQueues b.n b.w b.queues.items };
 }
 
-/// Whether a message is its origin's next and has seen only what was delivered, where so many of each member were. The
-/// message's number is above its origin's count.
+/// Whether its origin's next message has seen only what was delivered, where so many of each member were.
 fn is_deliverable(message: &Message, counts: &Tag) -> bool
     requires fits { IsTrue (fits (length counts.now) message.now) }
-    requires ahead { entry counts.now message.now.origin < number message.now }
+    requires next { number message.now ≡ entry counts.now message.now.origin + 1 }
     ensures { result ≡ is_deliverable (length counts.now) counts.now message.now }
 {
-    if number(message) - counts.at(message.origin) != 1 {
-        return false;
-    }
     for x in 0..counts.members() {
         if x != message.origin && message.tag.at(x) > counts.at(x) {
             return false;
@@ -88,7 +82,7 @@ impl CausalBuffer {
         let room = most_unstable(n, w) as usize;
         let mut queues = Vec::with_capacity(alloc, n as usize)?;
         for _ in 0..n {
-            queues.push(VecDeque::with_capacity(alloc, room)?)?;
+            queues.push(Queue::create(alloc, room)?)?;
         }
         Ok(CausalBuffer { n, w, queues })
     }
@@ -114,15 +108,14 @@ impl CausalBuffer {
         ensures stands { KeepsOffered message result self.old self.new }
         ensures is_state { OfferKeepsState me counts.now message result self.old }
     {
-        let member = message.origin as usize;
-        let place = match search(&self.queues[member], message.origin, number(&message)) {
-            Ok(_) => return Offer::Again(message),
-            Err(place) => place,
-        };
+        if self.holds(message.id()) {
+            return Offer::Again(message);
+        }
         if self.is_far(&message, me, counts) {
             return Offer::Far(message);
         }
-        put(&mut self.queues[member], place, message);
+        let member = message.origin;
+        self.queues[member as usize].put(message, counts.at(member));
         Offer::Kept
     }
 
@@ -150,14 +143,29 @@ impl CausalBuffer {
         // Where it is a state's buffer:
         ensures in_state { IsNextInState counts.now self.now result }
     {
-        for queue in &self.queues {
-            if let Some(message) = queue.front() {
-                if is_deliverable(message, counts) {
-                    return Some(message.id());
-                }
+        for member in 0..self.n {
+            if let Some(id) = self.ready(member, counts) {
+                return Some(id);
             }
         }
         None
+    }
+
+    /// The id of a member's next message, where that is early and can be delivered.
+    fn ready(&self, member: u8, counts: &Tag) -> Option<MessageId>
+        requires member { member < self.now.n }
+        requires counts { length counts.now ≡ self.now.n }
+        ensures ready { result ≡ option_map id_of (find (is_ready self.now.n counts.now member) self.now.early) }
+        ensures is_next { IfSome result (IsNextId self.now.n counts.now) }
+    {
+        let queue = &self.queues[member as usize];
+        let seq = counts.at(member).checked_add(1)?;
+        let id = MessageId {
+            origin: member,
+            seq,
+        };
+        let message = queue.get(id)?;
+        is_deliverable(message, counts).then_some(id)
     }
 
     /// Takes out the message of an id. `None` exactly where none has it, and then nothing changes.
@@ -174,7 +182,7 @@ impl CausalBuffer {
         ensures in_state { TakesNext id self.old result }
         ensures stands { KeepsStep id self.old self.new }
     {
-        take(&mut self.queues[id.origin as usize], id)
+        self.queues[id.origin as usize].take(id)
     }
 
     /// Whether a message of an id is early.
@@ -182,7 +190,7 @@ impl CausalBuffer {
         requires { id.origin < self.now.n }
         ensures { result ≡ list_any (has_id id) self.now.early }
     {
-        search(&self.queues[id.origin as usize], id.origin, id.seq).is_ok()
+        self.queues[id.origin as usize].get(id).is_some()
     }
 
     /// How many messages are early.

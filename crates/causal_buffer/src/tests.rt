@@ -183,6 +183,45 @@ fn a_full_queue_goes_round(rt: HostRuntime) -> Result<(), Fail> {
 }
 
 #[test]
+fn messages_come_in_a_mixed_order(rt: HostRuntime) -> Result<(), Fail> {
+    // with room for 6, in rounds of 7: what comes, and which are delivered then
+    let mut receiver = Receiver {
+        me: 0,
+        counts: Tag::zero(3),
+        buffer: CausalBuffer::create(rt.alloc(), 3, 1)?,
+    };
+    assert_eq!(rt; receiver.offer(message(1, [0, 3, 0])), "kept");
+    for round in 0..12 {
+        for (number, answer, delivered) in [
+            (5u8, "kept", 0u8..0),
+            (2, "kept", 0..0),
+            (7, "far", 0..0),
+            (6, "kept", 0..0),
+            (1, "kept", 1..4),
+            (5, "again", 0..0),
+            (7, "kept", 0..0),
+            (10, "far", 0..0),
+            (4, "kept", 4..7),
+            (10, "kept", 0..0),
+            (6, "old", 0..0),
+            (7, "again", 7..8),
+        ] {
+            assert_eq!(rt;
+                receiver.offer(message(1, [0, 7 * round + u32::from(number), 0])),
+                answer,
+                "{round} {number}"
+            );
+            for number in delivered {
+                assert_eq!(rt; receiver.deliver(), id(1, 7 * round + u32::from(number)));
+            }
+        }
+        assert_eq!(rt; receiver.deliver(), None);
+        assert_eq!(rt; receiver.buffer.len(), 1);
+    }
+    Ok(())
+}
+
+#[test]
 fn a_chain_comes_in_reverse(rt: HostRuntime) -> Result<(), Fail> {
     let mut receiver = Receiver {
         me: 15,

@@ -1,9 +1,9 @@
 use Rattle.std.proofs.Common.{[], ◌∷◌, length, sym, ap, subst, ◌∙◌, arith}
 use Rattle.std.specs.List.{flat_map}
-use Rattle.std.specs.VecDeque.{deque_items}
+use Rattle.causal_buffer.specs.Queue.{messages}
 use Rattle.std.proofs.lemmas.List.{length-append}
 use Rattle.causal_buffer.specs.Queue.{AreKept}
-use Rattle.causal_buffer.proofs.AllQueues.{none_more}
+use Rattle.causal_buffer.proofs.Parts.{none_more}
 use Rattle.causal_buffer.proofs.Kept.{kept_empty, kept_push}
 use Rattle.causal_buffer.proofs.buffer.CausalBuffer.create.Goals as goal
 
@@ -12,13 +12,13 @@ loop-preserved c =
     let n = c.args.n in
     let w = c.args.w in
     let qs = c.loop.queues.items in
-    let q = c.in_ok-with_capacity.field-0 in
+    let q = c.in_ok-create.field-0 in
     let items = c.in_ok-push.ensures.items in
-    let empty = c.in_ok-with_capacity.ensures.items in
+    let made = c.in_ok-create.ensures in
     record {
       count = ap length items ∙ omega (arith, length-append qs (q ∷ []), c.loop.invariant.count);
-      kept = subst (AreKept n w) (sym items) (kept_push n w qs q c.loop.invariant.kept (kept_empty n w (length qs) q empty (omega (arith, c.in_ok-with_capacity.ensures.capacity, c.most_unstable-room.ensures.value))));
-      none = ap (flat_map deque_items) items ∙ none_more deque_items qs q c.loop.invariant.none empty;
+      kept = subst (AreKept n w) (sym items) (kept_push n w qs q c.loop.invariant.kept (kept_empty n w (length qs) q (made.kept (length qs)) made.empty (omega (arith, made.room, c.most_unstable-room.ensures.value))));
+      none = ap (flat_map messages) items ∙ none_more messages qs q c.loop.invariant.none made.empty;
     }
 
 pub invariant_of-result : goal.invariant_of-result

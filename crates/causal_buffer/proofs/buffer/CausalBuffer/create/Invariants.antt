@@ -1,6 +1,6 @@
-use Rattle.std.proofs.Common.{◌≡◌, [], length, Global}
+use Rattle.std.proofs.Common.{◌≡◌, [], length}
 use Rattle.std.specs.List.{flat_map}
-use Rattle.std.specs.VecDeque.{deque_items}
+use Rattle.causal_buffer.specs.Queue.{messages}
 use Rattle.causal_buffer.specs.Queue.{AreKept}
 use Rattle.causal_buffer.proofs.buffer.CausalBuffer.create.Given as goal
 
@@ -8,6 +8,6 @@ use Rattle.causal_buffer.proofs.buffer.CausalBuffer.create.Given as goal
 abbrev pub invariant-loop : goal.invariant-loop
 invariant-loop l = record {
   count : length l.queues.items ≡ l.counter;
-  kept : AreKept {G = Global} l.n l.w l.queues.items;
-  none : flat_map deque_items l.queues.items ≡ [];
+  kept : AreKept l.n l.w l.queues.items;
+  none : flat_map messages l.queues.items ≡ [];
 }

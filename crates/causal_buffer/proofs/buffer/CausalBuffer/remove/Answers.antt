@@ -1,6 +1,6 @@
 use Rattle.std.proofs.Common.{◌<◌, length, set, sym, ap, subst, ◌∙◌, arith}
 use Rattle.std.specs.List.{find}
-use Rattle.std.specs.VecDeque.{deque_items}
+use Rattle.causal_buffer.specs.Queue.{messages}
 use Rattle.std.proofs.lemmas.List.{length-set}
 use Rattle.causal_model.specs.Receiving.{has_id, without}
 use Rattle.causal_buffer.specs.Buffer.{Buffer, with_messages, AreAhead, AreNear}
@@ -23,14 +23,14 @@ invariant_of-self c =
       some = c.self.invariant.some;
       few = c.self.invariant.few;
       narrow = c.self.invariant.narrow;
-      count = length-set qs c.args.id.origin c.take.new.queue ∙ c.self.invariant.count;
-      kept = kept_set n w qs c.args.id.origin c.take.new.queue c.self.invariant.kept (kept_without n w c.args.id q c.take.new.queue kept c.take.ensures.others c.take.ensures.room);
+      count = length-set qs c.args.id.origin c.take.new.self ∙ c.self.invariant.count;
+      kept = kept_set n w qs c.args.id.origin c.take.new.self c.self.invariant.kept (kept_without n w c.args.id q c.take.new.self kept c.take.ensures.kept c.take.ensures.others c.take.ensures.room);
     }
 
 pub returns-clause-taken : goal.returns-clause-taken
 returns-clause-taken c =
     c.take.ensures.taken
-    ∙ ap (λ z. find (has_id c.args.id) (deque_items z)) c.index_mut.ensures.value
+    ∙ ap (λ z. find (has_id c.args.id) (messages z)) c.index_mut.ensures.value
     ∙ sym (find_in_queue c.self.inside.n c.self.inside.w c.self.inside.queues.items c.index_mut.result.now c.self.invariant.kept c.args.id (has_queue (goal.at.returns-clause-taken c).After-index_mut))
     ∙ ap (λ (b : Buffer). find (has_id c.args.id) b.early) c.self.view_is
 
@@ -38,7 +38,7 @@ pub returns-clause-others : goal.returns-clause-others
 returns-clause-others c =
     let id = c.args.id in
     ap (λ early. record { n = c.self.inside.n; w = c.self.inside.w; early = early })
-    (without_in_queue c.self.inside.n c.self.inside.w c.self.inside.queues.items c.index_mut.result.now c.self.invariant.kept id c.take.new.queue (has_queue (goal.at.returns-clause-others c).After-index_mut) (c.take.ensures.others ∙ ap (λ z. without id (deque_items z)) c.index_mut.ensures.value))
+    (without_in_queue c.self.inside.n c.self.inside.w c.self.inside.queues.items c.index_mut.result.now c.self.invariant.kept id c.take.new.self (has_queue (goal.at.returns-clause-others c).After-index_mut) (c.take.ensures.others ∙ ap (λ z. without id (messages z)) c.index_mut.ensures.value))
     ∙ ap (λ (b : Buffer). with_messages b (without id b.early)) c.self.view_is
 
 pub returns-clause-held_ahead : goal.returns-clause-held_ahead
