@@ -1,5 +1,6 @@
 //! The buffer of early messages. Each other member's messages are offered, with the first of each last where the order is
-//! `reverse`, and then all are delivered. The number is how many messages were kept.
+//! `reverse` and all over one another where it is `mixed`, and then all are delivered. The number is how many messages were
+//! kept.
 
 ghost use Rattle.std.specs.Prelude.{◌≡◌, ◌<◌, ◌≤◌, length};
 ghost use Rattle.causal_buffer.specs.Buffer.{AreAhead, AreNear};
@@ -9,6 +10,38 @@ use causal_buffer::{CausalBuffer, Offer};
 use causal_model::{MOST_WINDOW, most_unstable};
 use op_base::{MOST_MEMBERS, Message, MessageId, Op, Tag};
 use std::alloc::Global;
+
+/// In the mixed order a message's number goes on by so many, and round at the end. It is a prime above all room, so each
+/// number comes once; with a tenth of the most room and with the whole it is some 0.62 of a round.
+const STRIDE: u32 = 32987;
+
+/// In what order a member's messages are offered.
+#[derive(Clone, Copy)]
+enum Order {
+    Rising,
+    Falling,
+    Mixed,
+}
+
+fn order_of(word: &str) -> Result<Order> {
+    Ok(match word {
+        "order" => Order::Rising,
+        "reverse" => Order::Falling,
+        "mixed" => Order::Mixed,
+        _ => bail!("no order: {word}"),
+    })
+}
+
+/// The number that is offered in a turn of so many, from 1 on.
+fn ahead_of(order: Order, turn: u32, most: u32) -> u32
+    requires { turn < most }
+{
+    match order {
+        Order::Rising => turn + 1,
+        Order::Falling => most - turn,
+        Order::Mixed => turn.wrapping_mul(STRIDE) % most + 1,
+    }
+}
 
 /// The first member of a store, which receives: what it was told, and how much it has delivered.
 #[derive(Drop)]
@@ -51,10 +84,10 @@ impl Receiver {
     }
 
     /// Offers so many messages of each other member. How many were kept.
-    fn fill(&mut self, most: u32, reverse: bool) -> u64 {
+    fn fill(&mut self, most: u32, order: Order) -> u64 {
         let mut kept = 0u64;
-        for i in 0..most {
-            let ahead = if reverse { most - i } else { i + 1 };
+        for turn in 0..most {
+            let ahead = ahead_of(order, turn, most);
             for origin in 1..self.counts.members() {
                 if self.offer(origin, ahead) {
                     kept = kept.wrapping_add(1);
@@ -66,12 +99,13 @@ impl Receiver {
 }
 
 /// Fills so many hundredths of a buffer's room and delivers all, so often.
-pub fn measure(alloc: Global, n: u8, w: u8, filled: u32, reverse: bool, turns: u32) -> Result<u64>
+pub fn measure(alloc: Global, n: u8, w: u8, filled: u32, order: &str, turns: u32) -> Result<u64>
     requires some { 1 ≤ n }
     requires few { n ≤ MOST_MEMBERS }
     requires narrow { w ≤ MOST_WINDOW }
     requires within { filled ≤ 100 }
 {
+    let order = order_of(order)?;
     let mut receiver = Receiver {
         counts: Tag::zero(n),
         buffer: CausalBuffer::create(alloc, n, w)?,
@@ -79,7 +113,7 @@ pub fn measure(alloc: Global, n: u8, w: u8, filled: u32, reverse: bool, turns: u
     let most = most_unstable(n, w) * filled / 100;
     let mut kept = 0u64;
     for _ in 0..turns {
-        kept = kept.wrapping_add(receiver.fill(most, reverse));
+        kept = kept.wrapping_add(receiver.fill(most, order));
         for _ in 0..receiver.buffer.len() {
             if receiver.deliver().is_none() {
                 bail!("a message stays");

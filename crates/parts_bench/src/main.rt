@@ -2,8 +2,8 @@
 //!
 //! Its words are the part (`window`, `buffer`, `matrix`, `outbox`, `log`, `items` or `replica`); how many members the store
 //! has, 1 to 16; its window, 1 to 64; how much of the room is filled, in hundredths, or how many hundreds of items there are;
-//! the step: `order`, at the buffer `reverse` too, and at the log, the items and replicas those of their modules; and how many
-//! turns there are. It prints how many messages or steps went through the part.
+//! the step: `order`, at the buffer `reverse` and `mixed` too, and at the log, the items and replicas those of their modules;
+//! and how many turns there are. It prints how many messages or steps went through the part.
 #![tactic(auto)]
 
 mod buffer;
@@ -29,14 +29,6 @@ fn small(word: &str) -> Result<u8> {
     Ok(word.parse::<u8>().context("reading a small number")?)
 }
 
-fn is_reverse(order: &str) -> Result<bool> {
-    Ok(match order {
-        "order" => false,
-        "reverse" => true,
-        _ => bail!("no order: {order}"),
-    })
-}
-
 fn main(rt: HostRuntime) -> Result<()> {
     let alloc = rt.alloc();
     let words: Vec<String> = env::args(&rt)?.collect(alloc)?;
@@ -57,7 +49,7 @@ fn main(rt: HostRuntime) -> Result<()> {
         "items" => items::measure(alloc, n, w, filled, step, turns)?,
         "replica" => replica::measure(alloc, n, w, filled, step, turns)?,
         _ if filled > 100 => bail!("more than the room"),
-        "buffer" => buffer::measure(alloc, n, w, filled, is_reverse(step)?, turns)?,
+        "buffer" => buffer::measure(alloc, n, w, filled, step, turns)?,
         "log" => log::measure(alloc, n, w, filled, step, turns)?,
         _ if step != "order" => bail!("{part} has one order"),
         "window" => window::measure(alloc, n, w, filled, turns)?,
