@@ -2,7 +2,7 @@
 use Rattle.std.proofs.Common.{◌≡◌, ℕ, ◌<◌, All, List, [], ◌++◌, length, length-append, length-drop, length-take, get_or, take, drop, ap, sym, subst, ◌∙◌, arith}
 use Rattle.std.proofs.lemmas.List.{take_at, get_or_default, get_or-take}
 use Rattle.stability_matrix.specs.declared.matrix.Matrix.TheInside.{Inside}
-use Rattle.stability_matrix.specs.Fields.{rows_of, IsKept}
+use Rattle.stability_matrix.specs.Fields.{rows_of, known_of, IsKept}
 use Rattle.stability_matrix.specs.Rows.{row_of, stable_of, noted}
 use Rattle.stability_matrix.proofs.Entries.{length-stable_of, square-noted}
 
@@ -21,6 +21,11 @@ module _ (m : Inside) (kept : IsKept m) where
 
   pub length-row : (y : ℕ) (d : List ℕ) → y < m.n → length (get_or m.rows y d) ≡ m.n
   length-row y d l = ap length (row-kept y d l) ∙ kept.entries y [] (omega (arith, l, length-rows_of))
+
+  -- with other rows that count they show these
+  pub known-after : (after : List (List ℕ)) (stable : List ℕ) → length after ≡ m.n
+      → known_of record { n = m.n; me = m.me; rows = after ++ drop m.n m.rows; stable = stable } ≡ record { me = m.me; rows = after }
+  known-after after stable same = ap (λ rows. record { me = m.me; rows = rows }) (take_at after (drop m.n m.rows) m.n same)
 
   pub kept-noted : (origin : ℕ) (tag : List ℕ) (after : List (List ℕ)) (stable : List ℕ) → length tag ≡ m.n → after ≡ noted m.me origin tag (rows_of m)
       → length after ≡ m.n → stable ≡ stable_of after → IsKept record { n = m.n; me = m.me; rows = after ++ drop m.n m.rows; stable = stable }

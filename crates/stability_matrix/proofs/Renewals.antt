@@ -1,5 +1,5 @@
--- A message noted that moves no column's least.
-use Rattle.std.proofs.Common.{◌≡◌, ℕ, ◌<◌, All, List, [], length, get_or, set, length-set, get_or-set_other, refl, sym, ap, ◌∙◌, inl, inr, arith}
+-- A message noted: the columns whose least stays, and those whose least is computed anew.
+use Rattle.std.proofs.Common.{◌≡◌, ℕ, ◌+◌, ◌<◌, ◌≤◌, All, List, [], length, get_or, set, length-set, get_or-set_other, refl, sym, ap, ◌∙◌, inl, inr, below_more, arith}
 use Rattle.std.proofs.lemmas.Bool.{cases_eq}
 use Rattle.std.proofs.lemmas.Grind.{get_or-set_at}
 use Rattle.std.proofs.lemmas.List.{map-set}
@@ -80,3 +80,31 @@ module _ (me origin : ℕ) (tag : List ℕ) (rows : List (List ℕ)) where
           stays-is (entry stable origin) (entry (row_of rows me) origin) (entry tag origin) (minimum (column_of replaced x)) (entry (row_of rows me) origin) (entry tag origin)
           (same ∙ sym least ∙ ap (entry stable) e) refl refl at_own) in
           least ∙ sym same ∙ sym (least-own_row x own_entry)))
+
+-- a row replaced moves no least of a column where its entry moves none
+pub column-stays : (rows : List (List ℕ)) (y : ℕ) (tag : List ℕ) (x : ℕ) → y < length rows
+    → LeastStays (minimum (column_of rows x)) (entry (row_of rows y) x) (entry tag x) → minimum (column_of (set rows y tag) x) ≡ minimum (column_of rows x)
+column-stays rows y tag x l stays = least-replaced y y tag rows l l x stays
+
+-- ---- columns gone through from the first: the least of each so far is that of the rows, and the others are what they were
+
+pub record AreRenewed (rows : List (List ℕ)) (before least : List ℕ) (x : ℕ) : Type 0 where
+  pub members : length least ≡ length before
+  pub done : (k : ℕ) → k < x → entry least k ≡ minimum (column_of rows k)
+  pub rest : (k : ℕ) → x ≤ k → entry least k ≡ entry before k
+
+module _ (rows : List (List ℕ)) (before least : List ℕ) (x : ℕ) (renewed : AreRenewed rows before least x) where
+  pub one_stays : minimum (column_of rows x) ≡ entry before x → AreRenewed rows before least (x + 1)
+  one_stays same = record {
+    members = renewed.members;
+    done = below_more (λ k. entry least k ≡ minimum (column_of rows k)) x renewed.done (renewed.rest x (omega arith) ∙ sym same);
+    rest = λ k past. renewed.rest k (omega (arith, past));
+  }
+
+  pub one_is_computed : (v : ℕ) → x < length before → v ≡ minimum (column_of rows x) → AreRenewed rows before (set least x v) (x + 1)
+  one_is_computed v l is = record {
+    members = length-set least x v ∙ renewed.members;
+    done = below_more (λ k. entry (set least x v) k ≡ minimum (column_of rows k)) x
+        (λ k less. get_or-set_other least x k v 0 (omega (arith, less)) ∙ renewed.done k less) (get_or-set_at least x x v 0 refl (omega (arith, l, renewed.members)) ∙ is);
+    rest = λ k past. get_or-set_other least x k v 0 (omega (arith, past)) ∙ renewed.rest k (omega (arith, past));
+  }

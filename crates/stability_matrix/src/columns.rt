@@ -1,8 +1,9 @@
 //! The rows of a matrix, as a message is noted in them, and the least of each of their columns.
 
-ghost use Rattle.std.specs.Prelude.{◌≡◌, ◌<◌, ◌≤◌, ℕ, min, length, All, IsTrue};
+ghost use Rattle.std.specs.Prelude.{◌≡◌, ◌<◌, ◌≤◌, ℕ, min, length, slice_set, All, IsTrue};
 ghost use Rattle.op_base.specs.Timestamp.{entry};
-ghost use Rattle.stability_matrix.specs.Rows.{stable_of, noted, LeastStays};
+ghost use Rattle.causal_model.specs.Stability.{minimum};
+ghost use Rattle.stability_matrix.specs.Rows.{column_of, stable_of, noted, LeastStays};
 
 use op_base::Tag;
 
@@ -29,6 +30,41 @@ pub(crate) fn least_of(rows: &[Tag]) -> Tag
     let mut least = rows[0];
     for row in rows {
         lower(&mut least, row);
+    }
+    least
+}
+
+/// Puts a timestamp into a member's row, and gives the least entry of each column, where `before` has what they were. Only
+/// columns are gone through whose least may move.
+pub(crate) fn set_row(rows: &mut [Tag], member: u8, tag: &Tag, before: &Tag) -> Tag
+    requires member { member < length rows.old }
+    requires entries { length tag.now ≡ length rows.old }
+    requires square { All (λ row. length row ≡ length rows.old) rows.old }
+    requires least { before.now ≡ stable_of rows.old }
+    ensures rows { rows.new ≡ slice_set rows.old member tag.now }
+    ensures least { result ≡ stable_of rows.new }
+{
+    let was = rows[member as usize];
+    rows[member as usize] = *tag;
+    let mut least = *before;
+    for x in 0..tag.members() {
+        if !least_stays(before.at(x), was.at(x), tag.at(x)) {
+            least.set(x, least_in(rows, x));
+        }
+    }
+    least
+}
+
+/// The least entry of a column.
+fn least_in(rows: &[Tag], x: u8) -> u32
+    requires some { 1 ≤ length rows.now }
+    requires square { All (λ row. length row ≡ length rows.now) rows.now }
+    requires member { x < length rows.now }
+    ensures { result ≡ minimum (column_of rows.now x) }
+{
+    let mut least = rows[0].at(x);
+    for row in rows.iter() {
+        least = least.min(row.at(x));
     }
     least
 }

@@ -6,14 +6,15 @@ ghost use Rattle.op_base.specs.Timestamp.{zero_tag, covers};
 ghost use Rattle.op_base.specs.declared.message.Message.{Message};
 ghost use Rattle.causal_model.specs.Stability.{known_vector, stable_vector, is_stable};
 
-use crate::columns::{least_of, least_stays, note_in};
+use crate::columns::{least_of, least_stays, note_in, set_row};
 use op_base::{MOST_MEMBERS, MessageId, Tag};
 use std::marker::Model;
 
 /// What member `me` of a store knows that each member has: a row for each. Contracts see `me` and the rows.
 ///
-/// The least of each column is kept. A message may move all of them, so all are computed together then, row by row; where
-/// no entry that it moves was or becomes a least, all stay.
+/// The least of each column is kept. A message of another member may move all of them, so all are computed together then,
+/// row by row; where no entry that it moves was or becomes a least, all stay. An own one moves the column of the own member
+/// alone.
 #[derive(Debug, Drop)]
 pub struct Matrix {
     n: u8,
@@ -74,7 +75,22 @@ impl Matrix {
         ensures members { length self.new.rows ≡ length self.old.rows }
         ensures known { KeepsKnown origin tag self.old self.new }
     {
-        self.renew(origin, &tag);
+        let stable = self.stable_after(origin, tag);
+        self.note_with(origin, tag, stable);
+    }
+
+    /// As `note`, where it is known what `stable_after` gives: no least is computed.
+    pub fn note_with(&mut self, origin: u8, tag: Tag, stable: Tag)
+        requires origin { origin < length self.old.rows }
+        requires other { origin ≢ self.old.me }
+        requires entries { length tag ≡ length self.old.rows }
+        requires stable { stable ≡ stable_of (noted self.old.me origin tag self.old.rows) }
+        ensures noted { self.new ≡ record { me = self.old.me; rows = noted self.old.me origin tag self.old.rows } }
+        ensures members { length self.new.rows ≡ length self.old.rows }
+        ensures known { KeepsKnown origin tag self.old self.new }
+    {
+        note_in(&mut self.rows[..self.n as usize], self.me, origin, &tag);
+        self.stable = stable;
     }
 
     /// Notes an own message: the own row becomes the timestamp.
@@ -84,7 +100,8 @@ impl Matrix {
         ensures members { length self.new.rows ≡ length self.old.rows }
         ensures known { KeepsKnownOfOwn tag self.old self.new }
     {
-        self.renew(self.me, &tag);
+        let rows = &mut self.rows[..self.n as usize];
+        self.stable = set_row(rows, self.me, &tag, &self.stable);
     }
 
     /// The least entry of each column: how many messages of each member every member is known to have.
@@ -119,20 +136,6 @@ impl Matrix {
         ensures known { (n me : ℕ) (messages : List Message) (m : Message) → IsMatrixOf n me messages self.now → id_of m ≡ id → result ≡ is_stable (stable_vector n me messages) m }
     {
         self.stable.covers_id(id)
-    }
-
-    /// Puts the timestamp of a message of `origin` into its row, and its number into the own row.
-    fn renew(&mut self, origin: u8, tag: &Tag)
-        requires origin { origin < length self.old.rows }
-        requires entries { length tag.now ≡ length self.old.rows }
-        ensures { self.new ≡ record { me = self.old.me; rows = noted self.old.me origin tag.now self.old.rows } }
-    {
-        let keeps_least = self.keeps_least(origin, tag);
-        let rows = &mut self.rows[..self.n as usize];
-        note_in(rows, self.me, origin, tag);
-        if !keeps_least {
-            self.stable = least_of(rows);
-        }
     }
 
     /// Whether no entry that a message of `origin` moves was or becomes its column's least: each least stays then.

@@ -15,7 +15,8 @@ fn tag(numbers: [u32; 3]) -> Tag
     tag
 }
 
-/// Notes a message at member 0 of three, and gives what is stable after it as it was told before.
+/// Notes a message at member 0 of three, and gives what is stable after it as it was told before. Of member 2's what is stable
+/// isn't computed again.
 fn note(matrix: &mut Matrix, origin: u8, tag: Tag) -> Tag
     requires members { length matrix.old.rows ≡ 3 }
     requires own { matrix.old.me ≡ 0 }
@@ -29,7 +30,11 @@ fn note(matrix: &mut Matrix, origin: u8, tag: Tag) -> Tag
         return matrix.stable();
     }
     let stable = matrix.stable_after(origin, tag);
-    matrix.note(origin, tag);
+    if origin == 1 {
+        matrix.note(origin, tag);
+    } else {
+        matrix.note_with(origin, tag, stable);
+    }
     stable
 }
 
