@@ -1,15 +1,23 @@
 -- What one message more makes of parts of a replica, and what the steps of receiving make of all its fields.
-use Rattle.std.specs.Prelude.{◌≡◌, ℕ, Bool, not, ◌&&◌, ◌||◌, ◌==◌, IsTrue, List, [], ◌∷◌, ◌++◌, Some}
+use Rattle.std.specs.Prelude.{◌≡◌, ◌≢◌, ℕ, Bool, not, ◌&&◌, ◌||◌, ◌==◌, IsTrue, List, [], ◌∷◌, ◌++◌, Some}
 use Rattle.op_base.specs.declared.message.Message.{Message}
 use Rattle.op_base.specs.declared.outcome.Step.{Step}
 use Rattle.causal_model.specs.Chapter.{is_chapter}
 use Rattle.causal_model.specs.Laws.States.{next_of}
 use Rattle.causal_model.specs.Receiving.{State, crook_after, step_of, state_with, steps}
 use Rattle.causal_model.specs.Stability.{carries_operation}
-use Rattle.stability_matrix.specs.Rows.{Known}
+use Rattle.stability_matrix.specs.Rows.{Known, stable_of, noted}
 use Rattle.stability_matrix.specs.Standing.{IsMatrixOf}
 use Rattle.replica_core.specs.Rules.{StandsFor}
 use Rattle.replica_core.specs.declared.replica.Replica.{Replica}
+use Rattle.replica_core.specs.declared.step.Sender.{Sender}
+use Rattle.replica_core.specs.declared.step.Sender.TheVariants as sender
+
+-- who sent a message that comes to a member with this matrix: of an own one there is a copy, of another member's the least of
+-- each column once it is noted
+abbrev pub IsSender : ℕ → Known → Message → Sender → Type 0
+IsSender me matrix m (sender.Own copy) = (m.origin ≡ me) × (copy ≡ m)
+IsSender me matrix m (sender.Other stable) = (m.origin ≢ me) × (stable ≡ stable_of (noted matrix.me m.origin m.tag matrix.rows))
 
 -- where the matrix was that of messages of which this is the next, it is that of those with it
 abbrev pub KeepsMatrix : Message → Known → Known → Type 0

@@ -11,6 +11,7 @@ ghost use Rattle.stable_state.specs.Shown.{shown};
 
 use crate::answers::{Receive, Refusal};
 use crate::replica::Replica;
+use crate::step::Sender;
 use causal_buffer::Offer;
 use op_base::{Message, MessageId, NoMemory, Step, StepList};
 use std::alloc::Global;
@@ -120,7 +121,7 @@ impl Replica {
         let stable = self.matrix.stable_after(message.origin, message.tag);
         match self.window.check(&message, &last, &stable) {
             Ok(()) => {
-                self.step(message, None);
+                self.step(message, Sender::Other(stable));
                 Some(Step::Took(id))
             }
             Err(crook) => Some(Step::Crook(id, crook)),

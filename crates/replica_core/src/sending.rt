@@ -12,6 +12,7 @@ ghost use Rattle.causal_model.specs.Stability.{unstable_operations, unstable_noo
 
 use crate::answers::{Beat, Local};
 use crate::replica::Replica;
+use crate::step::Sender;
 use op_base::{Message, NoMemory, Op, Tag, Update, updates_are_valid};
 use std::alloc::Global;
 
@@ -106,7 +107,7 @@ impl Replica {
         let sent = message.copy(alloc)?;
         let answer = message.copy(alloc)?;
         self.items.reserve(self.log.len() + 1)?;
-        self.step(message, Some(sent));
+        self.step(message, Sender::Own(sent));
         Ok(answer)
     }
 

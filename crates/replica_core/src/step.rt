@@ -10,21 +10,29 @@ ghost use Rattle.causal_model.specs.Stability.{carries_operation};
 ghost use Rattle.causal_model.specs.States.{IsState};
 ghost use Rattle.outbox.specs.Sent.{ComesAfter, room_of};
 ghost use Rattle.stable_state.specs.Shown.{shown};
-ghost use Rattle.replica_core.specs.Steps.{KeepsMatrix, is_due_after};
+ghost use Rattle.replica_core.specs.Steps.{IsSender, KeepsMatrix, is_due_after};
 
 use crate::replica::Replica;
 use crate::settling::settle;
-use op_base::{Message, Op};
+use op_base::{Message, Op, Tag};
 use outbox::Outbox;
 use stability_matrix::Matrix;
+
+/// Who sent a message that is delivered, and what a step needs for it.
+pub(crate) enum Sender {
+    /// The replica itself: a copy of the message, which is sent again until it is stable.
+    Own(Message),
+    /// Another member: what is stable once the message is delivered.
+    Other(Tag),
+}
 
 impl Replica {
     ghost use Rattle.replica_core.specs.Rules.{StandsFor, SameSettings};
 
-    /// Makes a message the next of the history. Of an own message `sent` is a copy, which is sent again until it is stable.
-    pub(crate) fn step(&mut self, message: Message, sent: Option<Message>)
+    /// Makes a message the next of the history.
+    pub(crate) fn step(&mut self, message: Message, sender: Sender)
         requires next { ∥ ((s : State) × StandsFor self.old s × IsState self.old.w self.old.limit (with_own s message)) ∥₁ }
-        requires sent { sent ≡ (if message.origin == self.old.me then Some message else None) }
+        requires sender { IsSender self.old.me self.old.matrix message sender }
         requires spare { length self.old.log.entries + 1 ≤ (shown self.old.items).spare }
         ensures stands { (s : State) → StandsFor self.old s → IsState self.old.w self.old.limit (with_own s message) → StandsFor self.new (with_own s message) }
         ensures settings { SameSettings self.old self.new }
@@ -33,7 +41,7 @@ impl Replica {
     {
         let (origin, tag) = (message.origin, message.tag);
         let before = self.matrix.stable();
-        note(&mut self.matrix, self.me, &message);
+        let sent = note(&mut self.matrix, self.me, &message, sender);
         self.counts.set(origin, tag.at(origin));
         self.due = is_due(self.due, self.me, &message);
         let stable = self.matrix.stable();
@@ -45,18 +53,25 @@ impl Replica {
     }
 }
 
-/// Notes a member's next message in its matrix.
-fn note(matrix: &mut Matrix, me: u8, message: &Message)
+/// Notes a member's next message in its matrix. The copy of an own one comes back.
+fn note(matrix: &mut Matrix, me: u8, message: &Message, sender: Sender) -> Option<Message>
     requires me { matrix.old.me ≡ me }
     requires origin { message.now.origin < length matrix.old.rows }
     requires entries { length message.now.tag ≡ length matrix.old.rows }
+    requires sender { IsSender me matrix.old message.now sender }
     ensures members { length matrix.new.rows ≡ length matrix.old.rows }
     ensures known { KeepsMatrix message.now matrix.old matrix.new }
+    ensures sent { result ≡ (if message.now.origin == me then Some message.now else None) }
 {
-    if message.origin == me {
-        matrix.note_own(message.tag);
-    } else {
-        matrix.note(message.origin, message.tag);
+    match sender {
+        Sender::Own(sent) => {
+            matrix.note_own(message.tag);
+            Some(sent)
+        }
+        Sender::Other(stable) => {
+            matrix.note_with(message.origin, message.tag, stable);
+            None
+        }
     }
 }
 

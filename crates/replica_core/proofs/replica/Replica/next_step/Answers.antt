@@ -1,5 +1,4 @@
-use Rattle.std.proofs.Common.{IsTrue, length, sym, ap, subst, ◌∙◌, Some, None, if◌then◌else◌, arith}
-use Rattle.std.proofs.lemmas.Bool.{ne_eqb}
+use Rattle.std.proofs.Common.{IsTrue, length, sym, ap, subst, ◌∙◌, arith}
 use Rattle.std.proofs.Math.Logic.{∥∥₁_map}
 use Rattle.op_base.specs.Message.{fits}
 use Rattle.causal_model.specs.Receiving.{crook_after}
@@ -74,12 +73,10 @@ step-requires-clause-next c =
     let right = not_crooked (crook_after r.w x.0.history m) _ told in
     (state_without id x.0, without_stands f x.0 x.1 id c.remove.new.self c.remove.ensures.others, delivered_is_state f x.0 x.1 id m taken right))
 
-pub step-requires-clause-sent : goal.step-requires-clause-sent
-step-requires-clause-sent c =
+pub step-requires-clause-sender : goal.step-requires-clause-sender
+step-requires-clause-sender c =
     let r = c.args.self.now in
-    let m = c.in-Some.message in
-    let other = taken_is_of_other_in (fields_of r) r.stands c.in_ok-id.id c.in_ok-id.ensures.in_state m c.in-Some.ensures.in_state in
-    sym (ap (λ own. if own then Some m else None) (ne_eqb m.origin r.me other))
+    (taken_is_of_other_in (fields_of r) r.stands c.in_ok-id.id c.in_ok-id.ensures.in_state c.in-Some.message c.in-Some.ensures.in_state, c.stable_after-stable.ensures.least)
 
 pub returns-in-Ok-clause-step : goal.returns-in-Ok-clause-step
 returns-in-Ok-clause-step c = λ s stands.

@@ -1,7 +1,8 @@
-use Rattle.std.proofs.Common.{IsTrue, sym, subst, ◌∙◌, arith}
+use Rattle.std.proofs.Common.{IsTrue, sym, ap, subst, ◌∙◌, arith}
 use denote.Struct.Props.{props}
 use Rattle.std.proofs.Math.Logic.{∥∥₁_elim, ∥∥₁_map}
 use Rattle.op_base.specs.Message.{fits}
+use Rattle.op_base.specs.declared.message.Message.{Message}
 use Rattle.causal_model.specs.Journal.{with_own}
 use Rattle.stable_state.specs.Shown.{shown}
 use Rattle.replica_core.specs.Rules.{fields_of}
@@ -28,6 +29,11 @@ step-requires-clause-next c =
       with_items f x.0 x.1 (shown c.reserve.new.self) c.reserve.ensures.items,
       own_is_state f x.0 x.1 c.args.op c.next_message-message.result (c.next_message-message.ensures.message x.0 x.1) (c.requires.ready x.0 x.1) (c.requires.more x.0 x.1) c.requires.valid,
     ))
+
+pub step-requires-clause-sender : goal.step-requires-clause-sender
+step-requires-clause-sender c =
+    let r = c.args.self.now in
+    (∥∥₁_elim r.stands (search props) (λ x. ap (λ (m : Message). m.origin) (c.next_message-message.ensures.message x.0 x.1)), c.in_ok-sent.ensures)
 
 pub returns-clause-stands : goal.returns-clause-stands
 returns-clause-stands c = λ s stands.
