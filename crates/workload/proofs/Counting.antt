@@ -51,7 +51,7 @@ abbrev pub KeepsCounts : (List ℕ → Option ℕ) → List (List ℕ) → Type 
 KeepsCounts kept words = (q : List ℕ) → kept q ≡ count_in words q
 
 -- a word counted once more
-pub counted_more : (old new : List ℕ → Option ℕ) (words : List (List ℕ)) (word : List ℕ) → KeepsCounts old words → new word ≡ Some (unwrap_or (old word) 0 + 1)
+counted_more : (old new : List ℕ → Option ℕ) (words : List (List ℕ)) (word : List ℕ) → KeepsCounts old words → new word ≡ Some (unwrap_or (old word) 0 + 1)
     → ((q : List ℕ) → same_text word q ≡ false → new q ≡ old q) → KeepsCounts new (words ++ word ∷ [])
 counted_more old new words word so_far this others q = by (same_text word q) refl where
   here : new word ≡ count_in (words ++ word ∷ []) word
