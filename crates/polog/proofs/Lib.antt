@@ -5,6 +5,7 @@ pub mod Moves
 pub mod Laid
 pub mod Spans
 pub mod Sweeps
+pub mod Runs
 pub mod Firsts
 pub mod Strips
 pub mod Prunes

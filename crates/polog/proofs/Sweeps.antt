@@ -16,7 +16,7 @@ module _ {X : Type 0} where
   get-any (x ∷ xs) zero d e l = refl
   get-any (x ∷ xs) (suc i) d e l = get-any xs i d e (omega (arith, l))
 
-  swapped : (xs : List X) (i j : ℕ) → i < length xs → j < length xs → SwappedAt xs (swap xs i j) i j
+  pub swapped : (xs : List X) (i j : ℕ) → i < length xs → j < length xs → SwappedAt xs (swap xs i j) i j
   swapped xs i j l m = (
     λ d. (swapped_from_swap xs (swap xs i j) i j d l m refl).0,
     λ d. (swapped_from_swap xs (swap xs i j) i j d l m refl).1,

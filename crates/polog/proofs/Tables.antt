@@ -1,10 +1,11 @@
 -- Rows of a list of numbers and one of items as long: what edits of both lists make of them.
-use Rattle.std.proofs.Common.{◌≡◌, ℕ, ◌<◌, zero, suc, List, [], ◌∷◌, ◌++◌, length, take, drop, get_or, set, length-append, refl, sym, ap, ◌∙◌, arith}
+use Rattle.std.proofs.Common.{◌≡◌, ℕ, ◌-◌, ◌<◌, zero, suc, List, [], ◌∷◌, ◌++◌, length, take, drop, get_or, set, length-append, length-drop, refl, sym, ap, ◌∙◌, arith}
 use Rattle.std.specs.List.{insert, swap}
+use Rattle.std.specs.Prelude.{slice_range}
 use Rattle.std.proofs.lemmas.List.{set-get_or}
 use Rattle.op_base.specs.declared.message.Entry.{Entry}
 use Rattle.polog.specs.Order.{rows, items_of}
-use Rattle.polog.specs.Rows.{Table}
+use Rattle.polog.specs.Rows.{Table, turned}
 
 same-take : {A B : Type 0} (i : ℕ) (xs : List A) (ys : List B) → length xs ≡ length ys → length (take i xs) ≡ length (take i ys)
 same-take zero [] [] same = refl
@@ -78,6 +79,23 @@ module _ {E : Type 0} where
   rows-cut i j ns es same =
       rows-join (take i ns) (drop j ns) (take i es) (drop j es) (same-take i ns es same)
       ∙ (λ t. rows-take i ns es t ++ rows-drop j ns es same t)
+
+  pub rows-turned : (to from end : ℕ) (ns : List ℕ) (es : List E) → length ns ≡ length es → rows (turned to from end ns) (turned to from end es) ≡ turned to from end (rows ns es)
+  rows-turned to from end ns es same =
+      let m : ℕ = from - to in
+      let numbers : List ℕ = slice_range ns to end in
+      let items : List E = slice_range es to end in
+      let many : length numbers ≡ length items = same-take (end - to) (drop to ns) (drop to es) (omega (arith, length-drop to ns, length-drop to es, same)) in
+      let later : length (drop m numbers) ≡ length (drop m items) = omega (arith, length-drop m numbers, length-drop m items, many) in
+      let both : length (drop m numbers ++ take m numbers) ≡ length (drop m items ++ take m items) =
+      omega (arith, length-append (drop m numbers) (take m numbers), length-append (drop m items) (take m items), later, same-take m numbers items many) in
+      let part : rows numbers items ≡ slice_range (rows ns es) to end = rows-take (end - to) (drop to ns) (drop to es) ∙ ap (take (end - to)) (rows-drop to ns es same) in
+      let front = rows-drop m numbers items many ∙ ap (drop m) part in
+      let back = rows-take m numbers items ∙ ap (take m) part in
+      let middle = rows-join (drop m numbers) (take m numbers) (drop m items) (take m items) later ∙ (λ t. front t ++ back t) in
+      let rest = rows-join (drop m numbers ++ take m numbers) (drop end ns) (drop m items ++ take m items) (drop end es) both ∙ (λ t. middle t ++ rows-drop end ns es same t) in
+      rows-join (take to ns) ((drop m numbers ++ take m numbers) ++ drop end ns) (take to es) ((drop m items ++ take m items) ++ drop end es) (same-take to ns es same)
+      ∙ (λ t. rows-take to ns es t ++ rest t)
 
   pub rows-insert : (i : ℕ) (ns : List ℕ) (es : List E) (a : ℕ) (e : E) → length ns ≡ length es → rows (insert ns i a) (insert es i e) ≡ insert (rows ns es) i (a, e)
   rows-insert i ns es a e same =

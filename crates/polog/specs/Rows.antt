@@ -1,5 +1,6 @@
 -- Rows of a log: entries beside the numbers of their arrival, side by side by object.
-use Rattle.std.specs.Prelude.{◌≡◌, ◌≢◌, ℕ, ◌<◌, ◌≤◌, ◌⊎◌, Bool, true, false, List, length, slice_index_or, Option, Some, None, IsTrue}
+use Rattle.std.specs.Prelude.{◌≡◌, ◌≢◌, ℕ, ◌+◌, ◌-◌, ◌<◌, ◌≤◌, ◌⊎◌, Bool, true, false, List, ◌++◌, length, take, drop, slice_range, slice_index_or, Option, Some, None, IsTrue}
+use Rattle.std.specs.List.Sorted.{IsPermutation}
 use Rattle.std.specs.declared.cmp.Ordering.TheVariants.{Less, Equal}
 use Rattle.op_base.specs.Message.{fits}
 use Rattle.op_base.specs.Order.{object_cmp}
@@ -15,6 +16,16 @@ pub record Table : Type 0 where
 -- a table with other rows
 abbrev pub with_rows : Table → List (ℕ × Entry) → Table
 with_rows table rows = record { room = table.room; rows = rows }
+
+-- a list in which what stands from one place up to another is moved in front of what stands there from an earlier place on
+abbrev pub turned : {A : Type 0} → ℕ → ℕ → ℕ → List A → List A
+turned to from end xs = take to xs ++ ((drop (from - to) (slice_range xs to end) ++ take (from - to) (slice_range xs to end)) ++ drop end xs)
+
+-- the rows from one place up to another were moved down to an earlier place; what stood there may stand in another order
+pub record IsMovedDown {A : Type 0} (to from end : ℕ) (old new : List A) : Type 0 where
+  pub front : take (to + (end - from)) new ≡ take to old ++ slice_range old from end
+  pub rest : drop end new ≡ drop end old
+  pub same : IsPermutation old new
 
 -- of two rows the first stands before the second: by object, and within an object by arrival; and they arrived apart
 abbrev pub StandsBefore : ℕ × Entry → ℕ × Entry → Type 0

@@ -5,7 +5,7 @@ ghost use Rattle.std.specs.List.{insert, remove, swap};
 ghost use Rattle.std.specs.Option.{option_to_list};
 ghost use Rattle.op_base.specs.declared.message.Entry.{Entry};
 ghost use Rattle.polog.specs.Order.{items_of};
-ghost use Rattle.polog.specs.Rows.{Table, with_rows};
+ghost use Rattle.polog.specs.Rows.{Table, with_rows, turned};
 
 use op_base::{Entry, NoMemory};
 use std::alloc::Global;
@@ -99,6 +99,17 @@ impl Rows {
         }
     }
 
+    /// Moves the rows from one place up to another in front of those from an earlier place on.
+    pub fn turn(&mut self, to: usize, from: usize, end: usize)
+        requires earlier { to ≤ from }
+        requires order { from ≤ end }
+        requires places { end ≤ length self.old.rows }
+        ensures { self.new ≡ with_rows self.old (turned to from end self.old.rows) }
+    {
+        turn(&mut self.entries, to, from, end);
+        turn(&mut self.numbers, to, from, end);
+    }
+
     /// Lets go of the rows from one place up to another.
     pub fn cut(&mut self, from: usize, to: usize)
         requires order { from ≤ to }
@@ -127,4 +138,14 @@ impl Rows {
     {
         Some((self.numbers.pop()?, self.entries.pop()?))
     }
+}
+
+/// Moves the items from one place up to another in front of those from an earlier place on.
+fn turn<T>(items: &mut [T], to: usize, from: usize, end: usize)
+    requires earlier { to ≤ from }
+    requires order { from ≤ end }
+    requires places { end ≤ length items.old }
+    ensures { items.new ≡ turned to from end items.old }
+{
+    items[to..end].rotate_left(from - to);
 }
