@@ -1,6 +1,6 @@
 //! The window of all members, and the check of a message that comes.
 
-ghost use Rattle.std.specs.Prelude.{◌≡◌, ◌≢◌, ℕ, ◌+◌, ◌<◌, ◌≤◌, Bool, true, false, not, ◌&&◌, List, [], ◌∷◌, ◌++◌, length, filter, map, replicate, slice_set, nat_lt, IfOk, IfSome, IsTrue, if◌then◌else◌};
+ghost use Rattle.std.specs.Prelude.{◌≡◌, ◌≢◌, ℕ, ◌+◌, ◌<◌, ◌≤◌, Bool, true, false, not, ◌&&◌, List, [], ◌∷◌, ◌++◌, length, filter, map, replicate, slice_set, nat_lt, IfOk, IfSome, IsTrue, None, if◌then◌else◌};
 ghost use Rattle.op_base.specs.Message.{fits, number};
 ghost use Rattle.op_base.specs.Timestamp.{entry};
 ghost use Rattle.op_base.specs.declared.message.Message.{Message as AMessage};
@@ -43,12 +43,28 @@ impl Model for TagWindow {
     ghost invariant = { λ t. AreQueues t.w t.z t.queues.items };
 }
 
+/// Whether a timestamp is nowhere below another of as many members. There is no early end, so that several numbers are
+/// tested at once.
+fn is_nowhere_below(had: &Tag, got: &Tag) -> bool
+    requires { length had.now ≡ length got.now }
+    ensures { IsTrue result → first_below (length had.now) had.now got.now ≡ None }
+{
+    let mut nowhere = true;
+    for x in 0..had.members() {
+        nowhere &= had.at(x) <= got.at(x);
+    }
+    nowhere
+}
+
 /// The least member at which a timestamp is below another of as many members.
 fn first_below(had: &Tag, got: &Tag) -> Option<u8>
     requires { length had.now ≡ length got.now }
     ensures least { result ≡ first_below (length had.now) had.now got.now }
     ensures member { IfSome result (λ x. x < length had.now) }
 {
+    if is_nowhere_below(had, got) {
+        return None;
+    }
     for x in 0..had.members() {
         if got.at(x) < had.at(x) {
             return Some(x);
