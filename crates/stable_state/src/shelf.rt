@@ -136,6 +136,18 @@ impl Shelf {
         ensures items { self.new.items ≡ without_span from to self.old.items }
         ensures spare { self.old.spare ≤ self.new.spare }
     {
+        if from < to {
+            self.take_out(from, to);
+        }
+    }
+
+    /// Takes out the items that stand at places from the first up to, and not with, the second.
+    fn take_out(&mut self, from: usize, to: usize)
+        requires ordered { from ≤ to }
+        requires within { to ≤ length self.old.items }
+        ensures items { self.new.items ≡ without_span from to self.old.items }
+        ensures spare { self.old.spare ≤ self.new.spare }
+    {
         let first_mark = self.marks_before(from);
         let last_mark = self.marks_before(to);
         empty_slots(&mut self.slots, &self.order[from..to]);

@@ -8,7 +8,7 @@ use Rattle.stable_state.proofs.Filters.{passing-le, passing-le-passing}
 use Rattle.stable_state.proofs.Places.{AllPairs-take, AllPairs-drop}
 use Rattle.stable_state.proofs.Slots.{slots_apart}
 use Rattle.stable_state.proofs.Ordered.{marks_in_front, items-remove, ordered-remove}
-use Rattle.stable_state.proofs.shelf.Shelf.remove_span.Goals as goal
+use Rattle.stable_state.proofs.shelf.Shelf.take_out.Goals as goal
 
 pub empty_slots-requires-clause-apart : goal.empty_slots-requires-clause-apart
 empty_slots-requires-clause-apart c =
