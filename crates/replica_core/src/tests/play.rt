@@ -3,7 +3,7 @@
 ghost use Rattle.std.specs.Prelude.{IsTrue, nat_le};
 ghost use Rattle.std.specs.List.{list_all};
 
-use crate::{Beat, Local, Receive, Replica};
+use crate::{Beat, CreateFault, Local, Receive, Replica};
 use causal_model::ItemView;
 use op_base::{
     Act, Answer, IdList, Kind, Message, MessageList, NameFault, NoMemory, ObjectId, Op, Step,
@@ -23,7 +23,7 @@ pub struct Table {
 
 /// The replicas of a store, and the messages that they sent.
 #[derive(Drop)]
-pub struct Store {
+struct Store {
     replicas: Vec<Replica>,
     sent: MessageList,
 }
@@ -71,6 +71,15 @@ impl<T: Drop> From<AllocFailed<T>> for Stop {
     }
 }
 
+impl From<CreateFault> for Stop {
+    fn from(fault: CreateFault) -> Stop {
+        match fault {
+            CreateFault::NoMemory => Stop::NoMemory,
+            CreateFault::BadNumbers => Stop::Unread,
+        }
+    }
+}
+
 impl From<NameFault> for Stop {
     fn from(fault: NameFault) -> Stop {
         match fault {
@@ -80,14 +89,17 @@ impl From<NameFault> for Stop {
     }
 }
 
+/// A number of 32 bits.
 fn number(word: &str) -> Result<u32, Stop> {
     word.parse().ok().ok_or(Stop::Unread)
 }
 
+/// A member's number.
 fn member(word: &str) -> Result<u8, Stop> {
     word.parse().ok().ok_or(Stop::Unread)
 }
 
+/// The act of a word and its argument.
 fn act(alloc: Global, word: &str, argument: &str) -> Result<Act, Stop> {
     Ok(match word {
         "add" => Act::Add(Value::read(alloc, argument.as_bytes())?),
@@ -155,6 +167,7 @@ pub fn receive(replica: &mut Replica, alloc: Global, message: Message) -> Result
     Ok(replica.receive(alloc, message))
 }
 
+/// What a replica answers to a message, in words.
 fn received(replica: &mut Replica, alloc: Global, message: Message) -> Result<String, Stop> {
     let word = match receive(replica, alloc, message)? {
         Receive::Old => "old",
@@ -167,6 +180,7 @@ fn received(replica: &mut Replica, alloc: Global, message: Message) -> Result<St
     Ok(String::from_str(alloc, word)?)
 }
 
+/// What became of early messages, in words: of one that was dropped with the cause.
 fn steps_in_words(alloc: Global, steps: &StepList) -> Result<String, Stop> {
     let mut text = String::from_str(alloc, "took")?;
     for step in steps.as_slice() {
@@ -178,15 +192,17 @@ fn steps_in_words(alloc: Global, steps: &StepList) -> Result<String, Stop> {
     Ok(text)
 }
 
-fn sent(sent: &mut MessageList, alloc: Global, message: Message) -> Result<String, Stop> {
+/// Puts a message that was sent to the others, and tells its number.
+fn sent(out: &mut MessageList, alloc: Global, message: Message) -> Result<String, Stop> {
     if message.origin >= message.tag.members() {
         return Err(Stop::Unread);
     }
     let text = format!(in alloc; "ok {}", message.tag.at(message.origin))?;
-    sent.push(message)?;
+    out.push(message)?;
     Ok(text)
 }
 
+/// What a replica answers to an update of its own, in words.
 fn done(
     replica: &mut Replica,
     out: &mut MessageList,
@@ -202,6 +218,7 @@ fn done(
     Ok(String::from_str(alloc, word)?)
 }
 
+/// What a replica answers to a beat, in words.
 fn beaten(replica: &mut Replica, out: &mut MessageList, alloc: Global) -> Result<String, Stop> {
     let word = match replica.beat(alloc) {
         Beat::Sent(message) => return sent(out, alloc, message),
@@ -218,6 +235,7 @@ fn message(out: &MessageList, k: u8, s: u32) -> Option<&Message> {
     out.as_slice().iter().find(|m| m.origin == k && k < m.tag.members() && m.tag.at(k) == s)
 }
 
+/// What a replica answers to a copy of a message, where there is one.
 fn given(replica: &mut Replica, alloc: Global, given: Option<&Message>) -> Result<String, Stop> {
     match given {
         Some(message) => received(replica, alloc, message.copy(alloc)?),
@@ -258,6 +276,7 @@ fn has(replica: &Replica, alloc: Global, object: &ObjectId, value: &str) -> Resu
     }
 }
 
+/// The ids of a log, each behind a space.
 fn ids_in_words(alloc: Global, ids: &IdList) -> Result<String, Stop> {
     let mut text = String::from_str(alloc, "log")?;
     for id in ids.as_slice() {
@@ -266,6 +285,7 @@ fn ids_in_words(alloc: Global, ids: &IdList) -> Result<String, Stop> {
     Ok(text)
 }
 
+/// The numbers of a timestamp, each behind a space.
 fn tag_in_words(alloc: Global, word: &str, tag: &Tag) -> Result<String, Stop> {
     let mut text = String::from_str(alloc, word)?;
     for x in 0..tag.members() {
@@ -362,10 +382,7 @@ fn is_answered(
 fn create(alloc: Global, table: &Table) -> Result<Store, Stop> {
     let mut replicas = Vec::new(alloc);
     for me in 0..table.n {
-        let replica = Replica::create(alloc, me, table.n, table.w, table.limit)
-            .ok()
-            .ok_or(Stop::NoMemory)?;
-        replicas.push(replica)?;
+        replicas.push(Replica::create(alloc, me, table.n, table.w, table.limit)?)?;
     }
     Ok(Store {
         replicas,

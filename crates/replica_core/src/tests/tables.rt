@@ -4,7 +4,7 @@ use crate::tests::play::Table;
 
 const LIMIT: u32 = 10000;
 
-pub const TABLES: [Table; 20] = [
+pub const TABLES: [Table; 21] = [
     // A remove takes out the adds that it has seen; what is stable leaves the log.
     Table {
         n: 2,
@@ -407,6 +407,32 @@ pub const TABLES: [Table; 20] = [
             ("has 1 dwflag:f", "false"),
             ("has 1 counter:c", "-4"),
             ("has 1 rcounter:c", "2"),
+        ],
+    },
+    // One that acknowledges each operation at once, while a third hears nothing.
+    Table {
+        n: 3,
+        w: 8,
+        limit: LIMIT,
+        rows: &[
+            ("do 0 awset:s add a", "ok 1"),
+            ("give 1 0 1", "took 0:1"),
+            ("beat 1", "ok 1"),
+            ("do 0 awset:s add b", "ok 2"),
+            ("give 1 0 2", "took 0:2"),
+            ("beat 1", "ok 2"),
+            ("do 0 awset:s add c", "ok 3"),
+            ("give 1 0 3", "took 0:3"),
+            ("beat 1", "ok 3"),
+            ("do 0 awset:s add d", "ok 4"),
+            ("give 1 0 4", "took 0:4"),
+            ("beat 1", "ok 4"),
+            ("do 0 awset:s add e", "ok 5"),
+            ("give 1 0 5", "took 0:5"),
+            ("beat 1", "ok 5"),
+            ("ask 1 awset:s", "= a b c d e"),
+            ("log 1", "log 0:1 0:2 0:3 0:4 0:5"),
+            ("stable 1", "stable 0 0 0"),
         ],
     },
     // Values that take memory are copied whole.
