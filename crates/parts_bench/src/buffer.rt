@@ -1,6 +1,6 @@
 //! The buffer of early messages. Each other member's messages are offered, with the first of each last where the order is
-//! `reverse` and all over one another where it is `mixed`, and then all are delivered. The number is how many messages were
-//! kept.
+//! `reverse`, in seven passes where it is `mixed` and far from one another where it is `scattered`, and then all are delivered.
+//! The number is how many messages were kept.
 
 ghost use Rattle.std.specs.Prelude.{◌≡◌, ◌<◌, ◌≤◌, length};
 ghost use Rattle.causal_buffer.specs.Buffer.{AreAhead, AreNear};
@@ -11,23 +11,26 @@ use causal_model::{MOST_WINDOW, most_unstable};
 use op_base::{MOST_MEMBERS, Message, MessageId, Op, Tag};
 use std::alloc::Global;
 
-/// In the mixed order a message's number goes on by so many, and round at the end. It is a prime above all room, so each
-/// number comes once; with a tenth of the most room and with the whole it is some 0.62 of a round.
-const STRIDE: u32 = 32987;
+/// By so many numbers go on where they are mixed, and by so many where they are scattered, and round at the end: the second is
+/// some 0.62 of a round. They are primes that go into neither of the sizes that are measured, so each number comes once.
+const STEP: u32 = 7;
+
+const LEAP: u32 = 32987;
 
 /// In what order a member's messages are offered.
 #[derive(Clone, Copy)]
 enum Order {
     Rising,
     Falling,
-    Mixed,
+    Round(u32),
 }
 
 fn order_of(word: &str) -> Result<Order> {
     Ok(match word {
         "order" => Order::Rising,
         "reverse" => Order::Falling,
-        "mixed" => Order::Mixed,
+        "mixed" => Order::Round(STEP),
+        "scattered" => Order::Round(LEAP),
         _ => bail!("no order: {word}"),
     })
 }
@@ -39,7 +42,7 @@ fn ahead_of(order: Order, turn: u32, most: u32) -> u32
     match order {
         Order::Rising => turn + 1,
         Order::Falling => most - turn,
-        Order::Mixed => turn.wrapping_mul(STRIDE) % most + 1,
+        Order::Round(step) => turn.wrapping_mul(step) % most + 1,
     }
 }
 

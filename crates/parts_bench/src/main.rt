@@ -2,8 +2,8 @@
 //!
 //! Its words are the part (`window`, `buffer`, `matrix`, `outbox`, `log`, `items` or `replica`); how many members the store
 //! has, 1 to 16; its window, 1 to 64; how much of the room is filled, in hundredths, or how many hundreds of items there are;
-//! the step: `order`, at the buffer `reverse` and `mixed` too, and at the log, the items and replicas those of their modules;
-//! and how many turns there are. It prints how many messages or steps went through the part.
+//! the step: `order`, at the buffer `reverse`, `mixed` and `scattered` too, and at the log, the items and replicas those of
+//! their modules; and how many turns there are. It prints how many messages or steps went through the part.
 #![tactic(auto)]
 
 mod buffer;
