@@ -14,7 +14,9 @@ use Rattle.store_program.specs.declared.feed.Stage.TheVariants.{Opening, Running
 use Rattle.store_program.specs.declared.run.Status.{Status}
 use Rattle.store_program.specs.declared.run.Status.TheVariants as status
 use Rattle.store_program.specs.Feeding.{StandsAt, GoesOn, StopsAs, IsFed, Concludes, is_opening}
-use Rattle.store_program.specs.Run.{most_input, lacks_header, is_headless, TookFront, Ends, AnswersInput}
+use Rattle.store_program.specs.Run.{most_input, lacks_header, is_headless, TookFront, Ends, AnswersInput, AnswersMade, made_summary}
+use Rattle.store_program.specs.declared.words.Request.{Request}
+use Rattle.store_program.specs.declared.words.Request.TheVariants.{Script, Make}
 use Rattle.store_program.proofs.Splits.{lines_part, ended_begin}
 use Rattle.store_program.proofs.Standing.{stands_well, behind_header}
 use Rattle.store_program.proofs.Transcripts.{IsFront, front_grows, transcript_grows, lacks_more, replies_have_header}
@@ -206,3 +208,28 @@ module _ (left_old left_new : Option (List ℕ)) (reads_old reads_new writes_old
   completes s a =
       let left = split_left a.given input left_new (sym tells ∙ a.gave) in
       completes_given s a.given left.0 left.1 left.2 a.ends
+
+-- ---- a made script
+
+-- the summary that a request asks for, and nothing where it asks for none
+abbrev pub summary_for : Option Request → List ℕ
+summary_for (Some (Make seed count n w)) = made_summary seed count n w
+summary_for (Some Script) = []
+summary_for None = []
+
+-- where no write failed the summary was written, or there was no memory
+completes_made : (s : Status) (text : List ℕ) (writes_old writes_new : ℕ) (old new : Option (List ℕ)) → AnswersMade s text writes_old writes_new old new
+    → writes_new ≡ writes_old → (s ≡ status.NoMemory) ⊎ ((s ≡ status.Fine) × Took old new text)
+completes_made status.Fine text writes_old writes_new old new h steady = inr (refl, h)
+completes_made status.WriteFault text writes_old writes_new old new h steady = absurd (omega (arith, h.0, steady))
+completes_made status.NoMemory text writes_old writes_new old new h steady = inl refl
+completes_made status.BadWords text writes_old writes_new old new h steady = absurd h
+completes_made status.BadHeader text writes_old writes_new old new h steady = absurd h
+completes_made status.TooLong text writes_old writes_new old new h steady = absurd h
+completes_made status.ReadFault text writes_old writes_new old new h steady = absurd h
+
+-- the same of the summary that was asked for
+pub completes_asked : (s : Status) (asked given : Option Request) (writes_old writes_new : ℕ) (old new : Option (List ℕ)) → given ≡ asked
+    → AnswersMade s (summary_for given) writes_old writes_new old new → writes_new ≡ writes_old → (s ≡ status.NoMemory) ⊎ ((s ≡ status.Fine) × Took old new (summary_for asked))
+completes_asked s asked given writes_old writes_new old new is h steady =
+    completes_made s (summary_for asked) writes_old writes_new old new (subst (λ (r : Option Request). AnswersMade s (summary_for r) writes_old writes_new old new) is h) steady

@@ -30,6 +30,10 @@ pub took_nothing : (old new : Option (List ℕ)) (bytes : List ℕ) → bytes �
 took_nothing None new bytes none e = e
 took_nothing (Some held) new bytes none e = e ∙ ap (λ (all : List ℕ). Some all) (ap (λ (behind : List ℕ). held ++ behind) none ∙ append-nil held)
 
+-- what a sink took of a text is a front of it
+pub front_taken : (old new : Option (List ℕ)) (text : List ℕ) → TookPrefix old new text → TookFront old new text
+front_taken old new text p = record { front = take p.0 text; behind = drop p.0 text; parts = take-append-drop p.0 text; took = p.2 }
+
 -- what a sink took of a text behind what it took is a front of both
 pub took_front : (old between new : Option (List ℕ)) (first then : List ℕ) → Took old between first → TookPrefix between new then → TookFront old new (first ++ then)
 took_front old between new first then e p = record {

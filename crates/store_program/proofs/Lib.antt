@@ -3,4 +3,5 @@ pub mod Transcripts
 pub mod Standing
 pub mod Going
 pub mod Ending
+pub mod Whole
 pub mod WordLemmas

@@ -4,7 +4,7 @@ use Rattle.clap.specs.Words.{Row, Text, first_of, first_value, rows_of, is_simpl
 use Rattle.clap.specs.declared.parser.matches.Found.{Found}
 use Rattle.clap.proofs.OnLiterals.{clap_on_literals}
 use Rattle.clap.proofs.WalkLemmas.{first_value-rows}
-use Rattle.store_program.specs.Words.{store_app, ask_for_script}
+use Rattle.store_program.specs.Words.{store_app, asked_for}
 
 pub command_is_simple : is_simple store_app ≡ true
 unfolding clap_on_literals
@@ -15,5 +15,5 @@ unfolding clap_on_literals
 command_is_free = refl
 
 -- what matches say is what their rows say
-pub said_by_rows : (f : Found) (rows : List Row) → rows_of f ≡ rows → ask_for_script (first_value f) ≡ ask_for_script (λ name. first_of name rows)
-said_by_rows f rows e = λ i. ask_for_script (λ (name : Text). (first_value-rows f name ∙ ap (λ (rows : List Row). first_of name rows) e) i)
+pub said_by_rows : (f : Found) (rows : List Row) → rows_of f ≡ rows → asked_for (first_value f) ≡ asked_for (λ name. first_of name rows)
+said_by_rows f rows e = λ i. asked_for (λ (name : Text). (first_value-rows f name ∙ ap (λ (rows : List Row). first_of name rows) e) i)

@@ -1,12 +1,15 @@
 -- What a run of the program answers and writes.
-use Rattle.std.specs.Prelude.{◌≡◌, ◌⊎◌, ℕ, ◌+◌, ◌<◌, ◌≤◌, IsTrue, Bool, true, false, List, [], ◌∷◌, ◌++◌, length, take, Option, is_none}
+use Rattle.std.specs.Prelude.{◌≡◌, ◌⊎◌, ℕ, ◌+◌, ◌<◌, ◌≤◌, Some, Bool, true, false, List, [], ◌∷◌, ◌++◌, length, take, Option, is_none}
 use Rattle.store_io.specs.Bytes.{Gave, Ended, Took}
 use Rattle.script_lang.specs.Headers.{header_of}
 use Rattle.script_net.specs.Lines.{lines_of, ended_lines_of, whole_lines_of, from_command}
 use Rattle.script_net.specs.Transcript.{opened, transcript_of, transcript}
 use Rattle.store_program.specs.declared.run.Status.{Status}
 use Rattle.store_program.specs.declared.run.Status.TheVariants.{Fine, BadWords, BadHeader, TooLong, ReadFault, WriteFault, NoMemory}
-use Rattle.store_program.specs.Words.{are_valid}
+use Rattle.store_program.specs.declared.words.Request.TheVariants.{Script}
+use Rattle.store_program.specs.Words.{request_of}
+use Rattle.workload.specs.Script.{made_script}
+use Rattle.workload.specs.Summary.{summary}
 
 -- an input has at most so many bytes
 abbrev pub most_input : ℕ
@@ -80,6 +83,20 @@ pub record AnswersInput (result : Status) (left_old left_new : Option (List ℕ)
 
 -- words and an input that ask for a run: a header, and no byte too many
 pub record IsGoodScript (words : List (List ℕ)) (input : List ℕ) : Type 0 where
-  pub valid : IsTrue (are_valid words)
+  pub asked : request_of words ≡ Some Script
   pub short : length input ≤ most_input
   pub header : lacks_header true (from_command (lines_of input)) ≡ false
+
+-- ---- a script that is made
+
+-- the summary of a made script and of its transcript, which is that of a script that is read
+abbrev pub made_summary : (seed count n w : ℕ) → List ℕ
+made_summary seed count n w = summary (made_script seed count n w) (transcript (made_script seed count n w))
+
+-- What a status says of a made script's summary: all of it was written, or a front where a write failed, or nothing where
+-- memory ran out. No other status comes.
+abbrev pub AnswersMade : Status → (text : List ℕ) (writes_old writes_new : ℕ) (old new : Option (List ℕ)) → Type 0
+AnswersMade Fine text writes_old writes_new old new = Took old new text
+AnswersMade WriteFault text writes_old writes_new old new = (writes_old < writes_new) × TookFront old new text
+AnswersMade NoMemory text writes_old writes_new old new = new ≡ old
+AnswersMade other text writes_old writes_new old new = ⊥

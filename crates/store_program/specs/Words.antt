@@ -1,12 +1,13 @@
 -- The words of a run, by clap's own definitions.
-use Rattle.std.specs.Prelude.{ℕ, Bool, ◌&&◌, List, [], ◌∷◌, true, false, Option, Some, codes}
-use Rattle.std.specs.Option.{option_map_or}
+use Rattle.std.specs.Prelude.{ℕ, ◌≤◌, Bool, List, [], ◌∷◌, true, Option, Some, None, codes, if◌then◌else◌}
 use Rattle.op_base.specs.Name.{same_text}
 use Rattle.clap.specs.Simple.{App, matches_of, new_app, new_rule, on_top, with_rule}
 use Rattle.clap.specs.Walk.{Rule, Text, first_of, is_empty}
 use Rattle.clap.specs.Faults.{fault_of}
-use Rattle.script_lang.specs.Headers.{is_from_to}
+use Rattle.script_lang.specs.Headers.{◌>>=◌, is_from_to}
 use Rattle.script_lang.specs.Numbers.{number_of}
+use Rattle.store_program.specs.declared.words.Request.{Request}
+use Rattle.store_program.specs.declared.words.Request.TheVariants.{Script, Make}
 
 -- the mode, which has to be there
 abbrev pub mode_rule : Rule
@@ -39,24 +40,35 @@ store_app =
 abbrev pub are_taken : List Text → Bool
 are_taken words = is_empty (fault_of store_app words)
 
--- whether a text is a number from the one to the other
-abbrev pub is_number_from_to : ℕ → ℕ → Text → Bool
-is_number_from_to least most text = option_map_or (is_from_to least most) (number_of text) false
+-- a number, where it is from the one to the other
+abbrev pub kept_from_to : ℕ → ℕ → ℕ → Option ℕ
+kept_from_to least most number = if is_from_to least most number then Some number else None
 
--- whether an argument's text is such a number
-abbrev pub has_number : ℕ → ℕ → Option Text → Bool
-has_number least most text = option_map_or (is_number_from_to least most) text false
+-- the number that an argument's text is, where it is one from the one to the other
+abbrev pub number_from_to : ℕ → ℕ → Option Text → Option ℕ
+number_from_to least most text = text >>= λ text. number_of text >>= kept_from_to least most
 
--- whether the mode is one that is built
-abbrev pub has_script : Option Text → Bool
-has_script mode = option_map_or (λ mode. same_text mode (codes "script")) mode false
+-- the run that a mode asks for, where it is one that is built
+abbrev pub request_in : (seed count n w : ℕ) → Text → Option Request
+request_in seed count n w mode =
+    if same_text mode (codes "script") then Some Script
+    else if same_text mode (codes "make") then Some (Make seed count n w)
+    else None
 
--- whether the arguments' texts ask for a script to be run
-abbrev pub ask_for_script : (Text → Option Text) → Bool
-ask_for_script said =
-    has_script (said (codes "mode")) && (has_number 0 2147483647 (said (codes "seed"))
-    && (has_number 0 20000 (said (codes "count")) && (has_number 1 16 (said (codes "members")) && has_number 1 64 (said (codes "window")))))
+-- the run that the arguments' texts ask for; the numbers have to be in range in each mode
+abbrev pub asked_for : (Text → Option Text) → Option Request
+asked_for said =
+    number_from_to 0 2147483647 (said (codes "seed")) >>= λ seed.
+    number_from_to 0 20000 (said (codes "count")) >>= λ count.
+    number_from_to 1 16 (said (codes "members")) >>= λ n.
+    number_from_to 1 64 (said (codes "window")) >>= λ w.
+    said (codes "mode") >>= request_in seed count n w
 
--- whether words are those of a run: they are taken, and what they say of each argument is in range
-abbrev pub are_valid : List Text → Bool
-are_valid words = are_taken words && ask_for_script (λ name. first_of name (matches_of store_app words))
+-- the run that words ask for: they are taken, and what they say of each argument is in range
+abbrev pub request_of : List Text → Option Request
+request_of words = if are_taken words then asked_for (λ name. first_of name (matches_of store_app words)) else None
+
+-- a made script is that of a store with a member
+abbrev pub HasMembers : Request → Type 0
+HasMembers Script = Unit {0}
+HasMembers (Make seed count n w) = 1 ≤ n

@@ -1,8 +1,10 @@
-//! The store's program: it runs a script from standard input, line by line, and writes the transcript.
+//! The store's program: it runs a script from standard input, line by line, and writes the transcript; or it makes a script,
+//! runs it, and writes a summary.
 #![tactic(auto)]
 
 mod feed;
 mod line;
+mod made;
 mod run;
 #[cfg(test)]
 mod tests;

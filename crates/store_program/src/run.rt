@@ -1,6 +1,6 @@
 //! The top call: a run of the program over words, a source and a sink.
 
-ghost use Rattle.std.specs.Prelude.{◌≡◌, ◌⊎◌, ◌++◌, ◌∷◌, [], ◌<◌, false, List, ℕ, Option, Some, map, IfErr, OnOk, OnErr, IsTrue, MatchResult};
+ghost use Rattle.std.specs.Prelude.{◌≡◌, ◌⊎◌, ◌++◌, ◌∷◌, [], ◌<◌, List, ℕ, Option, Some, None, map, IfErr, OnOk, OnErr, MatchResult};
 ghost use Rattle.std.specs.Process.{exit_status};
 ghost use Rattle.std.specs.String.{string_bytes};
 ghost use Rattle.std.specs.Str.Lines.{strip_carriage_return};
@@ -8,13 +8,14 @@ ghost use Rattle.store_io.specs.Bytes.{Took};
 ghost use Rattle.script_net.specs.Lines.{ended_lines_of};
 ghost use Rattle.script_net.specs.Transcript.{transcript};
 ghost use Rattle.store_program.specs.Feeding.{GoesOn, StopsAs, IsFed, Concludes};
-ghost use Rattle.store_program.specs.Run.{AnswersInput, IsGoodScript, TookFront};
+ghost use Rattle.store_program.specs.Run.{AnswersInput, AnswersMade, IsGoodScript, TookFront, made_summary};
 ghost use Rattle.store_program.specs.Statuses.{number_of_status};
-ghost use Rattle.store_program.specs.Words.{are_valid};
+ghost use Rattle.store_program.specs.Words.{request_of};
 
 use crate::feed::{Feed, Stop};
 use crate::line::split_line;
-use crate::words::are_valid;
+use crate::made::run_made;
+use crate::words::{Request, request_of};
 use op_base::{NoMemory, Text};
 use std::alloc::Global;
 use std::process::ExitCode;
@@ -185,12 +186,13 @@ fn run_input<S: Source, K: Sink>(alloc: Global, source: &mut S, sink: &mut K) ->
     }
 }
 
-/// Runs the program: reads its words, and runs the script that the source has, line by line as it comes. Standard output
-/// gets the transcript and nothing else.
+/// Runs the program: reads its words, and either runs the script that the source has, line by line as it comes, or makes a
+/// script and runs that. Standard output gets the transcript, or the summary of the made one, and nothing else.
 ///
-/// Each line that has come whole is run, and its reply written, before more is read. So where the source fails, the
-/// input is too long or memory runs out, the replies to the lines before are written. `rt` and `gate` serve runs over
-/// several threads, which are not built yet.
+/// Of a script that is read each line that has come whole is run, and its reply written, before more is read. So where the
+/// source fails, the input is too long or memory runs out, the replies to the lines before are written. The summary of a
+/// made script is whole before its first byte is written. `rt` and `gate` serve runs over several threads, which are not
+/// built yet.
 pub fn run<R, S: Source, K: Sink, G: Gate + Sync>(
     _rt: &R,
     alloc: Global,
@@ -199,15 +201,19 @@ pub fn run<R, S: Source, K: Sink, G: Gate + Sync>(
     sink: &mut K,
     _gate: &G,
 ) -> Status
-    // The words decide first, and then nothing is read or written.
-    ensures bad_words { result ≡ Status.BadWords → are_valid (map string_bytes words.now) ≡ false }
-    ensures refused { are_valid (map string_bytes words.now) ≡ false → (result ≡ Status.BadWords) ⊎ (result ≡ Status.NoMemory) }
-    ensures unread { are_valid (map string_bytes words.now) ≡ false → source.new ≡ source.old }
-    ensures unwritten { are_valid (map string_bytes words.now) ≡ false → sink.new ≡ sink.old }
+    // The words decide first: where they ask for no run, nothing is written, and only a script that they ask for is read.
+    ensures bad_words { result ≡ Status.BadWords → request_of (map string_bytes words.now) ≡ None }
+    ensures refused { request_of (map string_bytes words.now) ≡ None → (result ≡ Status.BadWords) ⊎ (result ≡ Status.NoMemory) }
+    ensures unread { (request_of (map string_bytes words.now) ≡ Some Request.Script → ⊥) → source.new ≡ source.old }
+    ensures unwritten { request_of (map string_bytes words.now) ≡ None → sink.new ≡ sink.old }
 
-    // What is read, answered and written, of the bytes that the source gave in the call.
-    ensures answers { IsTrue (are_valid (map string_bytes words.now))
+    // A script: what is read, answered and written, of the bytes that the source gave in the call.
+    ensures answers { request_of (map string_bytes words.now) ≡ Some Request.Script
         → AnswersInput result (S.left source.old) (S.left source.new) (S.faults source.old) (S.faults source.new) (K.faults sink.old) (K.faults sink.new) (K.held sink.old) (K.held sink.new) }
+
+    // A made script: what is written is its summary.
+    ensures makes { (seed count n w : ℕ) → request_of (map string_bytes words.now) ≡ Some (Request.Make seed count n w)
+        → AnswersMade result (made_summary seed count n w) (K.faults sink.old) (K.faults sink.new) (K.held sink.old) (K.held sink.new) }
 
     // A fault is told only where one happened in the call.
     ensures read_fault { result ≡ Status.ReadFault → S.faults source.old < S.faults source.new }
@@ -218,10 +224,16 @@ pub fn run<R, S: Source, K: Sink, G: Gate + Sync>(
         → IsGoodScript (map string_bytes words.now) input
         → S.faults source.new ≡ S.faults source.old → K.faults sink.new ≡ K.faults sink.old
         → (result ≡ Status.NoMemory) ⊎ ((result ≡ Status.Fine) × Took (K.held sink.old) (K.held sink.new) (transcript input)) }
+
+    // And so is a made one over a sink that does not fail.
+    ensures complete_made { (seed count n w : ℕ) → request_of (map string_bytes words.now) ≡ Some (Request.Make seed count n w)
+        → K.faults sink.new ≡ K.faults sink.old
+        → (result ≡ Status.NoMemory) ⊎ ((result ≡ Status.Fine) × Took (K.held sink.old) (K.held sink.new) (made_summary seed count n w)) }
 {
-    match are_valid(alloc, words) {
-        Ok(true) => run_input(alloc, source, sink),
-        Ok(false) => Status::BadWords,
+    match request_of(alloc, words) {
+        Ok(Some(Request::Script)) => run_input(alloc, source, sink),
+        Ok(Some(Request::Make { seed, count, n, w })) => run_made(alloc, seed, count, n, w, sink),
+        Ok(None) => Status::BadWords,
         Err(NoMemory) => Status::NoMemory,
     }
 }

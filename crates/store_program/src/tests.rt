@@ -149,7 +149,7 @@ fn scripts_give_their_transcripts(rt: HostRuntime) -> Result<(), Fail> {
 }
 
 #[test]
-fn only_the_words_of_a_script_are_taken(rt: HostRuntime) -> Result<(), Fail> {
+fn only_the_words_of_a_run_are_taken(rt: HostRuntime) -> Result<(), Fail> {
     let good: [&[&str]; 5] = [
         &["store", "script"],
         &["store", "script", "--seed", "5"],
@@ -162,16 +162,17 @@ fn only_the_words_of_a_script_are_taken(rt: HostRuntime) -> Result<(), Fail> {
         assert_eq!(rt; status, Status::Fine, "at {words:?}");
         assert_eq!(rt; written.as_slice(), b"ok 1\n= 5\n".as_slice());
     }
-    let bad: [&[&str]; 20] = [
+    let bad: [&[&str]; 24] = [
         &[],
         &["store"],
         &["store", "frob"],
         &["store", "scripts"],
         &["store", "live"],
-        &["store", "make"],
+        &["store", "maker"],
         &["store", ""],
         &["store", "script", "extra"],
         &["store", "script", "script"],
+        &["store", "script", "make"],
         &["store", "script", "--seed"],
         &["store", "script", "--seed", "x"],
         &["store", "script", "--seed", "00000000001"],
@@ -181,6 +182,9 @@ fn only_the_words_of_a_script_are_taken(rt: HostRuntime) -> Result<(), Fail> {
         &["store", "script", "--members", "0"],
         &["store", "script", "--members", "17"],
         &["store", "script", "--window", "65"],
+        &["store", "make", "--window", "0"],
+        &["store", "make", "--members", "17"],
+        &["store", "make", "--seed", "2147483648"],
         &["store", "script", "--help"],
         &["store", "script", "--frob", "1"],
     ];
@@ -188,6 +192,75 @@ fn only_the_words_of_a_script_are_taken(rt: HostRuntime) -> Result<(), Fail> {
         let (status, written) = outcome(&rt, words, FIRST, WHOLE)?;
         assert_eq!(rt; status, Status::BadWords, "at {words:?}");
         assert!(rt; written.is_empty());
+    }
+    Ok(())
+}
+
+const MADE: [&str; 10] = [
+    "store",
+    "make",
+    "--seed",
+    "1",
+    "--count",
+    "3",
+    "--members",
+    "2",
+    "--window",
+    "2",
+];
+
+const MADE_SUMMARY: &[u8] =
+    b"lines 18\n= 14\nnone 1\nok 1\nsettled 1\ntook 1\nawset:k0 =\nawset:k1 =\nrwset:k0 = v11\nrwset:k1 =\newflag:k0 = off\newflag:k1 = off\ndwflag:k0 = off\ndwflag:k1 = off\nmvreg:k0 =\nmvreg:k1 =\ncounter:k0 = 0\ncounter:k1 = 0\nrcounter:k0 = 0\nrcounter:k1 = 0\n";
+
+#[test]
+fn a_made_script_is_summed_up(rt: HostRuntime) -> Result<(), Fail> {
+    // A source that fails is never asked.
+    let never: &[u32] = &[1];
+    // The words, the bytes of a write, the writes that fail, and what comes of it.
+    let cases: [(usize, &[u32], Status, usize); 4] = [
+        (65536, &[], Status::Fine, MADE_SUMMARY.len()),
+        (7, &[], Status::Fine, MADE_SUMMARY.len()),
+        (7, &[3], Status::WriteFault, 14),
+        (65536, &[1], Status::WriteFault, 0),
+    ];
+    for (write, failing_writes, status, len) in cases {
+        assert!(rt; write >= 1);
+        let streams = Streams {
+            read: 1,
+            failing_reads: never,
+            write,
+            failing_writes,
+        };
+        let (found, written) = outcome(&rt, &MADE, FIRST, streams)?;
+        assert_eq!(rt; found, status, "at {write} {failing_writes:?}");
+        assert!(rt; len <= MADE_SUMMARY.len());
+        assert_eq!(rt; written.as_slice(), &MADE_SUMMARY[..len]);
+    }
+    Ok(())
+}
+
+#[test]
+fn made_scripts_have_the_lines_that_are_asked_for(rt: HostRuntime) -> Result<(), Fail> {
+    // The usual numbers, no drawn line, the least seed and the greatest.
+    let cases: [(&[&str], &[u8]); 4] = [
+        (&["store", "make"], b"lines 1015\n"),
+        (
+            &["store", "make", "--count", "0"],
+            b"lines 15\n= 14\nsettled 1\n",
+        ),
+        (
+            &["store", "make", "--seed", "0", "--count", "5"],
+            b"lines 20\n= 15\nnone 1\nok 2\nsettled 1\nunsent 1\n",
+        ),
+        (
+            &["store", "make", "--seed", "2147483647", "--count", "5"],
+            b"lines 20\n= 14\nok 3\nquiet 1\nsettled 1\nunsent 1\n",
+        ),
+    ];
+    for (words, first) in cases {
+        let (status, written) = outcome(&rt, words, b"", WHOLE)?;
+        assert_eq!(rt; status, Status::Fine, "at {words:?}");
+        assert!(rt; written.as_slice().starts_with(first), "at {words:?}");
     }
     Ok(())
 }

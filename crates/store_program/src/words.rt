@@ -1,15 +1,25 @@
 //! The program's words: a mode and four options, read by `clap`.
 
-ghost use Rattle.std.specs.Prelude.{◌≡◌, false, codes, IfOk, map};
+ghost use Rattle.std.specs.Prelude.{◌≡◌, ◌≤◌, false, IfOk, map};
+ghost use Rattle.std.specs.Option.{IfSome};
 ghost use Rattle.std.specs.String.{string_bytes};
 ghost use Rattle.clap.specs.Words.{app_of, rule_of, found_of, first_value, kind_of};
-ghost use Rattle.store_program.specs.Words.{option_rule, bare_app, store_app, has_number, has_script, ask_for_script, are_valid};
+ghost use Rattle.store_program.specs.Words.{option_rule, bare_app, store_app, number_from_to, request_in, asked_for, request_of, HasMembers};
 
 use clap::error::ErrorKind;
 use clap::{Arg, ArgMatches, Command};
 use op_base::NoMemory;
 use script_lang::read_number;
 use std::alloc::{AllocError, Global};
+
+/// What the program's words ask for.
+#[derive(Clone, Copy, Debug, PartialEq, Eq)]
+pub enum Request {
+    /// The transcript of the script that the input is.
+    Script,
+    /// The summary of a script that is made: of this seed, this many lines, `n` members and a window of `w`.
+    Make { seed: u32, count: u32, n: u8, w: u8 },
+}
 
 /// An option with a text, which is this one where the words don't have the option.
 fn option<'a>(alloc: Global, name: &'a str, usual: &'a str) -> Arg<'a>
@@ -40,48 +50,53 @@ fn command<'a>(alloc: Global) -> Result<Command<'a>, AllocError>
         .arg(option(alloc, "window", "4"))
 }
 
-/// Whether an option's text is a number from the one to the other.
-fn has_number(matches: &ArgMatches<'_>, name: &str, least: u32, most: u32) -> bool
-    ensures { result ≡ has_number least most (first_value (found_of matches.now) name.now) }
+/// The number that an option's text is, where it is one from the one to the other.
+fn number_from_to(matches: &ArgMatches<'_>, name: &str, least: u32, most: u32) -> Option<u32>
+    ensures number { result ≡ number_from_to least most (first_value (found_of matches.now) name.now) }
+    ensures within { IfSome result (λ number. (least ≤ number) × (number ≤ most)) }
 {
-    match matches.get_str(name) {
-        None => false,
-        Some(text) => match read_number(text.as_bytes()) {
-            None => false,
-            Some(number) => number >= least && number <= most,
-        },
+    let number = read_number(matches.get_str(name)?.as_bytes())?;
+    if number >= least && number <= most {
+        Some(number)
+    } else {
+        None
     }
 }
 
-/// Whether the mode is one that is built.
-fn has_script(matches: &ArgMatches<'_>) -> bool
-    ensures { result ≡ has_script (first_value (found_of matches.now) (codes "mode")) }
+/// The run that a mode asks for, where it is one that is built.
+fn request_in(seed: u32, count: u32, n: u8, w: u8, mode: &str) -> Option<Request>
+    requires { 1 ≤ n }
+    ensures request { result ≡ request_in seed count n w mode.now }
+    ensures members { IfSome result HasMembers }
 {
-    match matches.get_str("mode") {
-        None => false,
-        Some(mode) => mode == "script",
+    match mode {
+        "script" => Some(Request::Script),
+        "make" => Some(Request::Make { seed, count, n, w }),
+        _ => None,
     }
 }
 
-/// Whether the arguments ask for a script to be run, with numbers in range.
-fn ask_for_script(matches: &ArgMatches<'_>) -> bool
-    ensures { result ≡ ask_for_script (first_value (found_of matches.now)) }
+/// The run that the arguments ask for, with numbers in range.
+fn asked_for(matches: &ArgMatches<'_>) -> Option<Request>
+    ensures request { result ≡ asked_for (first_value (found_of matches.now)) }
+    ensures members { IfSome result HasMembers }
 {
-    has_script(matches)
-        && has_number(matches, "seed", 0, 2147483647)
-        && has_number(matches, "count", 0, 20000)
-        && has_number(matches, "members", 1, 16)
-        && has_number(matches, "window", 1, 64)
+    let seed = number_from_to(matches, "seed", 0, 2147483647)?;
+    let count = number_from_to(matches, "count", 0, 20000)?;
+    let n = number_from_to(matches, "members", 1, 16)? as u8;
+    let w = number_from_to(matches, "window", 1, 64)? as u8;
+    request_in(seed, count, n, w, matches.get_str("mode")?)
 }
 
-/// Whether words are those of a run, the program's own name first: `script`, and `--seed`, `--count`, `--members` and
-/// `--window` with numbers in range.
-pub fn are_valid(alloc: Global, words: &[String]) -> Result<bool, NoMemory>
-    ensures { IfOk result (λ valid. valid ≡ are_valid (map string_bytes words.now)) }
+/// The run that words ask for, the program's own name first: `script` or `make`, and `--seed`, `--count`, `--members` and
+/// `--window` with numbers in range, which `make` alone uses. `None` where they ask for none.
+pub fn request_of(alloc: Global, words: &[String]) -> Result<Option<Request>, NoMemory>
+    ensures request { IfOk result (λ request. request ≡ request_of (map string_bytes words.now)) }
+    ensures members { IfOk result (λ request. IfSome request HasMembers) }
 {
     match command(alloc)?.try_get_matches_from(words) {
-        Ok(matches) => Ok(ask_for_script(&matches)),
+        Ok(matches) => Ok(asked_for(&matches)),
         Err(error) if error.kind() == ErrorKind::OutOfMemory => Err(NoMemory),
-        Err(_) => Ok(false),
+        Err(_) => Ok(None),
     }
 }

@@ -1,6 +1,16 @@
-use Rattle.store_program.proofs.Ending.{completes}
+use Rattle.std.proofs.Common.{◌≡◌, ◌∙◌, Some, ap, sym}
+use Rattle.store_program.specs.declared.words.Request.{Request}
+use Rattle.store_program.specs.declared.words.Request.TheVariants.{Make}
+use Rattle.store_program.proofs.Ending.{completes, completes_asked}
 use Rattle.store_program.proofs.run.run.Goals as goal
 
-pub returns-in-Ok-true-clause-complete : goal.returns-in-Ok-true-clause-complete
-returns-in-Ok-true-clause-complete g c = λ input tells good no_reads no_writes.
+pub returns-in-Ok-Some-Script-clause-complete : goal.returns-in-Ok-Some-Script-clause-complete
+returns-in-Ok-Some-Script-clause-complete g c = λ input tells good no_reads no_writes.
     completes _ _ _ _ _ _ _ _ input tells good.short good.header no_reads no_writes c.run_input.result (c.run_input.ensures)
+
+pub returns-in-Ok-Some-Make-clause-complete_made : goal.returns-in-Ok-Some-Make-clause-complete_made
+returns-in-Ok-Some-Make-clause-complete_made g c = λ seed count n w asked steady.
+    let made = c.in-Ok-Some-Make in
+    let is : made.field-0 ≡ Some (Make made.seed made.count made.n made.w) = made.field-0-is ∙ ap (λ (r : Request). Some r) made.field-0-0-is in
+    completes_asked c.run_made.result (Some (Make seed count n w)) (Some (Make made.seed made.count made.n made.w)) (g.K.Sink.faults c.args.sink.now) (g.K.Sink.faults c.run_made.new.sink)
+    (g.K.Sink.held c.args.sink.now) (g.K.Sink.held c.run_made.new.sink) (sym is ∙ (made.ensures.request ∙ asked)) c.run_made.ensures steady

@@ -1,0 +1,60 @@
+//! A script that is made, run, and summed up.
+
+ghost use Rattle.std.specs.Prelude.{◌≡◌, ◌≤◌, IfOk};
+ghost use Rattle.script_net.specs.Transcript.{transcript};
+ghost use Rattle.store_program.specs.Run.{AnswersMade, made_summary};
+
+use crate::feed::{Feed, Stop};
+use crate::line::split_line;
+use crate::run::Status;
+use op_base::{NoMemory, Text};
+use std::alloc::Global;
+use store_io::{Sink, write_whole};
+use workload::{make, put_summary};
+
+/// The transcript of a whole script. One without a header has no replies.
+fn transcript(alloc: Global, script: &[u8]) -> Result<Text, NoMemory>
+    ensures { IfOk result (λ text. text ≡ transcript script.now) }
+{
+    let mut feed = Feed::new(alloc);
+    let mut out = Text::new(alloc);
+    let mut rest = script;
+    'lines: while let Some((line, after)) = split_line(rest) {
+        match feed.end_line(alloc, line, &mut out) {
+            Ok(()) => rest = after,
+            Err(Stop::BadHeader) => return Ok(out),
+            Err(Stop::NoMemory) => return Err(NoMemory),
+        }
+    }
+    match feed.end_line(alloc, rest, &mut out) {
+        Ok(()) => Ok(out),
+        Err(Stop::BadHeader) => Ok(out),
+        Err(Stop::NoMemory) => Err(NoMemory),
+    }
+}
+
+/// The summary of a made script and its transcript.
+fn made_summary(alloc: Global, seed: u32, count: u32, n: u8, w: u8) -> Result<Text, NoMemory>
+    requires { 1 ≤ n }
+    ensures { IfOk result (λ text. text ≡ made_summary seed count n w) }
+{
+    let script = make(alloc, seed, count, n, w)?;
+    let replies = transcript(alloc, script.as_slice())?;
+    let mut summary = Text::new(alloc);
+    put_summary(alloc, script.as_slice(), replies.as_slice(), &mut summary)?;
+    Ok(summary)
+}
+
+/// Makes a script, runs it, and writes its summary, which is whole before its first byte is written.
+pub fn run_made<K: Sink>(alloc: Global, seed: u32, count: u32, n: u8, w: u8, sink: &mut K) -> Status
+    requires { 1 ≤ n }
+    ensures { AnswersMade result (made_summary seed count n w) (K.faults sink.old) (K.faults sink.new) (K.held sink.old) (K.held sink.new) }
+{
+    let Ok(summary) = made_summary(alloc, seed, count, n, w) else {
+        return Status::NoMemory;
+    };
+    match write_whole(sink, summary.as_slice()) {
+        Ok(()) => Status::Fine,
+        Err(_) => Status::WriteFault,
+    }
+}
