@@ -17,7 +17,8 @@ use std::alloc::{AllocError, Global};
 pub enum Request {
     /// The transcript of the script that the input is.
     Script,
-    /// The summary of a script that is made: of this seed, this many lines, `n` members and a window of `w`.
+    /// The summary of a script that is made and of its transcript: of this seed, so many lines that are drawn, `n` members and
+    /// a window of `w`.
     Make { seed: u32, count: u32, n: u8, w: u8 },
 }
 

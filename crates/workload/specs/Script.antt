@@ -89,6 +89,7 @@ ask_line r state = record {
   after = state_after 2 state;
 }
 
+-- beat: nothing more is drawn
 abbrev pub beat_line : ℕ → ℕ → Made
 beat_line r state = record { words = codes "beat" ∷ decimal r ∷ []; after = state }
 
@@ -143,6 +144,7 @@ closing_lines = (codes "settle" ∷ []) ∷ flat_map questions_of kinds
 abbrev pub line_of : List (List ℕ) → List ℕ
 line_of words = joined words ++ 10 ∷ []
 
+-- the text of lines
 abbrev pub text_of : List (List (List ℕ)) → List ℕ
 text_of lines = flat_map line_of lines
 

@@ -44,7 +44,7 @@ abbrev pub reply_line : List ℕ × List ℕ → List ℕ
 reply_line asked = word_at 2 asked.0 ++ 32 ∷ asked.1
 
 -- the summary of a script's lines and their replies: how many replies there are, how often each first word comes, and the
--- replies to the last fourteen lines
+-- last fourteen lines and replies, paired in order
 abbrev pub summary_lines : List (List ℕ) → List (List ℕ) → List (List ℕ)
 summary_lines lines replies =
     count_line (codes "lines", length replies)

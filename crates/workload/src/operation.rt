@@ -58,7 +58,7 @@ pub fn argument_of(operation: Operation) -> Argument
     match operation {
         Operation::Add | Operation::Rmv | Operation::Write => Argument::Value,
         Operation::Inc | Operation::Dec => Argument::Amount,
-        _ => Argument::Nothing,
+        Operation::Clear | Operation::Enable | Operation::Disable => Argument::Nothing,
     }
 }
 

@@ -75,6 +75,7 @@ fn a_script_without_drawn_lines(rt: HostRuntime) -> Result<(), Fail> {
     Ok(())
 }
 
+// The lines, the bytes and a checksum of what `gen` of `bench/made.py` makes of the same numbers.
 #[test]
 fn longer_scripts(rt: HostRuntime) -> Result<(), Fail> {
     let alloc = rt.alloc();

@@ -118,9 +118,9 @@ fn put_replies(lines: &[&[u8]], replies: &[&[u8]], out: &mut Text) -> Result<(),
     Ok(())
 }
 
-/// Puts the summary at the end of a text: how many lines the transcript has, how often each first word of them comes, and
-/// for each of the last fourteen lines of the script the object that it asks for and the reply. On `NoMemory` the text is
-/// as before.
+/// Puts the summary of a script and its transcript at the end of a text: how many replies there are, how often each first
+/// word of them comes, and, for the last fourteen lines of the script and the last fourteen replies in their order, the
+/// third word of the one, which is the object that it asks for, and the other. On `NoMemory` the text is as before.
 pub fn put_summary(
     alloc: Global,
     script: &[u8],
