@@ -111,7 +111,7 @@ giving_keeps_world world r k seq is l = by (sent_message world k seq) refl where
 
 -- messages that fit and can be carried, offered one after the other
 module _ (n w limit r : ℕ) (s : State) where
-  offers_keep : (o : Offered) (ms : List Message) → All (λ m. IsTrue (fits n m)) ms → All (λ m. IsTrue (is_carried limit m)) ms
+  pub offers_keep : (o : Offered) (ms : List Message) → All (λ m. IsTrue (fits n m)) ms → All (λ m. IsTrue (is_carried limit m)) ms
       → IsLater n w limit r s (list_any is_delivery o.steps) o.state
       → IsLater n w limit r s (list_any is_delivery (fold (offered_more w) o ms).steps) (fold (offered_more w) o ms).state
   offers_keep o [] fit carried is = is

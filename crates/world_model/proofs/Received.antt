@@ -89,14 +89,14 @@ later_twice n w limit r s middle after a b first second =
     record { is_replica = second.is_replica; own = second.own ∙ first.own; more = omega (arith, first.more, second.more, at_most_both a b) }
 
 -- that a message was accepted, in parts
-record IsAccepted (w : ℕ) (s : State) (m : Message) (made : List Step) (after : State) : Type 0 where
-  new : is_old s.history.present.me (counted s.history) m ≡ false
-  apart : is_again s.early m ≡ false
-  near : is_far s.history.present.n w s.history.present.me (counted s.history) m ≡ false
-  notes : (steps w (with_early s m)).0 ≡ made
-  state : (steps w (with_early s m)).1 ≡ after
+pub record IsAccepted (w : ℕ) (s : State) (m : Message) (made : List Step) (after : State) : Type 0 where
+  pub new : is_old s.history.present.me (counted s.history) m ≡ false
+  pub apart : is_again s.early m ≡ false
+  pub near : is_far s.history.present.n w s.history.present.me (counted s.history) m ≡ false
+  pub notes : (steps w (with_early s m)).0 ≡ made
+  pub state : (steps w (with_early s m)).1 ≡ after
 
-accepted : (w : ℕ) (s : State) (m : Message) (made : List Step) (after : State) → receiving w s m ≡ accepts made after → IsAccepted w s m made after
+pub accepted : (w : ℕ) (s : State) (m : Message) (made : List Step) (after : State) → receiving w s m ≡ accepts made after → IsAccepted w s m made after
 accepted w s m made after e = by (is_old s.history.present.me (counted s.history) m) (is_again s.early m) (is_far s.history.present.n w s.history.present.me (counted s.history) m) refl refl refl e where
   by : (a b c : Bool) → is_old s.history.present.me (counted s.history) m ≡ a → is_again s.early m ≡ b → is_far s.history.present.n w s.history.present.me (counted s.history) m ≡ c
       → (if a then old else if b then again else if c then far else accepts (steps w (with_early s m)).0 (steps w (with_early s m)).1) ≡ accepts made after → IsAccepted w s m made after

@@ -25,14 +25,14 @@ use Rattle.world_model.proofs.Worlds.{world_keeps_itself, kept_twice, state_chan
 -- ---- how many messages were delivered
 
 -- all messages that the replicas delivered
-abbrev total : PlainWorld → ℕ
+abbrev pub total : PlainWorld → ℕ
 total world = sum_by length_of world.replicas
 
 -- there are at most so many
-abbrev most_delivered : PlainWorld → ℕ
+abbrev pub most_delivered : PlainWorld → ℕ
 most_delivered world = size_of world * (size_of world * world.limit)
 
-total_is_bounded : (world : PlainWorld) → IsWorld world → total world ≤ most_delivered world
+pub total_is_bounded : (world : PlainWorld) → IsWorld world → total world ≤ most_delivered world
 total_is_bounded world is =
     let n = size_of world in
     sum_by-le length_of (n * world.limit) world.replicas (All-from_get_or (λ s. length_of s ≤ n * world.limit) world.replicas (start 0 0) (λ r l.
@@ -46,9 +46,9 @@ total_changes world r s l = sum_by-set length_of world.replicas r s (start 0 0) 
 -- ---- a round
 
 -- in the midst of a round the world is one of the store, and has a message more where one was delivered or sent
-record IsRound (world : PlainWorld) (round : Round) : Type 0 where
-  kept : KeepsWorld world round.world
-  more : total world + cond round.moved 1 0 ≤ total round.world
+pub record IsRound (world : PlainWorld) (round : Round) : Type 0 where
+  pub kept : KeepsWorld world round.world
+  pub more : total world + cond round.moved 1 0 ≤ total round.world
 
 -- what each step of a walk over the members keeps holds of the whole walk
 over_members : (P : Round → Type 0) (f : Round → ℕ → Round) (n : ℕ) → ((r : ℕ) → r < n → (round : Round) → P round → P (f round r)) → (round : Round) → P round → P (fold f round (members n))
@@ -87,7 +87,7 @@ module _ (world : PlainWorld) where
           more = omega (arith, is.more, total_changes round.world r (with_own s m) here, length_push s.history.present.messages m);
         }
 
-  round_is_made : IsWorld world → IsRound world (round_of world)
+  pub round_is_made : IsWorld world → IsRound world (round_of world)
   round_is_made is =
       let n = size_of world in
       let begin : Round = record { world = world; moved = false } in
@@ -98,7 +98,7 @@ module _ (world : PlainWorld) where
 
 -- a round that moves leaves less to deliver
 module _ (world : PlainWorld) (is : IsWorld world) where
-  less_is_left : (most : ℕ) → (round_of world).moved ≡ true → most_delivered world < total world + suc most → most_delivered (round_of world).world < total (round_of world).world + most
+  pub less_is_left : (most : ℕ) → (round_of world).moved ≡ true → most_delivered world < total world + suc most → most_delivered (round_of world).world < total (round_of world).world + most
   less_is_left most moved enough =
       let round = round_is_made world is in
       let same : most_delivered (round_of world).world ≡ most_delivered world = λ i. round.kept.size i * (round.kept.size i * round.kept.limit i) in

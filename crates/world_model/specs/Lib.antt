@@ -4,5 +4,10 @@ pub mod Settling
 pub mod Raw
 pub mod Showing
 pub mod Worlds
+pub mod Commands
+pub mod Honest
+pub mod EventOrder
+pub mod CausallyStable
+pub mod Journals
 pub mod Laws
 pub mod Worked
