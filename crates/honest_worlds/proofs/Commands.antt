@@ -1,0 +1,104 @@
+-- Every command but one of bytes keeps a world honest.
+use Rattle.std.proofs.Common.{◌≡◌, ℕ, ◌<◌, All, Bool, true, false, ◌==◌, Contains, IsTrue, List, ◌∷◌, length, refl, sym, ap, subst, ◌∙◌, if◌then◌else◌, Option, Some, None, arith, length-append}
+use Rattle.std.proofs.lemmas.Bool.{and_parts, eqb-true, false≢true}
+use Rattle.std.proofs.lemmas.List.FromFn.{get_or-map-range_with_len}
+use Rattle.std.proofs.lemmas.List.Elements.{All-nil}
+use Rattle.op_base.specs.Message.{number}
+use Rattle.op_base.specs.declared.message.Message.{Message}
+use Rattle.op_base.specs.declared.operation.Update.{Update}
+use Rattle.causal_model.specs.Counts.{count_of}
+use Rattle.causal_model.specs.Receiving.{start, has_id}
+use Rattle.causal_model.specs.Sending.{own_message, Sending, sends, busy, ended, sending, Beating, beats, quiet, held, beat_ended}
+use Rattle.causal_model.specs.Stability.{unstable_operations}
+use Rattle.causal_model.proofs.Finds.{found}
+use Rattle.world_model.specs.Offering.{steps_received}
+use Rattle.world_model.specs.Settling.{is_delivery}
+use Rattle.world_model.specs.World.{PlainWorld, size_of, opening, replica_of, sent_by, sending_at, world_sending, beating_at, world_beating, sent_message, world_given_of}
+use Rattle.world_model.specs.Worlds.{KeepsWorld}
+use Rattle.world_model.proofs.Commands.{sending_keeps_world}
+use Rattle.world_model.specs.Honest.{delivered_by, RuleGives, IsSentMessage, IsHonest, KeepsHonest}
+use Rattle.world_model.proofs.Worlds.{world_keeps_itself, opening_is_world, opening_has_size}
+use Rattle.honest_worlds.proofs.SentMessages.{sent_fits}
+use Rattle.honest_worlds.proofs.OnlySent.{replica_has_only_sent, receives_sent}
+use Rattle.honest_worlds.proofs.Keeping.{no_past, sent_keeps_honest, offering_sent_keeps_honest, outbox_is_received, resending_keeps_honest, beat_keeps_honest}
+use Rattle.honest_worlds.proofs.Settling.{settled_is_honest}
+use Rattle.honest_worlds.specs.Laws.{OpeningIsHonest, CommandsKeepHonest, OfferingSentKeepsHonest, StepsDeliver, ResentStepsDeliver}
+use Rattle.op_base.specs.Valid.{is_valid_update}
+use Rattle.op_base.specs.declared.operation.Op.TheVariants as op
+use Rattle.world_model.specs.Commands as world_command
+
+-- ---- commands
+
+pub opening_is_honest : OpeningIsHonest
+opening_is_honest n w limit some few wide most =
+    let world = opening n w limit in
+    let is = opening_is_world n w limit some few wide most in
+    let empty : (r : ℕ) → r < size_of world → replica_of world r ≡ start n r = λ r l. get_or-map-range_with_len (λ me. start n me) 0 n r r (start 0 0) (omega (arith, l, opening_has_size n w limit)) (omega arith) in
+    record {
+      is_world = is;
+      by_rule = λ r l before later m e _. absurd (omega (arith, ap length (sym (ap (λ s. s.history.present.messages) (empty r l)) ∙ e), length-append before (m ∷ later)));
+      delivered = λ r l. subst (λ s. All (IsSentMessage world) s.history.present.messages) (sym (empty r l)) (All-nil (IsSentMessage world));
+      early = λ r l. subst (λ s. All (IsSentMessage world) s.early) (sym (empty r l)) (All-nil (IsSentMessage world));
+      one_past = no_past world is;
+    }
+
+pub offering_keeps_honest : OfferingSentKeepsHonest
+offering_keeps_honest world r m honest l sent = offering_sent_keeps_honest world r honest l m sent
+
+pub sent_message_was_sent : (world : PlainWorld) (k seq : ℕ) (m : Message) → IsHonest world → sent_message world k seq ≡ Some m → IsSentMessage world m
+sent_message_was_sent world k seq m honest e =
+    let there = found (has_id (record { origin = k; seq = seq })) (sent_by world k) m e in
+    let both = and_parts (k == m.origin) (seq == number m) there.1 in
+    subst (λ x. Contains (sent_by world x) m) (eqb-true k m.origin both.0) there.0
+
+pub own_update : (n w limit me : ℕ) (ms : List Message) (update : Update) (m : Message) → sending n w limit me ms update ≡ sends m → m ≡ own_message n me ms (op.Update update)
+own_update n w limit me ms update m e = by (unstable_operations n me ms me == w) (count_of ms me == limit) e where
+  by : (a b : Bool) → (if a then busy else if b then ended else sends (own_message n me ms (op.Update update))) ≡ sends m → m ≡ own_message n me ms (op.Update update)
+  by true b f = cc
+  by false true f = cc
+  by false false f = let same : own_message n me ms (op.Update update) ≡ m = cc in sym same
+
+sending_keeps_honest : (world : PlainWorld) (r : ℕ) (update : Update) → IsHonest world → r < size_of world → IsTrue (is_valid_update update) → KeepsHonest world (world_sending world r (sending_at world r update))
+sending_keeps_honest world r update honest l valid = by (sending_at world r update) refl (sending_keeps_world world r update honest.is_world l valid) where
+  by : (made : Sending) → sending_at world r update ≡ made → KeepsWorld world (world_sending world r made) → KeepsHonest world (world_sending world r made)
+  by busy e kept = (honest, kept)
+  by ended e kept = (honest, kept)
+  by (sends m) e kept =
+      let replica = honest.is_world.replicas r l in
+      let gives : sending (size_of world) world.w world.limit r (delivered_by world r) update ≡ sends m =
+      subst (λ me. sending (size_of world) world.w world.limit me (delivered_by world r) update ≡ sends m) replica.of_member (subst (λ u. sending u world.w world.limit (replica_of world r).history.present.me (delivered_by world r) update ≡ sends m) replica.of_store e) in
+      let made = own_update (size_of world) world.w world.limit r (delivered_by world r) update m gives in
+      sent_keeps_honest world r honest l m (ap (λ y. y.origin) made) (subst (λ o. RuleGives (size_of world) world.w world.limit r (delivered_by world r) m o) (sym (ap (λ y. y.op) made)) gives) kept
+
+beating_keeps_honest : (world : PlainWorld) (r : ℕ) → IsHonest world → r < size_of world → KeepsHonest world (world_beating world r (beating_at world r))
+beating_keeps_honest world r honest l = by (beating_at world r) refl where
+  by : (made : Beating) → beating_at world r ≡ made → KeepsHonest world (world_beating world r made)
+  by quiet e = (honest, world_keeps_itself world honest.is_world)
+  by held e = (honest, world_keeps_itself world honest.is_world)
+  by beat_ended e = (honest, world_keeps_itself world honest.is_world)
+  by (beats m) e = beat_keeps_honest world r honest l m e
+
+giving_keeps_honest : (world : PlainWorld) (r k seq : ℕ) → IsHonest world → r < size_of world → KeepsHonest world (world_given_of world r (sent_message world k seq))
+giving_keeps_honest world r k seq honest l = by (sent_message world k seq) refl where
+  by : (found : Option Message) → sent_message world k seq ≡ found → KeepsHonest world (world_given_of world r found)
+  by None e = (honest, world_keeps_itself world honest.is_world)
+  by (Some m) e = offering_sent_keeps_honest world r honest l m (sent_message_was_sent world k seq m honest e)
+
+pub commands_keep_honest : CommandsKeepHonest
+commands_keep_honest world (world_command.sends_at r update) honest can plain = sending_keeps_honest world r update honest can.0 can.1
+commands_keep_honest world (world_command.beats_at r) honest can plain = beating_keeps_honest world r honest can
+commands_keep_honest world (world_command.gives r k seq) honest can plain = giving_keeps_honest world r k seq honest can
+commands_keep_honest world (world_command.resends r k) honest can plain = resending_keeps_honest world r honest can k
+commands_keep_honest world (world_command.raws r bytes) honest can plain = absurd (false≢true (sym plain))
+commands_keep_honest world world_command.settles honest can plain = settled_is_honest world honest
+
+-- ---- steps
+
+pub steps_deliver : StepsDeliver
+steps_deliver world r m made left honest l sent e =
+    let fit = sent_fits world m honest sent in
+    let got = receives_sent world honest r l (replica_of world r) m (replica_has_only_sent world r honest l) (honest.is_world.replicas r l).none_is_next sent fit.0 fit.1 in
+    subst (All (λ step. is_delivery step ≡ true)) (ap steps_received e) got.deliver
+
+pub resent_steps_deliver : ResentStepsDeliver
+resent_steps_deliver world r k honest l = (outbox_is_received world r honest l k).deliver

@@ -1,0 +1,147 @@
+-- Whatever the command, what a replica delivered stays the front of its messages.
+use Rattle.std.proofs.Common.{◌≡◌, ℕ, zero, suc, ◌<◌, Bool, true, false, ◌==◌, List, [], ◌∷◌, ◌++◌, length, get_or, refl, sym, ap, subst, ◌∙◌, inl, inr, if◌then◌else◌, Option, Some, None, Result, Ok, Err, append_assoc, append-nil, arith, length-set}
+use Rattle.std.specs.List.{fold}
+use Rattle.std.proofs.lemmas.Bool.{cases_eq}
+use Rattle.op_base.specs.declared.message.Message.{Message}
+use Rattle.op_base.specs.declared.outcome.Crook.{Crook}
+use Rattle.causal_model.specs.Counts.{members}
+use Rattle.causal_model.specs.Laws.States.{next_of}
+use Rattle.causal_model.specs.Receiving.{State, counted, is_old, is_again, is_far, crook_after, messages_with, state_with, steps_within, steps, with_early, old, again, far, accepts, receiving}
+use Rattle.causal_model.specs.Sending.{Sending, sends, busy, ended, Beating, beats, quiet, held, beat_ended}
+use Rattle.causal_model.proofs.Lists.{fold_has}
+use Rattle.causal_model.proofs.Steps.{steps_by}
+use Rattle.world_model.specs.Offering.{Offered, none_offered, offered_more, outbox_in, offered_between}
+use Rattle.world_model.specs.Raw.{read_at, world_rawed_of}
+use Rattle.world_model.specs.Settling.{Round, with_offered, after_offer, after_offers, with_beat, after_beat, offers_made, round_of, rounds_within, most_rounds}
+use Rattle.world_model.specs.World.{PlainWorld, size_of, replica_of, with_state, with_sent, state_received, sending_at, world_sending, beating_at, world_beating, receiving_at, world_offered, sent_message, world_given_of}
+use Rattle.world_model.specs.Honest.{delivered_by}
+use Rattle.world_model.proofs.Worlds.{replica_here, replica_there}
+use Rattle.world_model.specs.Commands.{WorldCommand, CanRun, after_command}
+use Rattle.std.proofs.lemmas.List.FromFn.{get_or-range_with_len, length-range_with_len}
+use Rattle.causal_model.specs.Journal.{with_own}
+use Rattle.world_model.specs.Commands as world_command
+
+-- ---- what is delivered comes at the end
+
+-- a list begins with another
+abbrev pub Grows : List Message → List Message → Type 0
+Grows ms after = (rest : List Message) × (after ≡ ms ++ rest)
+
+grows_not : (ms : List Message) → Grows ms ms
+grows_not ms = ([], sym (append-nil ms))
+
+grows_twice : (a b c : List Message) → Grows a b → Grows b c → Grows a c
+grows_twice a b c first second = (first.0 ++ second.0, second.1 ∙ ap (λ ms. ms ++ second.0) first.1 ∙ append_assoc a first.0 second.0)
+
+messages_grow : (ms : List Message) (m : Message) (o : Option Crook) → Grows ms (messages_with ms m o)
+messages_grow ms m None = (m ∷ [], refl)
+messages_grow ms m (Some crook) = grows_not ms
+
+steps_grow : (w most : ℕ) (s : State) → Grows (s.history.present.messages) (steps_within w most s).1.history.present.messages
+steps_grow w zero s = grows_not s.history.present.messages
+steps_grow w (suc most) s = by (steps_grow w most) (next_of s) where
+  by : ((g : State) → Grows g.history.present.messages (steps_within w most g).1.history.present.messages) → (o : Option Message) → Grows s.history.present.messages (steps_by w most s o).1.history.present.messages
+  by later None = grows_not s.history.present.messages
+  by later (Some m) = grows_twice s.history.present.messages (state_with w s m).history.present.messages (steps_within w most (state_with w s m)).1.history.present.messages (messages_grow s.history.present.messages m (crook_after w s.history m)) (later (state_with w s m))
+
+received_grows : (w : ℕ) (s : State) (m : Message) → Grows s.history.present.messages (state_received s (receiving w s m)).history.present.messages
+received_grows w s m = by (is_old s.history.present.me (counted s.history) m) (is_again s.early m) (is_far s.history.present.n w s.history.present.me (counted s.history) m) where
+  by : (a b c : Bool) → Grows s.history.present.messages (state_received s (if a then old else if b then again else if c then far else accepts (steps w (with_early s m)).0 (steps w (with_early s m)).1)).history.present.messages
+  by true b c = grows_not s.history.present.messages
+  by false true c = grows_not s.history.present.messages
+  by false false true = grows_not s.history.present.messages
+  by false false false = steps_grow w (length (with_early s m).early) (with_early s m)
+
+offered_grows : (w : ℕ) (o : Offered) (ms : List Message) → Grows o.state.history.present.messages (fold (offered_more w) o ms).state.history.present.messages
+offered_grows w o [] = grows_not o.state.history.present.messages
+offered_grows w o (m ∷ ms) = grows_twice o.state.history.present.messages (offered_more w o m).state.history.present.messages (fold (offered_more w) (offered_more w o m) ms).state.history.present.messages (received_grows w o.state m) (offered_grows w (offered_more w o m) ms)
+
+-- ---- in a world, at replica r
+
+module _ (r : ℕ) where
+  abbrev GrowsAt : PlainWorld → PlainWorld → Type 0
+  GrowsAt world after = Grows (delivered_by world r) (delivered_by after r)
+
+  at_twice : (a b c : PlainWorld) → GrowsAt a b → GrowsAt b c → GrowsAt a c
+  at_twice a b c first second = grows_twice (delivered_by a r) (delivered_by b r) (delivered_by c r) first second
+
+  -- where replica q comes to a state whose messages begin with those that it had
+  state_grows : (world : PlainWorld) (q : ℕ) (s : State) → q < size_of world → Grows (delivered_by world q) s.history.present.messages → GrowsAt world (with_state world q s)
+  state_grows world q s l grown = elim (cases_eq r q) [
+    | inl e ↦ subst (λ y. Grows (delivered_by world y) (delivered_by (with_state world q s) y)) (sym e) (subst (λ g. Grows (delivered_by world q) g.history.present.messages) (sym (replica_here world q l s)) grown)
+    | inr ne ↦ subst (λ g. Grows (delivered_by world r) g.history.present.messages) (sym (replica_there world q l s r ne)) (grows_not (delivered_by world r))
+  ]
+
+  sent_grows : (world : PlainWorld) (q : ℕ) (m : Message) → q < size_of world → GrowsAt world (with_sent world q m)
+  sent_grows world q m l = state_grows world q (with_own (replica_of world q) m) l (m ∷ [], refl)
+
+  offered_between_grows : (world : PlainWorld) (q k : ℕ) → q < size_of world → GrowsAt world (with_state world q (offered_between world q k).state)
+  offered_between_grows world q k l = state_grows world q (offered_between world q k).state l (offered_grows world.w (none_offered (replica_of world q)) (outbox_in (replica_of world k)))
+
+  beaten_grows : (world : PlainWorld) (q : ℕ) (made : Beating) → q < size_of world → GrowsAt world (world_beating world q made)
+  beaten_grows world q (beats m) l = sent_grows world q m l
+  beaten_grows world q quiet l = grows_not (delivered_by world r)
+  beaten_grows world q held l = grows_not (delivered_by world r)
+  beaten_grows world q beat_ended l = grows_not (delivered_by world r)
+
+  -- rounds
+  module _ (world : PlainWorld) where
+    record IsGrown (round : Round) : Type 0 where
+      size : size_of round.world ≡ size_of world
+      grown : GrowsAt world round.world
+
+    walk : (f : Round → ℕ → Round) (u : ℕ) → u ≡ size_of world → ((k : ℕ) → k < size_of world → (round : Round) → IsGrown round → IsGrown (f round k)) → (round : Round) → IsGrown round → IsGrown (fold f round (members u))
+    walk f u e each round is = fold_has IsGrown f round (members u) is (λ i d low c h. each (get_or (members u) i d) (omega (arith, low, e, length-range_with_len 0 u, get_or-range_with_len 0 u i d (omega (arith, low, length-range_with_len 0 u)))) c h)
+
+    offer_grows : (q : ℕ) → q < size_of world → (k : ℕ) → k < size_of world → (round : Round) → IsGrown round → IsGrown (after_offer q round k)
+    offer_grows q l k _ round is = elim (q == k) as (λ own. IsGrown (if own then round else with_offered round q (offered_between round.world q k))) [
+      | true ↦ is
+      | false ↦ record {
+        size = length-set round.world.replicas q (offered_between round.world q k).state ∙ is.size;
+        grown = at_twice world round.world (with_state round.world q (offered_between round.world q k).state) is.grown (offered_between_grows round.world q k (omega (arith, l, is.size)));
+      }
+    ]
+
+    beat_grows : (q : ℕ) → q < size_of world → (round : Round) → IsGrown round → IsGrown (after_beat round q)
+    beat_grows q l round is = by (beating_at round.world q) where
+      by : (made : Beating) → IsGrown (with_beat round q made)
+      by quiet = is
+      by held = is
+      by beat_ended = is
+      by (beats m) = record {
+        size = length-set round.world.replicas q (with_own (replica_of round.world q) m) ∙ is.size;
+        grown = at_twice world round.world (with_sent round.world q m) is.grown (sent_grows round.world q m (omega (arith, l, is.size)));
+      }
+
+    round_grows : IsGrown (round_of world)
+    round_grows =
+        walk after_beat (size_of world) refl beat_grows (offers_made world)
+        (walk after_offers (size_of world) refl (λ q l round is. walk (after_offer q) (size_of round.world) is.size (λ k m. offer_grows q l k m) round is) (record { world = world; moved = false }) (record { size = refl; grown = grows_not (delivered_by world r) }))
+
+  rounds_grow : (most : ℕ) (world : PlainWorld) → GrowsAt world (rounds_within most world)
+  rounds_grow zero world = grows_not (delivered_by world r)
+  rounds_grow (suc most) world = by (round_of world).moved (rounds_grow most (round_of world).world) where
+    by : (moved : Bool) → GrowsAt (round_of world).world (rounds_within most (round_of world).world) → GrowsAt world (if moved then rounds_within most (round_of world).world else (round_of world).world)
+    by true later = at_twice world (round_of world).world (rounds_within most (round_of world).world) (round_grows world).grown later
+    by false later = (round_grows world).grown
+
+  offering_grows : (world : PlainWorld) (q : ℕ) (m : Message) → q < size_of world → GrowsAt world (world_offered world q m)
+  offering_grows world q m l = state_grows world q (state_received (replica_of world q) (receiving_at world q m)) l (received_grows world.w (replica_of world q) m)
+
+  pub command_grows : (world : PlainWorld) (command : WorldCommand) → CanRun world command → GrowsAt world (after_command world command)
+  command_grows world (world_command.sends_at q update) can = by (sending_at world q update) where
+    by : (made : Sending) → GrowsAt world (world_sending world q made)
+    by (sends m) = sent_grows world q m can.0
+    by busy = grows_not (delivered_by world r)
+    by ended = grows_not (delivered_by world r)
+  command_grows world (world_command.beats_at q) can = beaten_grows world q (beating_at world q) can
+  command_grows world (world_command.gives q k seq) can = by (sent_message world k seq) where
+    by : (found : Option Message) → GrowsAt world (world_given_of world q found)
+    by None = grows_not (delivered_by world r)
+    by (Some m) = offering_grows world q m can
+  command_grows world (world_command.resends q k) can = offered_between_grows world q k can
+  command_grows world (world_command.raws q bytes) can = by (read_at world q bytes) where
+    by : (read : Result Message _) → GrowsAt world (world_rawed_of world q read)
+    by (Ok m) = offering_grows world q m can.0
+    by (Err fault) = grows_not (delivered_by world r)
+  command_grows world world_command.settles can = rounds_grow (most_rounds world) world

@@ -1,0 +1,17 @@
+pub mod Lists
+pub mod Agreeing
+pub mod Shared
+pub mod Noops
+pub mod SentMessages
+pub mod Beats
+pub mod OnlySent
+pub mod Keeping
+pub mod Missing
+pub mod StillRounds
+pub mod Everywhere
+pub mod Settling
+pub mod Commands
+pub mod EventOrders
+pub mod Growing
+pub mod CausallyStable
+pub mod ClosedJournals
