@@ -1,13 +1,11 @@
 -- What bytes answer at a plain world, by what they answer at a node.
-use Rattle.std.proofs.Common.{◌≡◌, ℕ, ◌<◌, IsTrue, List, length, All, Result, Ok, Err, slice_set, sym, ap, subst, ◌∙◌}
+use Rattle.std.proofs.Common.{◌≡◌, ℕ, IsTrue, List, length, slice_set, sym, ap, subst, ◌∙◌}
 use Rattle.op_base.specs.Message.{fits}
-use Rattle.op_base.specs.declared.message.Message.{Message}
 use Rattle.causal_model.specs.Counts.{is_carried}
 use Rattle.causal_model.specs.History.{epoch_of}
 use Rattle.frame_codec.specs.Message.{frame_read}
-use Rattle.frame_codec.specs.declared.fault.FrameFault.{FrameFault}
 use Rattle.world_model.specs.World.{PlainWorld, size_of, replica_of, receiving_at}
-use Rattle.world_model.specs.Raw.{rawing, rawing_of, read_at, read, bad}
+use Rattle.world_model.specs.Raw.{rawing_of, read_at}
 use Rattle.world.specs.Answers.{AnswersRaw}
 use Rattle.world.specs.Shows.{NotedNode, Shows}
 use Rattle.world.specs.Steps.{SameNode, NotesRaw}

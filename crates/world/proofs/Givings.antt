@@ -1,5 +1,5 @@
 -- The message that is given, and its frame.
-use Rattle.std.proofs.Common.{◌≡◌, ◌≢◌, ℕ, zero, suc, ◌<◌, ◌≤◌, ◌^◌, ◌-◌, ◌==◌, ◌&&◌, Bool, true, false, IsTrue, List, [], ◌∷◌, All, length, map, slice_index_or, slice_set, nat_le, nat_lt, Some, None, Option, inl, inr, refl, sym, ap, subst, ◌∙◌, if◌then◌else◌, arith}
+use Rattle.std.proofs.Common.{◌≡◌, ◌≢◌, ℕ, ◌<◌, ◌≤◌, ◌-◌, ◌==◌, Bool, true, false, IsTrue, List, [], length, map, slice_index_or, slice_set, nat_le, Some, None, Option, inl, inr, refl, sym, ap, subst, ◌∙◌, if◌then◌else◌, arith}
 use Rattle.std.specs.Prelude.{slice_get}
 use Rattle.std.specs.List.{list_all}
 use Rattle.std.proofs.lemmas.Bool.{and_parts, and_from, eqb-true, leb-true, le-leb, ltb-true}
@@ -7,7 +7,7 @@ use Rattle.std.proofs.lemmas.List.{length-map, get_or-map}
 use Rattle.std.proofs.lemmas.List.Elements.{All-get_or}
 use Rattle.std.proofs.lemmas.List.Sums.{AllPass-from_list_all, list_all-from_AllPass}
 use Rattle.std.proofs.lemmas.Option.{slice_get_cases, slice_get_past}
-use Rattle.op_base.specs.Message.{fits, id_of, number}
+use Rattle.op_base.specs.Message.{fits, number}
 use Rattle.op_base.specs.Valid.{is_valid, is_valid_act}
 use Rattle.op_base.specs.Name.{is_key}
 use Rattle.op_base.specs.declared.message.Message.{Message}
@@ -15,7 +15,6 @@ use Rattle.op_base.specs.declared.operation.Act.{Act}
 use Rattle.op_base.specs.declared.operation.Act.TheVariants as acts
 use Rattle.op_base.specs.declared.operation.Op.{Op}
 use Rattle.op_base.specs.declared.operation.Op.TheVariants as op
-use Rattle.op_base.specs.declared.tag.MessageId.{MessageId}
 use Rattle.causal_model.specs.Counts.{is_carried}
 use Rattle.causal_model.specs.Receiving.{has_id}
 use Rattle.causal_model.proofs.Finds.{found}

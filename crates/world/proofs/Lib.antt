@@ -8,3 +8,4 @@ pub mod Openings
 pub mod Offers
 pub mod Outboxes
 pub mod Settles
+pub mod Honest

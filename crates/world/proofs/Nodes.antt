@@ -10,8 +10,8 @@ use Rattle.op_base.specs.declared.operation.Update.{Update}
 use Rattle.causal_model.specs.CellSteps.{log_of}
 use Rattle.causal_model.specs.Covering.{store_keeps, store_covers}
 use Rattle.causal_model.specs.Log.{kept_log, message_of}
-use Rattle.causal_model.specs.Receiving.{State, start, Receiving, receiving}
-use Rattle.causal_model.specs.Sending.{Sending, sending, Beating, beating}
+use Rattle.causal_model.specs.Receiving.{State, start, receiving}
+use Rattle.causal_model.specs.Sending.{sending, beating}
 use Rattle.replica_core.specs.Numbers.{is_from_to}
 use Rattle.replica_node.specs.Rules.{sending_by, beating_by, receiving_by}
 use Rattle.world_model.specs.World.{PlainWorld, size_of, replica_of, sending_at, beating_at, receiving_at}
@@ -30,6 +30,9 @@ alike f s t w v limit most es ew el = ap (λ x. f x w limit) es ∙ ap (λ x. f 
 module _ (nodes : List NotedNode) (rows : List (List (List ℕ))) (plain : PlainWorld) (shows : Shows nodes rows plain) where
   pub size_shown : length nodes ≡ size_of plain
   size_shown = sym (length-map nodes state_of) ∙ ap length shows.states
+
+  pub member_shown : (r : ℕ) → r < length nodes → r < size_of plain
+  member_shown r l = omega (arith, l, size_shown)
 
   module _ (r : ℕ) (node : NotedNode) (stands : StandsAt nodes r node) where
     pub within : r < size_of plain

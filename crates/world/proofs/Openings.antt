@@ -1,6 +1,5 @@
 -- The nodes and rows of a store before anything is sent.
-use Rattle.std.proofs.Common.{◌≡◌, ℕ, ◌<◌, ◌+◌, ◌≤◌, ◌&&◌, IsTrue, List, [], ◌∷◌, ◌++◌, length, map, All, nat_le, nat_lt, refl, sym, ap, subst, ◌∙◌, arith}
-use Rattle.std.specs.List.{range_with_len}
+use Rattle.std.proofs.Common.{◌≡◌, ℕ, ◌+◌, ◌&&◌, IsTrue, List, [], ◌∷◌, ◌++◌, length, map, nat_le, nat_lt, refl, sym, ap, subst, ◌∙◌, arith}
 use Rattle.std.proofs.lemmas.Bool.{and_parts, leb-true}
 use Rattle.std.proofs.lemmas.List.{length-map, map-append}
 use Rattle.std.proofs.lemmas.List.Elements.{All-push}
@@ -11,7 +10,10 @@ use Rattle.frame_codec.specs.Grammar.{frame_of}
 use Rattle.frame_codec.specs.declared.version.Version.TheVariants.{Two}
 use Rattle.replica_core.specs.Numbers.{are_numbers, is_from_to}
 use Rattle.world_model.specs.World.{opening, size_of}
-use Rattle.world_model.proofs.Worlds.{opening_is_world}
+use Rattle.world_model.specs.Honest.{IsHonest}
+use Rattle.world_model.specs.Worlds.{IsWorld}
+use Rattle.world_model.proofs.Worlds.{opening_is_world, opening_has_size}
+use Rattle.honest_worlds.proofs.Commands.{opening_is_honest}
 use Rattle.world.specs.Shows.{NotedNode, state_of, Shows}
 use Rattle.world.specs.Steps.{AreOpened, are_empty}
 
@@ -61,3 +63,8 @@ opened_shows n w limit nodes rows numbers opened empty =
       limits = opened.limits;
       frames = empty ∙ no_frames (frame_of Two (size_of (opening n w limit)) 0) (members n);
     }
+
+-- a store that can be opened is honest then
+pub opened_honest : (n w limit : ℕ) → IsWorld (opening n w limit) → IsHonest (opening n w limit)
+opened_honest n w limit is =
+    opening_is_honest n w limit (omega (arith, is.some, opening_has_size n w limit)) (omega (arith, is.few, opening_has_size n w limit)) is.wide is.most

@@ -1,6 +1,6 @@
 -- What offering an outbox makes of a world.
-use Rattle.std.proofs.Common.{◌≡◌, ℕ, zero, suc, ◌<◌, ◌==◌, ◌||◌, not, Bool, true, false, IsTrue, List, [], ◌∷◌, ◌++◌, length, take, map, All, Some, inl, inr, slice_index_or, slice_set, Result, Ok, Err, refl, sym, ap, subst, ◌∙◌, if◌then◌else◌, arith}
-use Rattle.std.specs.Prelude.{OnErr, IfOk, slice_get}
+use Rattle.std.proofs.Common.{◌≡◌, ℕ, zero, suc, ◌<◌, ◌==◌, ◌||◌, not, Bool, true, false, IsTrue, List, [], ◌∷◌, ◌++◌, length, take, All, inl, inr, slice_set, Result, Ok, Err, refl, sym, ap, subst, ◌∙◌, arith}
+use Rattle.std.specs.Prelude.{OnErr, IfOk}
 use Rattle.std.specs.List.{filter, fold}
 use Rattle.std.proofs.lemmas.List.{set-get_or, length-set, get_or-set_same}
 use Rattle.std.proofs.lemmas.List.Elements.{All-filter, All-head, All-tail, All-take, filter_passes}
@@ -17,11 +17,10 @@ use Rattle.world_model.specs.Worlds.{IsWorld}
 use Rattle.world_model.proofs.Commands.{offering_keeps_world, resending_keeps_world}
 use Rattle.world_model.proofs.Sent.{messages_fit, messages_carried}
 use Rattle.world.specs.Answers.{IsAfterSome}
-use Rattle.world.specs.Midst.{offered_first}
 use Rattle.world.specs.Shows.{NotedNode, state_of, Shows}
-use Rattle.world.specs.Steps.{SameNode, OffersTo, OffersBetween, CanBeOffered, HasOffered}
+use Rattle.world.specs.Steps.{OffersTo, OffersBetween, CanBeOffered, HasOffered}
 use Rattle.world.specs.declared.offering.Offers.{Offers}
-use Rattle.world.proofs.Nodes.{StandsAt, within, size_shown, state_shown, w_shown, limit_shown, n_shown}
+use Rattle.world.proofs.Nodes.{StandsAt, within, state_shown, w_shown, limit_shown, n_shown}
 use Rattle.world.proofs.Changes.{changed_shows}
 
 module _ (nodes : List NotedNode) (rows : List (List (List ℕ))) (plain : PlainWorld) (shows : Shows nodes rows plain) where

@@ -1,12 +1,12 @@
 -- What calls answer at a plain world that is shown, by what they answer at a node.
-use Rattle.std.proofs.Common.{◌≡◌, ◌≢◌, ℕ, ◌<◌, IsTrue, List, [], ◌∷◌, ◌++◌, length, map, slice_index_or, slice_set, sym, ap, subst, refl, ◌∙◌}
+use Rattle.std.proofs.Common.{◌≡◌, ◌≢◌, ℕ, ◌<◌, IsTrue, List, [], ◌++◌, length, map, slice_index_or, slice_set, sym, ap, subst, refl, ◌∙◌}
 use Rattle.op_base.specs.Message.{fits}
 use Rattle.op_base.specs.Valid.{is_valid_update}
 use Rattle.op_base.specs.declared.message.Message.{Message}
 use Rattle.op_base.specs.declared.operation.Update.{Update}
 use Rattle.op_base.specs.declared.outcome.Step.{Step}
 use Rattle.causal_model.specs.Counts.{is_carried}
-use Rattle.causal_model.specs.Receiving.{Receiving, accepts}
+use Rattle.causal_model.specs.Receiving.{Receiving}
 use Rattle.replica_core.specs.declared.answers.Local.{Local}
 use Rattle.replica_core.specs.declared.answers.Local.TheVariants as local
 use Rattle.replica_core.specs.declared.answers.Beat.{Beat}
@@ -15,7 +15,7 @@ use Rattle.replica_core.specs.declared.answers.Receive.{Receive}
 use Rattle.replica_core.specs.declared.answers.Receive.TheVariants as receive
 use Rattle.replica_node.specs.Nodes.{state_by}
 use Rattle.replica_node.specs.Rules.{NotesLocal, NotesBeat, NotesReceive, NotesAccepted}
-use Rattle.world_model.specs.World.{PlainWorld, size_of, replica_of, with_state, world_sending, sending_at, receiving_at, state_received}
+use Rattle.world_model.specs.World.{PlainWorld, size_of, replica_of, with_state, world_sending, receiving_at, state_received}
 use Rattle.world_model.specs.Worlds.{IsWorld}
 use Rattle.world_model.proofs.Commands.{sending_keeps_world, beat_is_sent, offering_keeps_world}
 use Rattle.world.specs.Answers.{AnswersLocal, AnswersBeat, AnswersReceive, AnswersRaw, IsAccepted}
@@ -23,7 +23,7 @@ use Rattle.world.specs.declared.answers.RawGot.{RawGot}
 use Rattle.world.specs.declared.answers.RawGot.TheVariants as raw
 use Rattle.world.specs.Shows.{NotedNode, state_of, Shows}
 use Rattle.world.specs.Steps.{SameNode, frames_of_local, frames_of_beat}
-use Rattle.world.proofs.Nodes.{StandsAt, within, sending_shown, beating_shown, receiving_shown, n_shown, limit_shown}
+use Rattle.world.proofs.Nodes.{StandsAt, within, sending_shown, beating_shown, receiving_shown}
 use Rattle.world.proofs.Changes.{rows_with, rows_within, rows_alone, changed_shows, same_shows, sent_shows}
 
 module _ (nodes : List NotedNode) (rows : List (List (List ℕ))) (plain : PlainWorld) (shows : Shows nodes rows plain) (r : ℕ) (node : NotedNode) (stands : StandsAt nodes r node) (left : NotedNode) (same : SameNode node left) where

@@ -1,6 +1,5 @@
 -- What the calls of a world answer and leave, for a plain world that it shows.
-use Rattle.std.specs.Prelude.{◌≡◌, ◌≢◌, ℕ, true, false, List, [], map, take}
-use Rattle.op_base.specs.declared.message.Message.{Message}
+use Rattle.std.specs.Prelude.{◌≡◌, ◌≢◌, ℕ, true, false, List, [], map}
 use Rattle.op_base.specs.declared.outcome.Step.{Step}
 use Rattle.op_base.specs.declared.operation.Update.{Update}
 use Rattle.causal_model.specs.Receiving.{State, Receiving, old, again, far, accepts}
@@ -11,7 +10,7 @@ use Rattle.replica_core.specs.declared.answers.Beat.{Beat}
 use Rattle.replica_core.specs.declared.answers.Beat.TheVariants as beat
 use Rattle.replica_core.specs.declared.answers.Receive.{Receive}
 use Rattle.replica_core.specs.declared.answers.Receive.TheVariants as receive
-use Rattle.world_model.specs.World.{PlainWorld, replica_of, with_state, with_sent, sending_at, beating_at, unsent, got, giving}
+use Rattle.world_model.specs.World.{PlainWorld, with_state, with_sent, sending_at, beating_at, unsent, got, giving}
 use Rattle.world_model.specs.Offering.{takes, keeps, nothing, resending, world_resent}
 use Rattle.world_model.specs.Settling.{world_settled, is_settled}
 use Rattle.world.specs.Midst.{offered_first, IsInSettling}

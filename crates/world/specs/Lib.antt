@@ -3,3 +3,4 @@ pub mod Midst
 pub mod Answers
 pub mod Steps
 pub mod Settles
+pub mod Honest

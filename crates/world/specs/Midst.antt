@@ -1,7 +1,6 @@
 -- Where a world stands when memory ends in the midst of settling: after the first of the offers and beats that are made.
-use Rattle.std.specs.Prelude.{◌≡◌, ◌⊎◌, ℕ, zero, suc, ◌<◌, IsTrue, false, List, fold, take}
+use Rattle.std.specs.Prelude.{◌≡◌, ◌⊎◌, ℕ, zero, suc, ◌<◌, IsTrue, false, fold, take}
 use Rattle.causal_model.specs.Counts.{members}
-use Rattle.op_base.specs.declared.message.Message.{Message}
 use Rattle.world_model.specs.World.{PlainWorld, size_of, replica_of, with_state}
 use Rattle.world_model.specs.Offering.{offered, outbox_in}
 use Rattle.world_model.specs.Settling.{Round, after_offer, after_offers, after_beat, offers_made, round_of}

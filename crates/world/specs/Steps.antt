@@ -1,16 +1,14 @@
 -- What the nodes of a world are left with by the parts of its calls.
-use Rattle.std.specs.Prelude.{◌≡◌, ℕ, List, [], ◌∷◌, ◌++◌, map, take, slice_get, slice_set, IsTrue, Some, Result, Ok, Err, All}
+use Rattle.std.specs.Prelude.{◌≡◌, ℕ, List, [], ◌∷◌, map, take, slice_get, slice_set, IsTrue, Some, Result, Ok, Err, All}
 use Rattle.op_base.specs.Message.{id_of, fits}
 use Rattle.op_base.specs.declared.memory.NoMemory.{NoMemory}
 use Rattle.op_base.specs.declared.message.Message.{Message}
-use Rattle.op_base.specs.declared.outcome.Step.{Step}
 use Rattle.op_base.specs.declared.tag.MessageId.{MessageId}
 use Rattle.causal_model.specs.Counts.{members, is_carried}
 use Rattle.causal_model.specs.Receiving.{State, start}
 use Rattle.causal_model.specs.declared.note.Note.{Note}
 use Rattle.frame_codec.specs.Grammar.{frame_of, IsFrame}
 use Rattle.frame_codec.specs.Message.{frame_read}
-use Rattle.frame_codec.specs.declared.fault.FrameFault.{FrameFault}
 use Rattle.frame_codec.specs.declared.version.Version.TheVariants.{Two}
 use Rattle.replica_core.specs.declared.answers.Local.{Local}
 use Rattle.replica_core.specs.declared.answers.Local.TheVariants as local

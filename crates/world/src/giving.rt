@@ -1,6 +1,6 @@
 //! Giving single messages and bytes to a replica of the world.
 
-ghost use Rattle.std.specs.Prelude.{◌≡◌, ◌<◌, length};
+ghost use Rattle.std.specs.Prelude.{◌≡◌, ◌<◌, length, IsTrue};
 ghost use Rattle.op_base.specs.declared.message.Message.{Message};
 ghost use Rattle.replica_node.specs.Rules.{NotesReceive};
 ghost use Rattle.world_model.specs.World.{PlainWorld};
@@ -16,6 +16,7 @@ use std::alloc::Global;
 
 impl World {
     ghost use Rattle.world.specs.Answers.{ShowsPlain, AnswersGive, AnswersRaw};
+    ghost use Rattle.world.specs.Honest.{ShowsHonest, is_fair_given};
 
     /// Offers the message of member `k` with a number to replica `r`. Nothing is read of a message that came before or is
     /// early. After `NoMemory` the world is as it was.
@@ -23,6 +24,8 @@ impl World {
         requires to { r < length self.old.nodes.items }
         requires of { k < length self.old.nodes.items }
         ensures answer { (plain : PlainWorld) → ShowsPlain self.old plain → AnswersGive plain r k seq result (ShowsPlain self.new) }
+        ensures honest { ShowsHonest self.old → ShowsHonest self.new }
+        ensures fair { ShowsHonest self.old → IsTrue (is_fair_given result) }
         ensures members { length self.new.nodes.items ≡ length self.old.nodes.items }
     {
         if seq == 0 {

@@ -24,6 +24,7 @@ pub struct Offers {
 
 impl World {
     ghost use Rattle.world.specs.Answers.{ShowsPlain, AnswersResend, IsAfterSome};
+    ghost use Rattle.world.specs.Honest.{ShowsHonest, is_fair_resent};
 
     /// Offers the outbox of member `k` to replica `r`, oldest first. After `NoMemory` the first of its messages were
     /// offered.
@@ -31,6 +32,8 @@ impl World {
         requires to { r < length self.old.nodes.items }
         requires of { k < length self.old.nodes.items }
         ensures answer { (plain : PlainWorld) → ShowsPlain self.old plain → AnswersResend plain r k result (ShowsPlain self.new) }
+        ensures honest { ShowsHonest self.old → ShowsHonest self.new }
+        ensures fair { ShowsHonest self.old → IsTrue (is_fair_resent result) }
         ensures members { length self.new.nodes.items ≡ length self.old.nodes.items }
     {
         match self.offer_outbox(alloc, r, k) {

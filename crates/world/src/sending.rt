@@ -1,6 +1,6 @@
 //! Sending at a replica of the world.
 
-ghost use Rattle.std.specs.Prelude.{◌≡◌, ◌<◌, ◌++◌, length, IsTrue, IfOk, vec_len, vec_capacity};
+ghost use Rattle.std.specs.Prelude.{◌≡◌, ◌≢◌, ◌<◌, ◌++◌, length, IsTrue, IfOk, vec_len, vec_capacity};
 ghost use Rattle.op_base.specs.Message.{fits};
 ghost use Rattle.frame_codec.specs.Grammar.{frame_of};
 ghost use Rattle.replica_node.specs.Rules.{NotesLocal, NotesBeat};
@@ -16,11 +16,13 @@ use std::alloc::Global;
 
 impl World {
     ghost use Rattle.world.specs.Answers.{ShowsPlain, AnswersLocal, AnswersBeat};
+    ghost use Rattle.world.specs.Honest.{ShowsHonest};
 
     /// Sends an update at replica `r`, and keeps the frame of what was sent. Every refusal leaves the world as it was.
     pub fn local(&mut self, alloc: Global, r: u8, update: &Update) -> Local
         requires { r < length self.old.nodes.items }
         ensures answer { (plain : PlainWorld) → ShowsPlain self.old plain → AnswersLocal plain r update.now result (ShowsPlain self.new) }
+        ensures honest { ShowsHonest self.old → ShowsHonest self.new }
         ensures members { length self.new.nodes.items ≡ length self.old.nodes.items }
     {
         let node = &mut self.nodes[r as usize];
@@ -33,6 +35,8 @@ impl World {
     pub fn beat(&mut self, alloc: Global, r: u8) -> Beat
         requires { r < length self.old.nodes.items }
         ensures answer { (plain : PlainWorld) → ShowsPlain self.old plain → AnswersBeat plain r result (ShowsPlain self.new) }
+        ensures honest { ShowsHonest self.old → ShowsHonest self.new }
+        ensures free { ShowsHonest self.old → result ≢ Beat.Held }
         ensures members { length self.new.nodes.items ≡ length self.old.nodes.items }
     {
         let node = &mut self.nodes[r as usize];

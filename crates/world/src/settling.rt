@@ -1,6 +1,6 @@
 //! Settling: rounds of offers and beats, until one moves nothing.
 
-ghost use Rattle.std.specs.Prelude.{◌≡◌, ◌<◌, length, IfOk, OnErr};
+ghost use Rattle.std.specs.Prelude.{◌≡◌, ◌≢◌, ◌<◌, length, IfOk, OnErr};
 ghost use Rattle.std.specs.List.{list_any};
 ghost use Rattle.world_model.specs.World.{PlainWorld};
 ghost use Rattle.world_model.specs.Settling.{is_delivery, after_offer, after_offers, after_beat, offers_made, round_of, world_settled};
@@ -16,6 +16,7 @@ use std::alloc::Global;
 
 impl World {
     ghost use Rattle.world.specs.Answers.{ShowsPlain, AnswersSettle, IsInMidst};
+    ghost use Rattle.world.specs.Honest.{ShowsHonest, ShowsQuiescent};
     ghost use Rattle.world.specs.Midst.{IsAmongOffers};
 
     /// Makes rounds until one moves nothing. In a round each replica upwards is offered the outbox of each other member
@@ -23,6 +24,9 @@ impl World {
     /// delivered or a no-op sent. After `NoMemory` the first of these offers and beats were made.
     pub fn settle(&mut self, alloc: Global) -> Settle
         ensures answer { (plain : PlainWorld) → ShowsPlain self.old plain → AnswersSettle plain result (ShowsPlain self.new) }
+        ensures honest { ShowsHonest self.old → ShowsHonest self.new }
+        ensures settles { ShowsHonest self.old → result ≢ Settle.Unsettled }
+        ensures quiescent { ShowsHonest self.old → result ≡ Settle.Settled → ShowsQuiescent self.new }
         ensures members { length self.new.nodes.items ≡ length self.old.nodes.items }
     {
         match self.make_rounds(alloc) {

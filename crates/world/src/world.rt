@@ -30,12 +30,14 @@ pub struct World {
 
 impl World {
     ghost use Rattle.world.specs.Answers.{ShowsPlain};
+    ghost use Rattle.world.specs.Honest.{ShowsHonest};
 
     /// The world of `n` members before anything is sent, with a window of `w` and a limit of messages a member.
     pub fn create(alloc: Global, n: u8, w: u8, limit: u32) -> Result<World, CreateFault>
         ensures bad_numbers { IsErrOf result CreateFault.BadNumbers ↔ (are_numbers 0 n w limit ≡ false) }
         ensures members { IfOk result (λ world. length world.nodes.items ≡ n) }
         ensures opening { IfOk result (λ world. ShowsPlain world (opening n w limit)) }
+        ensures honest { IfOk result ShowsHonest }
     {
         if !are_numbers(0, u32::from(n), u32::from(w), limit) {
             return Err(CreateFault::BadNumbers);

@@ -1,4 +1,4 @@
-use Rattle.std.proofs.Common.{◌≡◌, ℕ, List, take, length, refl, sym, ap, subst, ◌∙◌, IsTrue, slice_index_or, false, arith}
+use Rattle.std.proofs.Common.{◌≡◌, ℕ, List, take, length, refl, sym, ap, subst, ◌∙◌, IsTrue, false, arith}
 use Rattle.std.proofs.Math.Seq.{take-length}
 use Rattle.op_base.specs.Message.{fits}
 use Rattle.op_base.specs.declared.message.Message.{Message}

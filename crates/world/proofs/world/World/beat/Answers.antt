@@ -3,6 +3,8 @@ use Rattle.std.proofs.Props.{props}
 use Rattle.std.proofs.Math.Logic.{∥∥₁_elim, ∥∥₁_map}
 use Rattle.world.proofs.Changes.{rows_within}
 use Rattle.world.proofs.Replies.{world_beat, beat_leaves}
+use Rattle.world.proofs.Honest.{beats_honest}
+use Rattle.world.proofs.Nodes.{member_shown}
 use Rattle.world.proofs.world.World.beat.Goals as goal
 
 pub index_mut-frames-requires : goal.index_mut-frames-requires
@@ -21,3 +23,11 @@ pub returns-clause-answer : goal.returns-clause-answer
 returns-clause-answer c plain shows =
     world_beat (λ row. row.items) c.args.self.now.nodes.items c.args.self.now.sent.items plain shows c.args.r c.index_mut-node.result.now c.send_noop.new.node c.index_mut-frames.result.now c.send_noop.new.frames
     (record { low = c.requires; at = c.index_mut-node.ensures.value }) c.send_noop.ensures.same c.index_mut-frames.ensures.value c.send_noop.result c.send_noop.ensures.frames c.send_noop.ensures.answer
+
+pub returns-clause-honest : goal.returns-clause-honest
+returns-clause-honest c old =
+    (beats_honest old.0 c.args.r c.send_noop.result _ old.2 (member_shown c.args.self.now.nodes.items _ old.0 old.1 c.args.r c.requires) (returns-clause-answer c old.0 old.1)).leaves
+
+pub returns-clause-free : goal.returns-clause-free
+returns-clause-free c old =
+    (beats_honest old.0 c.args.r c.send_noop.result _ old.2 (member_shown c.args.self.now.nodes.items _ old.0 old.1 c.args.r c.requires) (returns-clause-answer c old.0 old.1)).free

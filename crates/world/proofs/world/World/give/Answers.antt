@@ -4,6 +4,10 @@ use Rattle.std.proofs.Math.Logic.{∥∥₁_elim, ∥∥₁_map}
 use Rattle.world.proofs.Givings.{none_is_given, none_at_0, none_is_past, message_given, replies_give}
 use Rattle.world.proofs.Nodes.{n_shown, size_shown}
 use Rattle.world.proofs.Replies.{receive_leaves}
+use Rattle.world.specs.Answers.{ShowsPlain}
+use Rattle.world.specs.declared.answers.Given.TheVariants as given
+use Rattle.world.proofs.Honest.{give_is_fair}
+use Rattle.world.proofs.Nodes.{member_shown}
 use Rattle.world.proofs.world.World.give.Goals as goal
 
 pub returns-then-seq-eq0-clause-answer : goal.returns-then-seq-eq0-clause-answer
@@ -59,3 +63,27 @@ returns-clause-answer c plain shows =
     let is = subst (λ (x : List ℕ). x ≡ slice_index_or row.items (c.args.seq - 1) x) (sym c.as_slice-frame.ensures) c.index.ensures in
     replies_give (λ row. row.items) c.args.self.now.nodes.items c.args.self.now.sent.items plain shows c.args.k row c.requires.of c.index-frames.ensures c.args.r node (record { low = c.requires.to; at = c.index_mut.ensures.value }) c.args.seq some most c.as_slice-frame.result.now is
     c.offer_frame.new.node c.offer_frame.ensures.same c.offer_frame.result c.offer_frame.ensures.answer
+
+pub returns-then-seq-eq0-clause-honest : goal.returns-then-seq-eq0-clause-honest
+returns-then-seq-eq0-clause-honest c old =
+    (give_is_fair old.0 c.args.r c.args.k c.args.seq given.Unsent _ old.2 (member_shown c.args.self.now.nodes.items _ old.0 old.1 c.args.r c.requires.to) (returns-then-seq-eq0-clause-answer c old.0 old.1)).leaves
+
+pub returns-then-seq-eq0-clause-fair : goal.returns-then-seq-eq0-clause-fair
+returns-then-seq-eq0-clause-fair c old =
+    (give_is_fair old.0 c.args.r c.args.k c.args.seq given.Unsent (ShowsPlain c.args.self.now) old.2 (member_shown c.args.self.now.nodes.items _ old.0 old.1 c.args.r c.requires.to) (returns-then-seq-eq0-clause-answer c old.0 old.1)).fair_is
+
+pub returns-then-seq-len-clause-honest : goal.returns-then-seq-len-clause-honest
+returns-then-seq-len-clause-honest c old =
+    (give_is_fair old.0 c.args.r c.args.k c.args.seq given.Unsent _ old.2 (member_shown c.args.self.now.nodes.items _ old.0 old.1 c.args.r c.requires.to) (returns-then-seq-len-clause-answer c old.0 old.1)).leaves
+
+pub returns-then-seq-len-clause-fair : goal.returns-then-seq-len-clause-fair
+returns-then-seq-len-clause-fair c old =
+    (give_is_fair old.0 c.args.r c.args.k c.args.seq given.Unsent (ShowsPlain c.args.self.now) old.2 (member_shown c.args.self.now.nodes.items _ old.0 old.1 c.args.r c.requires.to) (returns-then-seq-len-clause-answer c old.0 old.1)).fair_is
+
+pub returns-clause-honest : goal.returns-clause-honest
+returns-clause-honest c old =
+    (give_is_fair old.0 c.args.r c.args.k c.args.seq (given.Got c.offer_frame.result) _ old.2 (member_shown c.args.self.now.nodes.items _ old.0 old.1 c.args.r c.requires.to) (returns-clause-answer c old.0 old.1)).leaves
+
+pub returns-clause-fair : goal.returns-clause-fair
+returns-clause-fair c old =
+    (give_is_fair old.0 c.args.r c.args.k c.args.seq (given.Got c.offer_frame.result) _ old.2 (member_shown c.args.self.now.nodes.items _ old.0 old.1 c.args.r c.requires.to) (returns-clause-answer c old.0 old.1)).fair_is

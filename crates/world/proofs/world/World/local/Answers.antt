@@ -3,6 +3,8 @@ use Rattle.std.proofs.Props.{props}
 use Rattle.std.proofs.Math.Logic.{∥∥₁_elim, ∥∥₁_map}
 use Rattle.world.proofs.Changes.{rows_within}
 use Rattle.world.proofs.Replies.{world_local, local_leaves}
+use Rattle.world.proofs.Honest.{local_keeps_honest}
+use Rattle.world.proofs.Nodes.{member_shown}
 use Rattle.world.proofs.world.World.local.Goals as goal
 
 pub index_mut-frames-requires : goal.index_mut-frames-requires
@@ -21,3 +23,7 @@ pub returns-clause-answer : goal.returns-clause-answer
 returns-clause-answer c plain shows =
     world_local (λ row. row.items) c.args.self.now.nodes.items c.args.self.now.sent.items plain shows c.args.r c.index_mut-node.result.now c.send.new.node c.index_mut-frames.result.now c.send.new.frames
     (record { low = c.requires; at = c.index_mut-node.ensures.value }) c.send.ensures.same c.index_mut-frames.ensures.value c.args.update.now c.updates_are_valid.ensures c.send.result c.send.ensures.frames c.send.ensures.answer
+
+pub returns-clause-honest : goal.returns-clause-honest
+returns-clause-honest c old =
+    local_keeps_honest old.0 c.args.r c.args.update.now c.send.result _ old.2 (member_shown c.args.self.now.nodes.items _ old.0 old.1 c.args.r c.requires) c.updates_are_valid.ensures (returns-clause-answer c old.0 old.1)

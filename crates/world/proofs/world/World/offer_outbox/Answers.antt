@@ -2,7 +2,6 @@ use Rattle.std.proofs.Common.{List, map, sym, ap, subst, ◌∙◌}
 use Rattle.std.specs.Vec.{with_items}
 use Rattle.std.proofs.lemmas.List.{with_items_is}
 use Rattle.std.proofs.Math.Logic.{∥∥₁_map}
-use Rattle.world_model.specs.World.{PlainWorld}
 use Rattle.world_model.specs.Offering.{Offered}
 use Rattle.world.specs.Shows.{NotedNode, Shows}
 use Rattle.world.specs.Steps.{OffersBetween, CanBeOffered}
