@@ -4,3 +4,4 @@ pub mod Ranges
 pub mod Opened
 pub mod Kept
 pub mod Transcripts
+pub mod Honest

@@ -4,3 +4,5 @@ pub mod Transcript
 pub mod Replied
 pub mod Runs
 pub mod Laws
+pub mod Honest
+pub mod HonestLaws

@@ -1,6 +1,7 @@
 //! Laws of transcripts. Each is the contract of a function that does nothing.
 
 ghost use Rattle.script_net.specs.Laws.{ScriptsKeepWorlds, LogsAreBounded, BusyIsExact, EqualEventsAnswerAlike, OneLineMoreReplies, OneLineMoreLeaves, RefusedBytesChangeNothing, RefusedBytesGo};
+ghost use Rattle.script_net.specs.HonestLaws.{ScriptsAreHonest, TranscriptsAreFair};
 
 /// Behind a header each line of a script leaves a world of the header's store, whose logs are bounded.
 pub fn scripts_keep_worlds()
@@ -24,4 +25,11 @@ pub fn one_line_more()
 pub fn refused_bytes_change_nothing()
     ensures nothing { RefusedBytesChangeNothing }
     ensures goes { RefusedBytesGo }
+{}
+
+/// Where no line offers bytes the world is honest after every line, and no reply tells of a message that is far or dropped, of
+/// a beat that is held or of a store that didn't settle.
+pub fn unforged_scripts_are_honest()
+    ensures worlds { ScriptsAreHonest }
+    ensures fair { TranscriptsAreFair }
 {}
