@@ -6,6 +6,8 @@ use Rattle.std.proofs.Math.Seq.{take-append_seam}
 use Rattle.std.proofs.lemmas.Bool.{false≢true}
 use Rattle.std.specs.Str.Lines.{strip_carriage_return}
 use Rattle.store_io.specs.Bytes.{Gave, Ended, Took}
+use Rattle.script_net.specs.Honest.{is_unforged}
+use Rattle.script_net.proofs.Honest.{transcripts_are_fair}
 use Rattle.script_net.specs.Lines.{lines_of, ended_lines_of, whole_lines_of, from_command}
 use Rattle.script_net.specs.Transcript.{transcript_of, transcript}
 use Rattle.store_program.specs.declared.feed.Feed.{Feed}
@@ -14,7 +16,7 @@ use Rattle.store_program.specs.declared.feed.Stage.TheVariants.{Opening, Running
 use Rattle.store_program.specs.declared.run.Status.{Status}
 use Rattle.store_program.specs.declared.run.Status.TheVariants as status
 use Rattle.store_program.specs.Feeding.{StandsAt, GoesOn, StopsAs, IsFed, Concludes, is_opening}
-use Rattle.store_program.specs.Run.{most_input, lacks_header, is_headless, TookFront, Ends, AnswersInput, AnswersMade, made_summary}
+use Rattle.store_program.specs.Run.{TookFair, EndsFine, most_input, lacks_header, is_headless, TookFront, Ends, AnswersInput, AnswersMade, made_summary}
 use Rattle.store_program.specs.declared.words.Request.{Request}
 use Rattle.store_program.specs.declared.words.Request.TheVariants.{Script, Make}
 use Rattle.store_program.proofs.Splits.{lines_part, ended_begin}

@@ -3,6 +3,7 @@ use Rattle.std.specs.Prelude.{◌≡◌, ◌⊎◌, ℕ, ◌+◌, ◌<◌, ◌�
 use Rattle.store_io.specs.Bytes.{Gave, Ended, Took}
 use Rattle.script_lang.specs.Headers.{header_of}
 use Rattle.script_net.specs.Lines.{lines_of, ended_lines_of, whole_lines_of, from_command}
+use Rattle.script_net.specs.Honest.{IsFairText}
 use Rattle.script_net.specs.Transcript.{opened, transcript_of, transcript}
 use Rattle.store_program.specs.declared.run.Status.{Status}
 use Rattle.store_program.specs.declared.run.Status.TheVariants.{Fine, BadWords, BadHeader, TooLong, ReadFault, WriteFault, NoMemory}
@@ -86,6 +87,12 @@ pub record IsGoodScript (words : List (List ℕ)) (input : List ℕ) : Type 0 wh
   pub asked : request_of words ≡ Some Script
   pub short : length input ≤ most_input
   pub header : lacks_header true (from_command (lines_of input)) ≡ false
+
+-- the sink took the lines of fair replies
+pub record TookFair (old new : Option (List ℕ)) : Type 0 where
+  pub text : List ℕ
+  pub fair : IsFairText text
+  pub took : Took old new text
 
 -- ---- a script that is made
 

@@ -1,14 +1,15 @@
 //! The top call: a run of the program over words, a source and a sink.
 
-ghost use Rattle.std.specs.Prelude.{◌≡◌, ◌⊎◌, ◌++◌, ◌∷◌, [], ◌<◌, List, ℕ, Option, Some, None, map, IfErr, OnOk, OnErr, MatchResult};
+ghost use Rattle.std.specs.Prelude.{true, ◌≡◌, ◌⊎◌, ◌++◌, ◌∷◌, [], ◌<◌, List, ℕ, Option, Some, None, map, IfErr, OnOk, OnErr, MatchResult};
 ghost use Rattle.std.specs.Process.{exit_status};
 ghost use Rattle.std.specs.String.{string_bytes};
 ghost use Rattle.std.specs.Str.Lines.{strip_carriage_return};
 ghost use Rattle.store_io.specs.Bytes.{Took};
+ghost use Rattle.script_net.specs.Honest.{is_unforged};
 ghost use Rattle.script_net.specs.Lines.{ended_lines_of};
 ghost use Rattle.script_net.specs.Transcript.{transcript};
 ghost use Rattle.store_program.specs.Feeding.{GoesOn, StopsAs, IsFed, Concludes};
-ghost use Rattle.store_program.specs.Run.{AnswersInput, AnswersMade, IsGoodScript, TookFront, made_summary};
+ghost use Rattle.store_program.specs.Run.{AnswersInput, AnswersMade, IsGoodScript, TookFront, TookFair, made_summary};
 ghost use Rattle.store_program.specs.Statuses.{number_of_status};
 ghost use Rattle.store_program.specs.Words.{request_of};
 
@@ -210,6 +211,11 @@ pub fn run<R, S: Source, K: Sink, G: Gate + Sync>(
     // A script: what is read, answered and written, of the bytes that the source gave in the call.
     ensures answers { request_of (map string_bytes words.now) ≡ Some Request.Script
         → AnswersInput result (S.left source.old) (S.left source.new) (S.faults source.old) (S.faults source.new) (K.faults sink.old) (K.faults sink.new) (K.held sink.old) (K.held sink.new) }
+
+    // Where no line of it offers bytes, no reply tells of a message that is far or dropped, of a beat that is held or of a
+    // store that didn't settle.
+    ensures fair { (input : List ℕ) → S.left source.old ≡ Some input → request_of (map string_bytes words.now) ≡ Some Request.Script
+        → is_unforged input ≡ true → result ≡ Status.Fine → TookFair (K.held sink.old) (K.held sink.new) }
 
     // A made script: what is written is its summary.
     ensures makes { (seed count n w : ℕ) → request_of (map string_bytes words.now) ≡ Some (Request.Make seed count n w)
