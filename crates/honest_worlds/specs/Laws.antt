@@ -122,14 +122,14 @@ EqualCountsAreEqualEvents = (world : PlainWorld) → IsHonest world → is_settl
 -- ---- no-ops
 
 -- how many own no-ops can be unstable in an honest store of n members with a window of w, none where there is one member
-abbrev pub most_noops : ℕ → ℕ → ℕ
-most_noops n w = (2 * n - 3) * w
+abbrev pub honest_noops : ℕ → ℕ → ℕ
+honest_noops n w = (2 * n - 3) * w
 
 -- No more are, fewer than the no-op window. In some honest stores as many are: so no smaller window would do.
 abbrev pub NoopsAreFew : Type 0
 NoopsAreFew = (world : PlainWorld) (r : ℕ) → IsHonest world → r < size_of world
-    → (unstable_noops (size_of world) r (delivered_by world r) r ≤ most_noops (size_of world) world.w)
-    × (most_noops (size_of world) world.w < noop_window (size_of world) world.w)
+    → (unstable_noops (size_of world) r (delivered_by world r) r ≤ honest_noops (size_of world) world.w)
+    × (honest_noops (size_of world) world.w < noop_window (size_of world) world.w)
 
 -- so no beat is held
 abbrev pub NoBeatIsHeld : Type 0
