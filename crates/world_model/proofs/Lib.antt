@@ -5,3 +5,4 @@ pub mod Received
 pub mod Commands
 pub mod Rounds
 pub mod Shown
+pub mod Lagging

@@ -1,5 +1,5 @@
 -- What holds of plain worlds. Each statement is the contract of a function of laws.rt.
-use Rattle.std.specs.Prelude.{◌≡◌, ◌↔◌, ℕ, ◌+◌, ◌<◌, ◌≤◌, ◌==◌, ◌-◌, List, length, slice_get, None, true, false, IsTrue, All, if◌then◌else◌}
+use Rattle.std.specs.Prelude.{◌≡◌, ◌≢◌, ◌↔◌, ℕ, ◌+◌, ◌<◌, ◌≤◌, ◌==◌, ◌-◌, List, [], length, slice_get, Some, None, true, false, IsTrue, All, if◌then◌else◌}
 use Rattle.op_base.specs.Message.{fits}
 use Rattle.op_base.specs.Valid.{is_valid_update}
 use Rattle.op_base.specs.declared.message.Message.{Message}
@@ -8,10 +8,10 @@ use Rattle.op_base.specs.declared.operation.Update.{Update}
 use Rattle.causal_model.specs.Counts.{is_carried, count_of}
 use Rattle.causal_model.specs.Laws.Events.{SameEvents}
 use Rattle.world_model.specs.World.{PlainWorld, size_of, opening, replica_of, sent_by, sending_at, world_sending, beating_at, world_beating, world_offered, sent_message, world_given}
-use Rattle.world_model.specs.Offering.{world_resent}
+use Rattle.world_model.specs.Offering.{outbox_in, world_resent}
 use Rattle.world_model.specs.Raw.{world_rawed}
 use Rattle.world_model.specs.Settling.{round_of, rounds_within, most_rounds, world_settled, is_settled}
-use Rattle.world_model.specs.Showing.{answer_at, seen_at}
+use Rattle.world_model.specs.Showing.{answer_at, seen_at, lags_at}
 use Rattle.world_model.specs.Worlds.{IsWorld, KeepsWorld}
 
 -- ---- worlds
@@ -90,3 +90,13 @@ SettledIsEqualCounts = (world : PlainWorld) → (is_settled world ≡ true) ↔ 
 abbrev pub SameEventsAnswerAlike : Type 0
 SameEventsAnswerAlike = (world other : PlainWorld) (r q : ℕ) (object : ObjectId) → IsWorld world → IsWorld other → world.w ≡ other.w → r < size_of world → q < size_of other
     → SameEvents (replica_of world r).history (replica_of other q).history → answer_at world r object ≡ answer_at other q object
+
+-- ---- what delays a replica
+
+-- no member lags exactly where all own messages of a replica are stable
+abbrev pub NoneLagsIsAllStable : Type 0
+NoneLagsIsAllStable = (world : PlainWorld) (r : ℕ) → IsWorld world → r < size_of world → (lags_at world r ≡ None) ↔ (outbox_in (replica_of world r) ≡ [])
+
+-- one that lags is another member of the store
+abbrev pub LaggingIsAnother : Type 0
+LaggingIsAnother = (world : PlainWorld) (r q : ℕ) → IsWorld world → r < size_of world → lags_at world r ≡ Some q → (q < size_of world) × (q ≢ r)

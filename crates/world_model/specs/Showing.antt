@@ -1,15 +1,20 @@
 -- What a plain world shows of a replica.
-use Rattle.std.specs.Prelude.{ℕ, List, length, map}
-use Rattle.op_base.specs.Message.{id_of}
+use Rattle.std.specs.Prelude.{ℕ, nat_lt, List, [], ◌∷◌, length, map, Option, None}
+use Rattle.std.specs.List.{find}
+use Rattle.op_base.specs.Message.{id_of, number}
+use Rattle.op_base.specs.Timestamp.{entry}
+use Rattle.op_base.specs.declared.message.Message.{Message}
 use Rattle.op_base.specs.declared.name.ObjectId.{ObjectId}
 use Rattle.op_base.specs.declared.outcome.Answer.{Answer}
 use Rattle.op_base.specs.declared.tag.MessageId.{MessageId}
 use Rattle.causal_model.specs.CellSteps.{log_of}
+use Rattle.causal_model.specs.Counts.{members}
 use Rattle.causal_model.specs.History.{events}
 use Rattle.causal_model.specs.Query.{answer}
 use Rattle.causal_model.specs.Receiving.{counted}
+use Rattle.causal_model.specs.Sending.{outbox_of}
 use Rattle.causal_model.specs.Settled.{settled_items}
-use Rattle.causal_model.specs.Stability.{stable_vector}
+use Rattle.causal_model.specs.Stability.{known_vector, stable_vector, unstable_noops}
 use Rattle.world_model.specs.World.{PlainWorld, replica_of}
 
 -- what an object is at a replica
@@ -33,3 +38,16 @@ stable_at world r = let p = (replica_of world r).history.present in stable_vecto
 
 abbrev pub seen_at : PlainWorld → ℕ → List ℕ
 seen_at world r = counted (replica_of world r).history
+
+-- how many of its own no-ops aren't stable
+abbrev pub noops_at : PlainWorld → ℕ → ℕ
+noops_at world r = let p = (replica_of world r).history.present in unstable_noops p.n p.me p.messages p.me
+
+-- the least of n members that isn't known at member me to have the first of messages of me; none where there is no message
+abbrev pub lagging : ℕ → ℕ → List Message → List Message → Option ℕ
+lagging n me messages [] = None
+lagging n me messages (oldest ∷ others) = find (λ q. nat_lt (entry (known_vector n me messages q) me) (number oldest)) (members n)
+
+-- the least member that isn't known to have its oldest unstable own message, and none where all its own are stable
+abbrev pub lags_at : PlainWorld → ℕ → Option ℕ
+lags_at world r = let p = (replica_of world r).history.present in lagging p.n p.me p.messages (outbox_of p.n p.me p.messages)

@@ -1,6 +1,6 @@
 -- A worked store: what the definitions give, computed, beside what was meant. Each is the contract of a function of
 -- worked.rt. Two members with a window of 2 and a limit of 10000.
-use Rattle.std.specs.Prelude.{◌≡◌, true, false, [], ◌∷◌, codes, pos}
+use Rattle.std.specs.Prelude.{◌≡◌, true, false, [], ◌∷◌, Some, None, codes, pos}
 use Rattle.op_base.specs.declared.message.Message.{Message}
 use Rattle.op_base.specs.declared.name.Kind.TheVariants.{AwSet}
 use Rattle.op_base.specs.declared.name.ObjectId.{ObjectId}
@@ -17,8 +17,8 @@ use Rattle.frame_codec.specs.declared.version.Version.TheVariants.{Two}
 use Rattle.world_model.specs.Offering.{world_resent, resending, takes, nothing}
 use Rattle.world_model.specs.Raw.{bad, read, rawing, world_rawed}
 use Rattle.world_model.specs.Settling.{is_settled, round_of, world_settled}
-use Rattle.world_model.specs.Showing.{answer_at, log_at, entries_at, items_at, stable_at, seen_at}
-use Rattle.world_model.specs.World.{PlainWorld, opening, replica_of, sent_by, sending_at, world_sending, beating_at, receiving_at, unsent, got, giving, world_given}
+use Rattle.world_model.specs.Showing.{answer_at, log_at, entries_at, items_at, stable_at, seen_at, noops_at, lags_at}
+use Rattle.world_model.specs.World.{PlainWorld, opening, replica_of, sent_by, sending_at, world_sending, beating_at, world_beating, receiving_at, unsent, got, giving, world_given}
 
 abbrev pub set_s : ObjectId
 set_s = object AwSet (codes "s")
@@ -104,3 +104,29 @@ pub record RemoveWaits : Type 0 where
   pub out : answer_at (world_resent removed_first 2 0) 2 set_s ≡ Values []
   -- where nothing of member 1's outbox is new, nothing comes of it
   pub nothing_new : resending (world_resent removed_first 2 0) 2 1 ≡ nothing
+
+-- the store of two once member 1 said by a no-op that it has the add, and once member 0 had that
+abbrev pub once_told : PlainWorld
+once_told = world_beating once_given 1 (beating_at once_given 1)
+
+abbrev pub once_heard : PlainWorld
+once_heard = world_given once_told 0 1 1
+
+pub record EachWaitsForTheOther : Type 0 where
+  -- nothing is waited for before anything was sent
+  pub nothing_sent : lags_at opened 0 ≡ None
+  -- member 0 doesn't know that member 1 has the add, though it has
+  pub waits : lags_at once_given 0 ≡ Some 1
+  pub no_noop : noops_at once_given 0 ≡ 0
+  -- member 1 doesn't know that member 0 has its no-op
+  pub one_noop : noops_at once_told 1 ≡ 1
+  pub waits_too : lags_at once_told 1 ≡ Some 0
+  -- with the no-op member 0 has heard that the add is everywhere; that it has the no-op, member 1 hasn't heard
+  pub heard : lags_at once_heard 0 ≡ None
+  pub unheard : lags_at once_heard 1 ≡ Some 0
+  -- of several members that aren't known to have it, the least: not member 1 itself
+  pub least : lags_at once_removed 1 ≡ Some 0
+  pub next_least : lags_at of_three 0 ≡ Some 1
+  -- after settling member 1 still waits to hear of its no-op
+  pub one_left : noops_at (world_settled once_added) 1 ≡ 1
+  pub left : lags_at (world_settled once_added) 1 ≡ Some 0

@@ -1,6 +1,6 @@
 //! Laws of the plain world. Each is the contract of a function that does nothing.
 
-ghost use Rattle.world_model.specs.Laws.{OpeningIsWorld, OpeningHasSize, SentAreOwn, SentIsNumbered, SendingKeepsWorld, BeatingKeepsWorld, OfferingKeepsWorld, GivingKeepsWorld, ResendingKeepsWorld, RawingKeepsWorld, SettlingKeepsWorld, SettlingEnds, MoreRoundsAreNone, SettledIsEqualCounts, SameEventsAnswerAlike};
+ghost use Rattle.world_model.specs.Laws.{OpeningIsWorld, OpeningHasSize, SentAreOwn, SentIsNumbered, SendingKeepsWorld, BeatingKeepsWorld, OfferingKeepsWorld, GivingKeepsWorld, ResendingKeepsWorld, RawingKeepsWorld, SettlingKeepsWorld, SettlingEnds, MoreRoundsAreNone, SettledIsEqualCounts, SameEventsAnswerAlike, NoneLagsIsAllStable, LaggingIsAnother};
 
 /// A store begins in a world of its members.
 pub fn an_opening_is_a_world()
@@ -36,4 +36,10 @@ pub fn settling_ends()
 pub fn replicas_show_what_they_have()
     ensures settled { SettledIsEqualCounts }
     ensures answers { SameEventsAnswerAlike }
+{}
+
+/// A member lags exactly where an own message of the replica is unstable, and it is another member.
+pub fn a_member_lags_where_a_message_is_unstable()
+    ensures none { NoneLagsIsAllStable }
+    ensures another { LaggingIsAnother }
 {}
