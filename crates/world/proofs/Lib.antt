@@ -9,3 +9,4 @@ pub mod Offers
 pub mod Outboxes
 pub mod Settles
 pub mod Honest
+pub mod Lags

@@ -6,6 +6,7 @@
 
 mod answers;
 mod giving;
+mod lagging;
 mod offering;
 mod sending;
 mod settling;

@@ -55,6 +55,20 @@ fn an_outbox_is_offered_and_acknowledged(rt: HostRuntime) -> Result<(), Fail> {
 }
 
 #[test]
+fn each_waits_to_hear_from_the_other(rt: HostRuntime) -> Result<(), Fail> {
+    let alloc = rt.alloc();
+    let mut world = World::create(alloc, 2, 1, 9)?;
+    let update = one_more(alloc)?;
+    assert_eq!(rt; (world.noops(0), world.lags(0)), (0, None));
+    assert!(rt; matches!(world.local(alloc, 0, &update), Local::Sent(_)));
+    assert_eq!(rt; (world.noops(0), world.lags(0)), (0, Some(1)));
+    assert!(rt; matches!(world.give(alloc, 1, 0, 1), Given::Got(Receive::Took(_))));
+    assert!(rt; matches!(world.beat(alloc, 1), Beat::Sent(_)));
+    assert_eq!(rt; (world.noops(1), world.lags(1)), (1, Some(0)));
+    Ok(())
+}
+
+#[test]
 fn settling_makes_room_for_the_next_update(rt: HostRuntime) -> Result<(), Fail> {
     let alloc = rt.alloc();
     let mut world = World::create(alloc, 2, 1, 9)?;

@@ -1,12 +1,14 @@
 //! The world, and what it shows of a replica.
 
-ghost use Rattle.std.specs.Prelude.{◌≡◌, ◌↔◌, ◌<◌, false, length, map, IsTrue, IfOk, IsErrOf};
+ghost use Rattle.std.specs.Prelude.{◌≡◌, ◌↔◌, ◌<◌, false, [], length, map, None, IsTrue, IfOk, IsErrOf};
 ghost use Rattle.replica_core.specs.Numbers.{are_numbers};
-ghost use Rattle.world_model.specs.World.{PlainWorld, opening};
-ghost use Rattle.world_model.specs.Showing.{answer_at, log_at, entries_at, items_at, stable_at, seen_at};
+ghost use Rattle.world_model.specs.Offering.{outbox_in};
+ghost use Rattle.world_model.specs.World.{PlainWorld, opening, replica_of};
+ghost use Rattle.world_model.specs.Showing.{answer_at, log_at, entries_at, items_at, stable_at, seen_at, noops_at, lags_at};
 ghost use Rattle.world.specs.Shows.{Shows};
 ghost use Rattle.world.specs.Steps.{AreOpened, are_empty};
 
+use crate::lagging::lagging_at;
 use causal_model::ItemView;
 use op_base::{Answer, ByteList, IdList, NoMemory, ObjectId, Tag};
 use replica_core::{CreateFault, are_numbers};
@@ -86,6 +88,24 @@ impl World {
         ensures { (plain : PlainWorld) → ShowsPlain self.now plain → result ≡ seen_at plain r }
     {
         self.nodes[r as usize].replica().counts
+    }
+
+    /// How many of its own no-ops replica `r` doesn't know to be everywhere.
+    pub fn noops(&self, r: u8) -> u32
+        requires { r < length self.now.nodes.items }
+        ensures { (plain : PlainWorld) → ShowsPlain self.now plain → result ≡ noops_at plain r }
+    {
+        let replica = self.nodes[r as usize].replica();
+        replica.window.own_unstable(replica.me, true)
+    }
+
+    /// The least member of which replica `r` doesn't know that it has the oldest of `r`'s own messages that aren't stable.
+    pub fn lags(&self, r: u8) -> Option<u8>
+        requires { r < length self.now.nodes.items }
+        ensures least { (plain : PlainWorld) → ShowsPlain self.now plain → result ≡ lags_at plain r }
+        ensures none { (plain : PlainWorld) → ShowsPlain self.now plain → (result ≡ None) ↔ (outbox_in (replica_of plain r) ≡ []) }
+    {
+        lagging_at(&self.nodes[r as usize])
     }
 }
 
