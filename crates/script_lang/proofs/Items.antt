@@ -66,6 +66,9 @@ no_minus b low high = grind (arith, nat_tests)
 no_colon : IsNoDigit 58
 no_colon b low high = grind (arith, nat_tests)
 
+pub no_n : IsNoDigit 110
+no_n b low high = grind (arith, nat_tests)
+
 -- no number, id, step, value or sum has a space
 pub number-lacks : (n : ℕ) → IsNumber n → lacks 32 (decimal n) ≡ true
 number-lacks n h = decimal-lacks 32 n no_space (omega arith)

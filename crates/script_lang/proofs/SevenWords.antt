@@ -11,7 +11,7 @@ use Rattle.script_lang.specs.Commands.{verb_of, words_behind, command_words, com
 use Rattle.script_lang.specs.LiveCommands.{live_words, live_command_of}
 use Rattle.script_lang.specs.LiveCommands as live
 use Rattle.script_lang.specs.declared.command.Verb.{Verb}
-use Rattle.script_lang.specs.declared.command.Verb.TheVariants.{Do, Ask, Beat, Give, Resend, Raw, Settle, Log, Size, Stable, Seen}
+use Rattle.script_lang.specs.declared.command.Verb.TheVariants.{Do, Ask, Beat, Give, Resend, Raw, Settle, Log, Size, Stable, Seen, Noops, Lags}
 use Rattle.script_lang.specs.declared.fault.Fault.TheVariants as fault
 use Rattle.script_lang.specs.declared.live.LiveCommand.{LiveCommand}
 
@@ -40,6 +40,8 @@ too_many n (Some Log) a b c d e f words = refl
 too_many n (Some Size) a b c d e f words = refl
 too_many n (Some Stable) a b c d e f words = refl
 too_many n (Some Seen) a b c d e f words = refl
+too_many n (Some Noops) a b c d e f words = refl
+too_many n (Some Lags) a b c d e f words = refl
 
 command_by_seven : (n : ℕ) (words : List (List ℕ)) → command_words n (take 7 words) ≡ command_words n words
 command_by_seven n [] = refl

@@ -1,6 +1,6 @@
 -- A reply is read back from its line.
 use Rattle.std.proofs.Common.{◌≡◌, ℕ, Bool, true, false, List, [], ◌∷◌, eqb, length, map, refl, ap, sym, ◌∙◌, arith}
-use Rattle.std.specs.Prelude.{if◌then◌else◌, codes}
+use Rattle.std.specs.Prelude.{if◌then◌else◌, codes, Option, Some, None}
 use Rattle.std.specs.Fmt.{decimal}
 use Rattle.std.specs.List.{list_all, slice_split}
 use Rattle.std.specs.Str.Parse.{digits_value}
@@ -11,12 +11,12 @@ use Rattle.op_base.specs.declared.outcome.Answer.TheVariants.{Values, Flag, Sum}
 use Rattle.op_base.specs.declared.outcome.Step.{Step}
 use Rattle.op_base.specs.declared.outcome.Step.TheVariants as step
 use Rattle.script_lang.specs.declared.reply.Reply.{Reply}
-use Rattle.script_lang.specs.declared.reply.Reply.TheVariants.{Sent, Busy, End, Quiet, Held, Is, Unsent, Old, Again, Far, Kept, Took, Nothing, BadFrame, Settled, Unsettled, Log, Size, Stable, Seen, Bad}
+use Rattle.script_lang.specs.declared.reply.Reply.TheVariants.{Sent, Busy, End, Quiet, Held, Is, Unsent, Old, Again, Far, Kept, Took, Nothing, BadFrame, Settled, Unsettled, Log, Size, Stable, Seen, Noops, Lags, Bad}
 use Rattle.script_lang.specs.Replies.{joined, id_word, step_word, answer_words, reply_words, reply_line}
 use Rattle.script_lang.specs.Laws.{IsId, IsStep, IsTag, IsAnswer, IsReply, HaveOneForm, cause_of, AreAlike}
 use Rattle.script_lang.proofs.Parted.{lacks, split-joined}
-use Rattle.script_lang.proofs.Decimals.{decimal-value}
-use Rattle.script_lang.proofs.Items.{shown_step, id_of, step_of, sum_of, no_space, number-lacks, id-lacks, step-lacks, items-lack, numbers-lack, answer-lacks, items-read, numbers-read, id_of-word, step_of-word, sum_of-word}
+use Rattle.script_lang.proofs.Decimals.{decimal-lacks, decimal-value}
+use Rattle.script_lang.proofs.Items.{shown_step, id_of, step_of, sum_of, no_space, no_n, number-lacks, id-lacks, step-lacks, items-lack, numbers-lack, answer-lacks, items-read, numbers-read, id_of-word, step_of-word, sum_of-word}
 
 -- ---- how a line is read
 
@@ -35,6 +35,10 @@ bad_of (frame ∷ fault ∷ words) = BadFrame (digits_value 10 fault)
 abbrev size_of : List (List ℕ) → Reply
 size_of [] = Busy
 size_of (entries ∷ words) = Size (digits_value 10 entries) (digits_value 10 (first words))
+
+-- the member that lags, or none, whose word alone has an n
+abbrev lagging_of : List ℕ → Option ℕ
+lagging_of word = if lacks 110 word then Some (digits_value 10 word) else None
 
 -- the reply of a first word and the others
 abbrev reply_as : List ℕ → List (List ℕ) → Reply
@@ -58,6 +62,8 @@ reply_as word words =
     else if same_text word (codes "size") then size_of words
     else if same_text word (codes "stable") then Stable (length words) (map (λ w. digits_value 10 w) words)
     else if same_text word (codes "seen") then Seen (length words) (map (λ w. digits_value 10 w) words)
+    else if same_text word (codes "noops") then Noops (digits_value 10 (first words))
+    else if same_text word (codes "lags") then Lags (lagging_of (first words))
     else bad_of words
 
 abbrev reply_of : List (List ℕ) → Reply
@@ -98,6 +104,11 @@ reply-read (Size entries items) h =
     (rw (decimal-value entries (omega arith), decimal-value items (omega arith)) refl)
 reply-read (Stable n tag) h = line-read (codes "stable") (map decimal tag) _ (numbers-lack tag h.1) (tag-read n tag Stable h)
 reply-read (Seen n tag) h = line-read (codes "seen") (map decimal tag) _ (numbers-lack tag h.1) (tag-read n tag Seen h)
+reply-read (Noops count) h = line-read (codes "noops") (decimal count ∷ []) _ (rw (number-lacks count h) refl) (ap Noops (decimal-value count (omega arith)))
+reply-read (Lags None) h = refl
+reply-read (Lags (Some member)) h =
+    line-read (codes "lags") (decimal member ∷ []) _ (rw (number-lacks member h) refl)
+    (ap Lags (ap (λ digits. if digits then Some (digits_value 10 (decimal member)) else None) (decimal-lacks 110 member no_n (omega arith)) ∙ ap Some (decimal-value member (omega arith))))
 reply-read (Bad fault) h = line-read (codes "bad") (decimal fault ∷ []) _ (rw (number-lacks fault h) refl) (ap Bad (decimal-value fault (omega arith)))
 reply-read r h = refl
 

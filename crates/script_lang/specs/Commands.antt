@@ -8,7 +8,7 @@ use Rattle.script_lang.specs.Acts.{update_in}
 use Rattle.script_lang.specs.declared.fault.Fault.{Fault}
 use Rattle.script_lang.specs.declared.fault.Fault.TheVariants as fault
 use Rattle.script_lang.specs.declared.command.Command.{Command}
-use Rattle.script_lang.specs.declared.command.Command.TheVariants.{Do, Ask, Beat, Give, Resend, Raw, Settle, Log, Size, Stable, Seen}
+use Rattle.script_lang.specs.declared.command.Command.TheVariants.{Do, Ask, Beat, Give, Resend, Raw, Settle, Log, Size, Stable, Seen, Noops, Lags}
 use Rattle.script_lang.specs.declared.command.Verb.{Verb}
 use Rattle.script_lang.specs.declared.command.Verb.TheVariants as verbs
 use Rattle.script_lang.specs.declared.command.Line.{Line}
@@ -80,10 +80,12 @@ verb_word verbs.Log = codes "log"
 verb_word verbs.Size = codes "size"
 verb_word verbs.Stable = codes "stable"
 verb_word verbs.Seen = codes "seen"
+verb_word verbs.Noops = codes "noops"
+verb_word verbs.Lags = codes "lags"
 
 abbrev pub all_verbs : List Verb
 all_verbs =
-    verbs.Do ∷ verbs.Ask ∷ verbs.Beat ∷ verbs.Give ∷ verbs.Resend ∷ verbs.Raw ∷ verbs.Settle ∷ verbs.Log ∷ verbs.Size ∷ verbs.Stable ∷ verbs.Seen ∷ []
+    verbs.Do ∷ verbs.Ask ∷ verbs.Beat ∷ verbs.Give ∷ verbs.Resend ∷ verbs.Raw ∷ verbs.Settle ∷ verbs.Log ∷ verbs.Size ∷ verbs.Stable ∷ verbs.Seen ∷ verbs.Noops ∷ verbs.Lags ∷ []
 
 -- the verb of a list whose word this is
 abbrev pub verb_among : List Verb → List ℕ → Option Verb
@@ -107,6 +109,8 @@ verb_words n verbs.Log words = lone_member n words >>= λ r. Ok (Log r)
 verb_words n verbs.Size words = lone_member n words >>= λ r. Ok (Size r)
 verb_words n verbs.Stable words = lone_member n words >>= λ r. Ok (Stable r)
 verb_words n verbs.Seen words = lone_member n words >>= λ r. Ok (Seen r)
+verb_words n verbs.Noops words = lone_member n words >>= λ r. Ok (Noops r)
+verb_words n verbs.Lags words = lone_member n words >>= λ r. Ok (Lags r)
 
 -- the command of the words behind a first word
 abbrev pub words_behind : ℕ → Option Verb → List (List ℕ) → Result Command Fault

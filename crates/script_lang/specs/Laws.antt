@@ -1,5 +1,5 @@
 -- Laws of the texts, each the contract of a function that does nothing.
-use Rattle.std.specs.Prelude.{◌≡◌, ℕ, ◌<◌, ◌≤◌, ◌^◌, List, length, map, Option, Some, None, IsTrue, All, unsigned_abs}
+use Rattle.std.specs.Prelude.{◌≡◌, ℕ, ◌<◌, ◌≤◌, ◌^◌, List, length, map, Option, Some, None, IfSome, IsTrue, All, unsigned_abs}
 use Rattle.op_base.specs.Name.{is_value}
 use Rattle.op_base.specs.declared.outcome.Answer.{Answer}
 use Rattle.op_base.specs.declared.outcome.Answer.TheVariants.{Values, Flag, Sum}
@@ -8,7 +8,7 @@ use Rattle.op_base.specs.declared.outcome.Step.{Step}
 use Rattle.op_base.specs.declared.outcome.Step.TheVariants as step
 use Rattle.op_base.specs.declared.tag.MessageId.{MessageId}
 use Rattle.script_lang.specs.declared.reply.Reply.{Reply}
-use Rattle.script_lang.specs.declared.reply.Reply.TheVariants.{Sent, Is, Took, BadFrame, Log, Size, Stable, Seen, Bad}
+use Rattle.script_lang.specs.declared.reply.Reply.TheVariants.{Sent, Is, Took, BadFrame, Log, Size, Stable, Seen, Noops, Lags, Bad}
 use Rattle.script_lang.specs.Replies.{reply_line}
 
 -- ---- which replies can come
@@ -43,6 +43,8 @@ IsReply (Log ids) = All IsId ids
 IsReply (Size entries items) = IsNumber entries × IsNumber items
 IsReply (Stable n tag) = IsTag n tag
 IsReply (Seen n tag) = IsTag n tag
+IsReply (Noops count) = IsNumber count
+IsReply (Lags member) = IfSome member IsNumber
 IsReply (Bad fault) = IsNumber fault
 IsReply reply = Unit {0}
 

@@ -22,6 +22,8 @@ IsWithin n (command.Log r) = r < n
 IsWithin n (command.Size r) = r < n
 IsWithin n (command.Stable r) = r < n
 IsWithin n (command.Seen r) = r < n
+IsWithin n (command.Noops r) = r < n
+IsWithin n (command.Lags r) = r < n
 
 abbrev pub LineIsWithin : ℕ → Line → Type 0
 LineIsWithin n line.Skip = Unit {0}

@@ -1,5 +1,5 @@
 -- The texts of replies, one line each: words, parted by one space.
-use Rattle.std.specs.Prelude.{◌≡◌, ℕ, List, [], ◌∷◌, ◌++◌, length, map, codes, if◌then◌else◌}
+use Rattle.std.specs.Prelude.{◌≡◌, ℕ, List, [], ◌∷◌, ◌++◌, length, map, Option, Some, None, codes, if◌then◌else◌}
 use Rattle.std.specs.List.{flat_map}
 use Rattle.std.specs.Fmt.{decimal, signed_decimal}
 use Rattle.op_base.specs.declared.outcome.Answer.{Answer}
@@ -8,7 +8,7 @@ use Rattle.op_base.specs.declared.outcome.Step.{Step}
 use Rattle.op_base.specs.declared.outcome.Step.TheVariants as step
 use Rattle.op_base.specs.declared.tag.MessageId.{MessageId}
 use Rattle.script_lang.specs.declared.reply.Reply.{Reply}
-use Rattle.script_lang.specs.declared.reply.Reply.TheVariants.{Sent, Busy, End, Quiet, Held, Is, Unsent, Old, Again, Far, Kept, Took, Nothing, BadFrame, Settled, Unsettled, Log, Size, Stable, Seen, Bad}
+use Rattle.script_lang.specs.declared.reply.Reply.TheVariants.{Sent, Busy, End, Quiet, Held, Is, Unsent, Old, Again, Far, Kept, Took, Nothing, BadFrame, Settled, Unsettled, Log, Size, Stable, Seen, Noops, Lags, Bad}
 
 -- words, each behind a space
 abbrev pub spaced : List (List ℕ) → List ℕ
@@ -34,6 +34,11 @@ answer_words (Values values) = values
 answer_words (Flag on) = (if on then codes "on" else codes "off") ∷ []
 answer_words (Sum sum) = signed_decimal sum ∷ []
 
+-- the member that lags, or none
+abbrev pub lagging_word : Option ℕ → List ℕ
+lagging_word (Some member) = decimal member
+lagging_word None = codes "none"
+
 -- what a reply says
 abbrev pub reply_words : Reply → List (List ℕ)
 reply_words (Sent number) = codes "ok" ∷ decimal number ∷ []
@@ -56,6 +61,8 @@ reply_words (Log ids) = codes "log" ∷ map id_word ids
 reply_words (Size entries items) = codes "size" ∷ decimal entries ∷ decimal items ∷ []
 reply_words (Stable n tag) = codes "stable" ∷ map decimal tag
 reply_words (Seen n tag) = codes "seen" ∷ map decimal tag
+reply_words (Noops count) = codes "noops" ∷ decimal count ∷ []
+reply_words (Lags member) = codes "lags" ∷ lagging_word member ∷ []
 reply_words (Bad fault) = codes "bad" ∷ decimal fault ∷ []
 
 -- the line of a reply

@@ -37,6 +37,10 @@ pub enum Command {
     Stable { r: u8 },
     /// Member `r`'s counts.
     Seen { r: u8 },
+    /// How many own no-ops of member `r` are unstable.
+    Noops { r: u8 },
+    /// The least member that member `r` waits for.
+    Lags { r: u8 },
 }
 
 /// What a line of a script is.
@@ -66,6 +70,8 @@ enum Verb {
     Size,
     Stable,
     Seen,
+    Noops,
+    Lags,
 }
 
 /// What a line of a script is, in a store of `n` members. The line is without its newline and one carriage return at
@@ -122,6 +128,8 @@ fn read_verb(word: &[u8]) -> Option<Verb>
         b"size" => Some(Verb::Size),
         b"stable" => Some(Verb::Stable),
         b"seen" => Some(Verb::Seen),
+        b"noops" => Some(Verb::Noops),
+        b"lags" => Some(Verb::Lags),
         _ => None,
     }
 }
@@ -167,6 +175,12 @@ fn read_arguments(alloc: Global, verb: Verb, words: &[&[u8]], n: u8) -> Result<C
             r: read_lone_member(n, words)?,
         }),
         Verb::Seen => Ok(Command::Seen {
+            r: read_lone_member(n, words)?,
+        }),
+        Verb::Noops => Ok(Command::Noops {
+            r: read_lone_member(n, words)?,
+        }),
+        Verb::Lags => Ok(Command::Lags {
             r: read_lone_member(n, words)?,
         }),
     }

@@ -50,6 +50,11 @@ pub enum Reply {
     Stable { n: u8, tag: Tag },
     /// How many messages of each of `n` members were delivered.
     Seen { n: u8, tag: Tag },
+    /// How many own no-ops aren't known to be everywhere.
+    Noops(u32),
+    /// The least member that isn't known to have the oldest own message that isn't known to be everywhere; none where all
+    /// are.
+    Lags(Option<u8>),
     /// The line is no command, with the number of its fault.
     Bad(u8),
 }
@@ -111,6 +116,9 @@ fn put_words(reply: &Reply, out: &mut Text) -> Result<(), NoMemory>
         Reply::Size { entries, items } => put_size(*entries, *items, out),
         Reply::Stable { n, tag } => put_numbers(b"stable", *n, tag, out),
         Reply::Seen { n, tag } => put_numbers(b"seen", *n, tag, out),
+        Reply::Noops(count) => put_numbered(b"noops", *count, out),
+        Reply::Lags(Some(member)) => put_numbered(b"lags", u32::from(*member), out),
+        Reply::Lags(None) => out.extend_from_slice(b"lags none"),
         Reply::Bad(fault) => put_numbered(b"bad", u32::from(*fault), out),
     }
 }

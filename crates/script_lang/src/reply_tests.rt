@@ -95,6 +95,9 @@ fn plain_replies_have_their_lines(rt: HostRuntime) -> Result<(), Fail> {
         Reply::Seen { n: 3, tag: seen },
         b"seen 5 0 10\n",
     )?;
+    is_printed(&rt, alloc, Reply::Noops(3), b"noops 3\n")?;
+    is_printed(&rt, alloc, Reply::Lags(Some(15)), b"lags 15\n")?;
+    is_printed(&rt, alloc, Reply::Lags(None), b"lags none\n")?;
     is_printed(&rt, alloc, Reply::Bad(8), b"bad 8\n")
 }
 

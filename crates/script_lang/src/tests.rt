@@ -27,7 +27,7 @@ fn live_code(line: &LiveLine) -> u8 {
 #[test]
 fn the_first_fault_of_a_line_is_told(rt: HostRuntime) -> Result<(), Fail> {
     let alloc = rt.alloc();
-    let cases: [(&[u8], u8); 68] = [
+    let cases: [(&[u8], u8); 72] = [
         // Passed over.
         (b"", 0),
         (b" \t ", 0),
@@ -49,6 +49,8 @@ fn the_first_fault_of_a_line_is_told(rt: HostRuntime) -> Result<(), Fail> {
         (b"size 0", 100),
         (b"stable 0", 100),
         (b"seen 1", 100),
+        (b"noops 0", 100),
+        (b"lags 1", 100),
         // The first word.
         (b"frob", 2),
         (b"Do 0 awset:s add x", 2),
@@ -57,8 +59,6 @@ fn the_first_fault_of_a_line_is_told(rt: HostRuntime) -> Result<(), Fail> {
         (b"members 2", 2),
         (b"ids 0 list:l", 2),
         (b"tombs 0", 2),
-        (b"noops 0", 2),
-        (b"lags 0", 2),
         (b"stop", 2),
         (b"store 1 1", 2),
         (b"x # y", 2),
@@ -77,6 +77,8 @@ fn the_first_fault_of_a_line_is_told(rt: HostRuntime) -> Result<(), Fail> {
         (b"raw 0", 3),
         (b"settle 0", 3),
         (b"seen", 3),
+        (b"noops 0 0", 3),
+        (b"lags", 3),
         // A member.
         (b"do 2 counter:a inc 1", 4),
         (b"ask x awset:s", 4),
@@ -85,6 +87,8 @@ fn the_first_fault_of_a_line_is_told(rt: HostRuntime) -> Result<(), Fail> {
         (b"give 4294967296 0 1", 4),
         (b"resend 0 -1", 4),
         (b"raw 2 0", 4),
+        (b"noops 2", 4),
+        (b"lags x", 4),
         // An object.
         (b"ask 0 counter:", 5),
         (b"ask 0 set:a", 5),
