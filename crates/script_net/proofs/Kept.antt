@@ -41,6 +41,8 @@ command_keeps world (command.Log r) is can = world_keeps_itself world is
 command_keeps world (command.Size r) is can = world_keeps_itself world is
 command_keeps world (command.Stable r) is can = world_keeps_itself world is
 command_keeps world (command.Seen r) is can = world_keeps_itself world is
+command_keeps world (command.Noops r) is can = world_keeps_itself world is
+command_keeps world (command.Lags r) is can = world_keeps_itself world is
 
 line_keeps : (world : PlainWorld) (l : Line) → IsWorld world → ((c : Command) → l ≡ line.Run c → CanRun (size_of world) c) → KeepsWorld world (line_world world l)
 line_keeps world line.Skip is can = world_keeps_itself world is

@@ -44,6 +44,8 @@ CanRun n (command.Log r) = r < n
 CanRun n (command.Size r) = r < n
 CanRun n (command.Stable r) = r < n
 CanRun n (command.Seen r) = r < n
+CanRun n (command.Noops r) = r < n
+CanRun n (command.Lags r) = r < n
 
 -- ---- results that are read one behind another
 
@@ -243,7 +245,9 @@ module _ (n : ℕ) where
       (either_verb n (words_behind n) words (same_text (codes "size") word) _ _ (given Below (CanRun n) (lone_member n words) _ (lone words) (λ r l. l))
       (either_verb n (words_behind n) words (same_text (codes "stable") word) _ _ (given Below (CanRun n) (lone_member n words) _ (lone words) (λ r l. l))
       (either_verb n (words_behind n) words (same_text (codes "seen") word) _ _ (given Below (CanRun n) (lone_member n words) _ (lone words) (λ r l. l))
-      tt))))))))))
+      (either_verb n (words_behind n) words (same_text (codes "noops") word) _ _ (given Below (CanRun n) (lone_member n words) _ (lone words) (λ r l. l))
+      (either_verb n (words_behind n) words (same_text (codes "lags") word) _ _ (given Below (CanRun n) (lone_member n words) _ (lone words) (λ r l. l))
+      tt))))))))))))
 
   not_bad : (o : Option ℕ) (c : Command) → bad_line o ≡ line.Run c → CanRun n c
   not_bad None c e = cc

@@ -6,14 +6,14 @@ use Rattle.causal_model.specs.Receiving.{Receiving, old, again, far, accepts}
 use Rattle.causal_model.specs.Sending.{Sending, sends, busy, ended, Beating, beats, quiet, held, beat_ended}
 use Rattle.frame_codec.specs.Fault.{fault_number}
 use Rattle.script_lang.specs.declared.command.Command.{Command}
-use Rattle.script_lang.specs.declared.command.Command.TheVariants.{Do, Ask, Beat, Give, Resend, Raw, Settle, Log, Size, Stable, Seen}
+use Rattle.script_lang.specs.declared.command.Command.TheVariants.{Do, Ask, Beat, Give, Resend, Raw, Settle, Log, Size, Stable, Seen, Noops, Lags}
 use Rattle.script_lang.specs.declared.reply.Reply.{Reply}
 use Rattle.script_lang.specs.declared.reply.Reply.TheVariants as reply
 use Rattle.world_model.specs.World.{PlainWorld, size_of, sending_at, world_sending, beating_at, world_beating, Giving, unsent, got, giving, world_given}
 use Rattle.world_model.specs.Offering.{Resending, takes, keeps, nothing, resending, world_resent}
 use Rattle.world_model.specs.Raw.{Rawing, bad, read, rawing, world_rawed}
 use Rattle.world_model.specs.Settling.{world_settled, is_settled}
-use Rattle.world_model.specs.Showing.{answer_at, log_at, entries_at, items_at, stable_at, seen_at}
+use Rattle.world_model.specs.Showing.{answer_at, log_at, entries_at, items_at, stable_at, seen_at, noops_at, lags_at}
 
 -- ---- what is replied to what came of a command
 
@@ -77,6 +77,8 @@ command_reply world (Log r) = reply.Log (log_at world r)
 command_reply world (Size r) = reply.Size (entries_at world r) (items_at world r)
 command_reply world (Stable r) = reply.Stable (size_of world) (stable_at world r)
 command_reply world (Seen r) = reply.Seen (size_of world) (seen_at world r)
+command_reply world (Noops r) = reply.Noops (noops_at world r)
+command_reply world (Lags r) = reply.Lags (lags_at world r)
 
 -- the plain world after a command
 abbrev pub command_world : PlainWorld → Command → PlainWorld
@@ -91,3 +93,5 @@ command_world world (Log r) = world
 command_world world (Size r) = world
 command_world world (Stable r) = world
 command_world world (Seen r) = world
+command_world world (Noops r) = world
+command_world world (Lags r) = world

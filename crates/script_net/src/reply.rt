@@ -32,6 +32,8 @@ pub fn reply_to(alloc: Global, world: &mut World, command: &Command) -> Result<R
         Command::Size { r } => Ok(size_reply(world, *r)),
         Command::Stable { r } => Ok(stable_reply(world, *r)),
         Command::Seen { r } => Ok(seen_reply(world, *r)),
+        Command::Noops { r } => Ok(Reply::Noops(world.noops(*r))),
+        Command::Lags { r } => Ok(Reply::Lags(world.lags(*r))),
     }
 }
 

@@ -17,7 +17,7 @@ struct Script {
     rows: &'static [(&'static str, &'static str)],
 }
 
-const SCRIPTS: [Script; 24] = [
+const SCRIPTS: [Script; 26] = [
     // A remove takes out the adds that it has seen; what is stable leaves the log.
     Script {
         n: 2,
@@ -325,6 +325,62 @@ const SCRIPTS: [Script; 24] = [
             ("beat 1", "held"),
             ("do 1 counter:c inc 1", "ok 4"),
             ("log 1", "log"),
+            ("noops 1", "noops 3"),
+            ("lags 1", "lags 0"),
+        ],
+    },
+    // An update waits for a no-op, and that for a message in turn.
+    Script {
+        n: 2,
+        w: 1,
+        limit: LIMIT,
+        rows: &[
+            ("do 0 counter:c inc 1", "ok 1"),
+            ("lags 0", "lags 1"),
+            ("give 1 0 1", "took 0:1"),
+            ("beat 1", "ok 1"),
+            ("noops 1", "noops 1"),
+            ("lags 1", "lags 0"),
+            ("give 0 1 1", "took 1:1"),
+            ("lags 0", "lags none"),
+            ("do 0 counter:c inc 1", "ok 2"),
+            ("give 1 0 2", "took 0:2"),
+            ("noops 1", "noops 0"),
+            ("lags 1", "lags none"),
+            ("noops 2", "bad 4"),
+            ("lags", "bad 3"),
+        ],
+    },
+    // With three members and a window of one, three no-ops are the most that one can have out where no frame is forged.
+    Script {
+        n: 3,
+        w: 1,
+        limit: LIMIT,
+        rows: &[
+            ("do 1 counter:c inc 1", "ok 1"),
+            ("give 0 1 1", "took 1:1"),
+            ("beat 0", "ok 1"),
+            ("do 2 counter:c inc 1", "ok 1"),
+            ("give 0 2 1", "took 2:1"),
+            ("beat 0", "ok 2"),
+            ("give 1 2 1", "took 2:1"),
+            ("give 2 1 1", "took 1:1"),
+            ("beat 1", "ok 2"),
+            ("beat 2", "ok 2"),
+            ("give 0 1 2", "took 1:2"),
+            ("give 0 2 2", "took 2:2"),
+            ("give 1 2 2", "took 2:2"),
+            ("give 1 0 1", "took 0:1"),
+            ("give 1 0 2", "took 0:2"),
+            ("do 1 counter:c inc 1", "ok 3"),
+            ("give 0 1 3", "took 1:3"),
+            ("beat 0", "ok 3"),
+            ("noops 0", "noops 3"),
+            ("lags 0", "lags 2"),
+            ("do 1 counter:c inc 1", "busy"),
+            ("settle", "settled"),
+            ("log 0", "log"),
+            ("do 1 counter:c inc 1", "ok 4"),
         ],
     },
     // More no-ops than their window has are dropped.
