@@ -674,7 +674,7 @@ impl<N: Num> World<N> {
         if line.len() > LINE { return Err(1); }
         let (lo, hi) = match w[0] {
             b"do" => (4, 5), b"ask" | b"resend" | b"raw" => (3, 3), b"give" => (4, 4),
-            b"beat" | b"log" | b"size" | b"stable" | b"seen" => (2, 2), b"settle" => (1, 1), _ => return Err(2),
+            b"beat" | b"log" | b"size" | b"stable" | b"seen" | b"noops" | b"lags" => (2, 2), b"settle" => (1, 1), _ => return Err(2),
         };
         if w.len() < lo || w.len() > hi { return Err(3); }
         if w[0] == b"settle" {
@@ -782,6 +782,17 @@ impl<N: Num> World<N> {
                 let p = &self.reps[r];
                 out.extend_from_slice(b"size ");
                 put(out, p.logged as u64); out.push(b' '); put(out, p.items as u64); out.push(b'\n');
+            }
+            b"noops" => { out.extend_from_slice(b"noops "); put(out, self.reps[r].noops[r] as u64); out.push(b'\n'); }
+            b"lags" => {
+                let p = &self.reps[r];
+                let oldest = p.stable.at(r) + 1;
+                out.extend_from_slice(b"lags ");
+                match (0..n).find(|q| *q != r && p.rows[*q].at(r) < oldest) {
+                    Some(q) if oldest <= p.counts.at(r) => put(out, q as u64),
+                    _ => out.extend_from_slice(b"none"),
+                }
+                out.push(b'\n');
             }
             _ => {
                 let p = &self.reps[r];
