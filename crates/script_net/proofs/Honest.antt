@@ -54,6 +54,8 @@ command_keeps world (command.Log r) honest can plain = (honest, world_keeps_itse
 command_keeps world (command.Size r) honest can plain = (honest, world_keeps_itself world honest.is_world)
 command_keeps world (command.Stable r) honest can plain = (honest, world_keeps_itself world honest.is_world)
 command_keeps world (command.Seen r) honest can plain = (honest, world_keeps_itself world honest.is_world)
+command_keeps world (command.Noops r) honest can plain = (honest, world_keeps_itself world honest.is_world)
+command_keeps world (command.Lags r) honest can plain = (honest, world_keeps_itself world honest.is_world)
 
 line_keeps : (world : PlainWorld) (l : Line) → IsHonest world → ((c : Command) → l ≡ line.Run c → CanRun (size_of world) c) → offers_bytes l ≡ false → KeepsHonest world (line_world world l)
 line_keeps world line.Skip honest can plain = (honest, world_keeps_itself world honest.is_world)
@@ -128,6 +130,8 @@ command_is_fair world (command.Log r) honest can plain = refl
 command_is_fair world (command.Size r) honest can plain = refl
 command_is_fair world (command.Stable r) honest can plain = refl
 command_is_fair world (command.Seen r) honest can plain = refl
+command_is_fair world (command.Noops r) honest can plain = refl
+command_is_fair world (command.Lags r) honest can plain = refl
 
 -- the text of a fair reply
 fair_text : (reply : Reply) → is_fair reply ≡ true → IsFairText (reply_line reply)

@@ -17,7 +17,7 @@ struct Script {
     rows: &'static [(&'static str, &'static str)],
 }
 
-const SCRIPTS: [Script; 26] = [
+const SCRIPTS: [Script; 27] = [
     // A remove takes out the adds that it has seen; what is stable leaves the log.
     Script {
         n: 2,
@@ -349,6 +349,22 @@ const SCRIPTS: [Script; 26] = [
             ("lags 1", "lags none"),
             ("noops 2", "bad 4"),
             ("lags", "bad 3"),
+        ],
+    },
+    // Settling leaves an entry in a log where a member that has reached its limit can't tell what it has.
+    Script {
+        n: 2,
+        w: 4,
+        limit: 1,
+        rows: &[
+            ("do 1 counter:c inc 1", "ok 1"),
+            ("do 0 awset:s add x", "ok 1"),
+            ("settle", "settled"),
+            ("seen 0", "seen 1 1"),
+            ("log 0", "log 0:1"),
+            ("lags 0", "lags 1"),
+            ("log 1", "log"),
+            ("beat 1", "end"),
         ],
     },
     // With three members and a window of one, three no-ops are the most that one can have out where no frame is forged.

@@ -1,5 +1,5 @@
 -- What a world answers and leaves where it shows an honest plain world: from what it answers, and the laws of honest worlds.
-use Rattle.std.proofs.Common.{◌≡◌, ◌≢◌, ℕ, zero, suc, ◌<◌, All, Bool, true, false, List, [], ◌∷◌, IsTrue, length, map, take, get_or, refl, sym, ap, subst, ◌∙◌, inl, inr, Some, None, Option, arith}
+use Rattle.std.proofs.Common.{◌≤◌, ◌≡◌, ◌≢◌, ℕ, zero, suc, ◌<◌, All, Bool, true, false, List, [], ◌∷◌, IsTrue, length, map, take, get_or, refl, sym, ap, subst, ◌∙◌, inl, inr, Some, None, Option, arith}
 use Rattle.std.specs.List.{list_all, fold}
 use Rattle.std.proofs.lemmas.Bool.{both_ways}
 use Rattle.std.proofs.lemmas.List.Elements.{All-take, All-nil}
@@ -26,7 +26,10 @@ use Rattle.world_model.specs.World.{PlainWorld, size_of, replica_of, with_state,
 use Rattle.world_model.proofs.Commands.{offers_keep as offers_keep_replica}
 use Rattle.world_model.proofs.Received.{is_as_before}
 use Rattle.world_model.proofs.Worlds.{state_changes}
-use Rattle.honest_worlds.proofs.Beats.{no_beat_is_held}
+use Rattle.causal_model.specs.Stability.{unstable_noops}
+use Rattle.honest_worlds.specs.Laws.{honest_noops}
+use Rattle.world_model.specs.Showing.{noops_at}
+use Rattle.honest_worlds.proofs.Beats.{no_beat_is_held, noops_are_few_in}
 use Rattle.honest_worlds.proofs.Commands.{commands_keep_honest, offering_keeps_honest, sent_message_was_sent, steps_deliver, resent_steps_deliver}
 use Rattle.honest_worlds.proofs.Keeping.{sent_state_keeps_honest, beat_keeps_honest, offers_are_received, resending_keeps_honest}
 use Rattle.honest_worlds.proofs.OnlySent.{replica_has_only_sent}
@@ -101,6 +104,14 @@ beats_honest plain r beat.Quiet Leaves honest l told = record { free = λ e. cc;
 beats_honest plain r beat.Held Leaves honest l told = absurd (no_beat_is_held plain r honest l told.0)
 beats_honest plain r beat.End Leaves honest l told = record { free = λ e. cc; leaves = (plain, told.1, honest) }
 beats_honest plain r beat.NoMemory Leaves honest l told = record { free = λ e. cc; leaves = (plain, told, honest) }
+
+-- few own no-ops are unstable
+pub noops_are_few_at : (plain : PlainWorld) (r : ℕ) → IsHonest plain → r < size_of plain → noops_at plain r ≤ honest_noops (size_of plain) plain.w
+noops_are_few_at plain r honest l =
+    let replica = honest.is_world.replicas r l in
+    let ms = (replica_of plain r).history.present.messages in
+    let same : noops_at plain r ≡ unstable_noops (size_of plain) r ms r = ap (λ u. unstable_noops u (replica_of plain r).history.present.me ms (replica_of plain r).history.present.me) replica.of_store ∙ ap (λ me. unstable_noops (size_of plain) me ms me) replica.of_member in
+    omega (arith, same, (noops_are_few_in plain r honest l).0)
 
 -- ---- receiving
 

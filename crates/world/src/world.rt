@@ -1,9 +1,11 @@
 //! The world, and what it shows of a replica.
 
-ghost use Rattle.std.specs.Prelude.{◌≡◌, ◌↔◌, ◌<◌, false, [], length, map, None, IsTrue, IfOk, IsErrOf};
+ghost use Rattle.std.specs.Prelude.{◌≤◌, ◌≡◌, ◌↔◌, ◌<◌, false, [], length, map, None, IsTrue, IfOk, IsErrOf};
 ghost use Rattle.replica_core.specs.Numbers.{are_numbers};
 ghost use Rattle.world_model.specs.Offering.{outbox_in};
-ghost use Rattle.world_model.specs.World.{PlainWorld, opening, replica_of};
+ghost use Rattle.honest_worlds.specs.Laws.{honest_noops};
+ghost use Rattle.world_model.specs.Honest.{IsHonest};
+ghost use Rattle.world_model.specs.World.{PlainWorld, opening, replica_of, size_of};
 ghost use Rattle.world_model.specs.Showing.{answer_at, log_at, entries_at, items_at, stable_at, seen_at, noops_at, lags_at};
 ghost use Rattle.world.specs.Shows.{Shows};
 ghost use Rattle.world.specs.Steps.{AreOpened, are_empty};
@@ -93,7 +95,8 @@ impl World {
     /// How many of its own no-ops replica `r` doesn't know to be everywhere.
     pub fn noops(&self, r: u8) -> u32
         requires { r < length self.now.nodes.items }
-        ensures { (plain : PlainWorld) → ShowsPlain self.now plain → result ≡ noops_at plain r }
+        ensures own { (plain : PlainWorld) → ShowsPlain self.now plain → result ≡ noops_at plain r }
+        ensures few { (plain : PlainWorld) → ShowsPlain self.now plain → IsHonest plain → result ≤ honest_noops (size_of plain) plain.w }
     {
         let replica = self.nodes[r as usize].replica();
         replica.window.own_unstable(replica.me, true)
