@@ -95,12 +95,14 @@ busy_is_exact header lines bytes n w limit r update e one =
     )
 
 pub equal_events_answer_alike : EqualEventsAnswerAlike
-equal_events_answer_alike header lines first second n w limit r k object e one two same =
+equal_events_answer_alike header lines others first second n w limit r k object e one two same =
     let kept = scripts_keep_worlds header lines n w limit e in
+    let also = scripts_keep_worlds header others n w limit e in
     let world = world_by n w limit lines in
+    let other = world_by n w limit others in
     let within_r : r < n = line_can_run n first (command.Ask r object) one in
     let within_k : k < n = line_can_run n second (command.Ask k object) two in
-    let answers = same_events_are_answered_alike world world r k object kept.0 kept.0 refl (omega (arith, kept.1)) (omega (arith, kept.1)) same in
+    let answers = same_events_are_answered_alike world other r k object kept.0 also.0 (kept.2 ∙ sym also.2) (omega (arith, kept.1)) (omega (arith, also.1)) same in
     ap (λ m. reply_text (line_reply world (line_of m first))) kept.1 ∙ ap (λ l. reply_text (line_reply world l)) one
     ∙ ap (λ answer. reply_text (Some (reply.Is answer))) answers
-    ∙ sym (ap (λ m. reply_text (line_reply world (line_of m second))) kept.1 ∙ ap (λ l. reply_text (line_reply world l)) two)
+    ∙ sym (ap (λ m. reply_text (line_reply other (line_of m second))) also.1 ∙ ap (λ l. reply_text (line_reply other l)) two)

@@ -42,12 +42,13 @@ BusyIsExact = (header : List ℕ) (lines : List (List ℕ)) (line : List ℕ) (n
     → (line_reply (world_by n w limit lines) (line_of n line) ≡ Some Busy)
     ↔ (unstable_operations n r (replica_of (world_by n w limit lines) r).history.present.messages r ≡ w)
 
--- after any lines, lines that ask two replicas of the same events for an object have the same reply
+-- lines that ask two replicas of the same events for an object have the same reply, after any lines behind a header: at one
+-- point of a script or at two
 abbrev pub EqualEventsAnswerAlike : Type 0
-EqualEventsAnswerAlike = (header : List ℕ) (lines : List (List ℕ)) (first second : List ℕ) (n w limit r k : ℕ) (object : ObjectId) → header_of header ≡ Some (Store n w limit)
+EqualEventsAnswerAlike = (header : List ℕ) (lines others : List (List ℕ)) (first second : List ℕ) (n w limit r k : ℕ) (object : ObjectId) → header_of header ≡ Some (Store n w limit)
     → line_of n first ≡ Run (Ask r object) → line_of n second ≡ Run (Ask k object)
-    → SameEvents (replica_of (world_by n w limit lines) r).history (replica_of (world_by n w limit lines) k).history
-    → text_of_line (world_by n w limit lines) first ≡ text_of_line (world_by n w limit lines) second
+    → SameEvents (replica_of (world_by n w limit lines) r).history (replica_of (world_by n w limit others) k).history
+    → text_of_line (world_by n w limit lines) first ≡ text_of_line (world_by n w limit others) second
 
 -- ---- one line more
 

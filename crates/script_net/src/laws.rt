@@ -9,7 +9,8 @@ pub fn scripts_keep_worlds()
     ensures logs { LogsAreBounded }
 {}
 
-/// What a line is replied to: `busy` exactly where the window is full, and the same answer by replicas of the same events.
+/// What a line is replied to: `busy` exactly where the window is full, and the same answer by replicas of the same
+/// events, at one point of a script or at two.
 pub fn lines_are_replied_to()
     ensures busy { BusyIsExact }
     ensures answers { EqualEventsAnswerAlike }
