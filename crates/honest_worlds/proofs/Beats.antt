@@ -6,12 +6,11 @@ use Rattle.op_base.specs.declared.operation.Op.{Op}
 use Rattle.causal_model.specs.Counts.{count_of}
 use Rattle.causal_model.specs.Sending.{is_noop_due, beats, quiet, held, beat_ended, beating, own_message}
 use Rattle.causal_model.specs.Stability.{carries_operation, unstable_noops, noop_window}
-use Rattle.causal_model.proofs.Windows.{windows_hold}
 use Rattle.world_model.specs.Honest.{RuleGives, IsHonest, delivered_by}
 use Rattle.honest_worlds.specs.Laws.{NoBeatIsHeld, NoopsAreFew}
 use Rattle.world_model.specs.World.{PlainWorld, size_of, replica_of, beating_at}
 use Rattle.honest_worlds.proofs.Noops.{IsDueBefore, noops_are_few, few_is_below_window}
-use Rattle.honest_worlds.proofs.SentMessages.{chapter_of, are_shared}
+use Rattle.honest_worlds.proofs.SentMessages.{are_shared}
 use Rattle.op_base.specs.declared.operation.Op.TheVariants as op
 
 module _ (world : PlainWorld) (honest : IsHonest world) where

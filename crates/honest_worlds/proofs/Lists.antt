@@ -1,12 +1,12 @@
 -- Facts on lists, counts and least numbers that speak of no store.
-use Rattle.std.proofs.Common.{◌≡◌, ◌≢◌, ℕ, zero, suc, ◌+◌, ◌*◌, ◌<◌, ◌≤◌, All, Bool, true, false, not, ◌&&◌, ◌||◌, ◌==◌, nat_lt, cond, Contains, List, [], ◌∷◌, ◌++◌, length, map, get_or, refl, sym, ap, subst, ◌∙◌, inl, inr, ◌⊎◌, arith, Some, zero-add}
+use Rattle.std.proofs.Common.{◌≡◌, ℕ, zero, suc, ◌+◌, ◌*◌, ◌<◌, ◌≤◌, All, Bool, true, false, ◌&&◌, ◌||◌, ◌==◌, cond, Contains, List, [], ◌∷◌, ◌++◌, length, map, get_or, refl, sym, ap, subst, ◌∙◌, inl, inr, ◌⊎◌, arith, Some, zero-add}
 use Rattle.std.specs.List.{list_any, sum_by, count_by, range_with_len, slice_get, fold}
-use Rattle.std.proofs.lemmas.Bool.{and_parts, and_from, or_left, or_right, or_cases, cases_Bool, cases_eq, cases_lt, cond-true, cond-false, eqb-true, eq-eqb, le-ltb, lt-ltb, ltb-true, eqb-false, not-true, false_from_ne_true}
+use Rattle.std.proofs.lemmas.Bool.{and_parts, and_from, or_left, or_right, or_cases, cases_Bool, cases_eq, cond-true, cond-false}
 use Rattle.std.proofs.lemmas.List.Elements.{All-head, All-tail}
 use Rattle.std.proofs.lemmas.List.Sums.{get_or-le-sum_by, sum_by-cons, sum_by-append}
 use Rattle.causal_model.specs.Counts.{members}
 use Rattle.causal_model.specs.Stability.{minimum}
-use Rattle.causal_model.proofs.Lists.{count_by-le-count_by, cond-le-cond, fold_has}
+use Rattle.causal_model.proofs.Lists.{cond-le-cond, fold_has}
 use Rattle.causal_model.proofs.Finds.{Contains-cons, found}
 use Rattle.std.proofs.lemmas.List.FromFn.{length-range_with_len, get_or-range_with_len}
 

@@ -1,7 +1,7 @@
 -- How many own no-ops can be unstable where messages are shared and each own no-op was due.
 use Rattle.std.proofs.Common.{◌≡◌, ◌≢◌, ℕ, zero, suc, ◌+◌, ◌-◌, ◌*◌, ◌<◌, ◌≤◌, All, Bool, true, false, not, ◌&&◌, ◌||◌, ◌==◌, nat_lt, cond, Contains, IsTrue, List, [], ◌∷◌, ◌++◌, length, get_or, refl, sym, ap, subst, ◌∙◌, inl, inr, ◌⊎◌, append_assoc, append-nil, arith}
 use Rattle.std.specs.List.{list_any, sum_by, filter, count_by}
-use Rattle.std.proofs.lemmas.Bool.{cases_Bool, and_parts, and_from, cases_eq, cases_lt, cond-true, cond-false, eqb-true, eq-eqb, ne_eqb, leb-true, le-leb, lt-ltb, ltb-true, ltb-false, eqb-false, false≢true, not-true, not_from_false, false_from_ne_true, both_ways}
+use Rattle.std.proofs.lemmas.Bool.{cases_Bool, and_parts, and_from, cases_eq, cases_lt, cond-true, cond-false, eqb-true, eq-eqb, ne_eqb, leb-true, le-leb, ltb-true, ltb-false, eqb-false, false≢true, not-true, not_from_false, false_from_ne_true, both_ways}
 use Rattle.std.proofs.lemmas.List.Elements.{All-nil, All-push, All-contains, All-weaker, Contains-append_left, Contains-append_right, Contains-append_cases, Contains-push, Contains-get_or}
 use Rattle.std.proofs.lemmas.List.Sums.{length-filter, sum_by_push, sum_by-cons, sum_by-append}
 use Rattle.op_base.specs.Timestamp.{entry}
@@ -189,8 +189,8 @@ module _ (n w r : ℕ) (P : ℕ → List Message) (are : AreShared n w P) (l : r
         let more = window_forces n w q r at_x.before H B x k chapter_x at_x.sent agree_x op_x full in
         let known = stable_count-le-known n q (at_x.before ++ x ∷ []) q r l in
         let vector : known_vector n q (at_x.before ++ x ∷ []) r ≡ last_tag n at_x.before r =
-            cond-false (r == q) (counts n (at_x.before ++ x ∷ [])) (last_tag n (at_x.before ++ x ∷ []) r) (ne_eqb r q (λ e. ne (sym e)))
-            ∙ last_tag-push n at_x.before x r ∙ cond-false (x.origin == r) x.tag (last_tag n at_x.before r) (ne_eqb x.origin r (λ e. ne (sym own_x ∙ e))) in
+        cond-false (r == q) (counts n (at_x.before ++ x ∷ [])) (last_tag n (at_x.before ++ x ∷ []) r) (ne_eqb r q (λ e. ne (sym e)))
+        ∙ last_tag-push n at_x.before x r ∙ cond-false (x.origin == r) x.tag (last_tag n at_x.before r) (ne_eqb x.origin r (λ e. ne (sym own_x ∙ e))) in
         omega (arith, more, known, ap (λ tag. entry tag q) vector)
 
     -- from a message of r that came after these, so x has seen o
@@ -353,10 +353,14 @@ module _ (n w r : ℕ) (P : ℕ → List Message) (are : AreShared n w P) (l : r
     some_other = elim (first_passing (λ v. nat_lt (entry (known_vector n r (P r) v) r) (number o)) n) [
       | inr none ↦ absurd (not_by_all (λ v lv. ltb-false (entry (known_vector n r (P r) v) r) (number o) (none v lv)))
       | inl found ↦
-          let less = ltb-true (entry (known_vector n r (P r) found.0) r) (number o) found.2 in
-          (found.0, found.1, (λ e.
-          let here : known_vector n r (P r) found.0 ≡ counts n (P r) = cond-true (found.0 == r) (counts n (P r)) (last_tag n (P r) found.0) (eq-eqb found.0 r e) in
-          omega (arith, less, ap (λ tag. entry tag r) here, entry-counts n (P r) r l, All-contains (λ z. number z ≤ count_of (P r) z.origin) (P r) o (numbers_are_counted n w r (P r) (are.chapter r l)) o_there, ap (count_of (P r)) own_o)), less)
+          let less = ltb-true (entry (known_vector n r (P r) found.0) r) (number o) found.2 in (
+            found.0,
+            found.1,
+            (λ e.
+                let here : known_vector n r (P r) found.0 ≡ counts n (P r) = cond-true (found.0 == r) (counts n (P r)) (last_tag n (P r) found.0) (eq-eqb found.0 r e) in
+                omega (arith, less, ap (λ tag. entry tag r) here, entry-counts n (P r) r l, All-contains (λ z. number z ≤ count_of (P r) z.origin) (P r) o (numbers_are_counted n w r (P r) (are.chapter r l)) o_there, ap (count_of (P r)) own_o)),
+            less,
+          )
     ]
 
     -- Where o is a no-op that an operation of another member made due, b has at most three windows and one less than twice a
@@ -402,13 +406,13 @@ module _ (n w r : ℕ) (P : ℕ → List Message) (are : AreShared n w P) (l : r
                       let no_later = count_by-le-on (operation_of q) (λ e. false) d.later (λ i z low t. absurd (both_ways (carries_operation (get_or d.later i z).op) (d.none i z low) (and_parts ((get_or d.later i z).origin == q) (carries_operation (get_or d.later i z).op) t).1)) in
                       let one : count_by (operation_of q) B ≡ 1 = omega (arith, sum_by_push (λ e. cond (operation_of q e) 1 0) (d.item ∷ d.later) o, sum_by-cons (λ e. cond (operation_of q e) 1 0) d.item d.later, no_later, count_by_none d.later, cond-false {A = ℕ} (operation_of q o) 1 0 no_o, cond-true {A = ℕ} (operation_of q d.item) 1 0 (and_from _ _ (eq-eqb d.item.origin q (sym made)) d.carries)) in
                       let behind : (e : Message) → Contains (B ++ b) e → e.origin ≡ r → number o ≤ number e = λ e has own.
-                          elim (Contains-append_cases (d.item ∷ d.later) (o ∷ b) e (subst (λ ms. Contains ms e) (append_assoc (d.item ∷ d.later) (o ∷ []) b) has)) [
-                            | inr from ↦ from_o e from own
-                            | inl before ↦ elim (member_cases d.item d.later e before) [
-                              | inl same ↦ absurd (d.other (ap (λ y. y.origin) same ∙ own))
-                              | inr later ↦ absurd (All-contains (λ y. y.origin ≢ r) d.later e d.others later own)
-                            ]
-                          ] in
+                      elim (Contains-append_cases (d.item ∷ d.later) (o ∷ b) e (subst (λ ms. Contains ms e) (append_assoc (d.item ∷ d.later) (o ∷ []) b) has)) [
+                        | inr from ↦ from_o e from own
+                        | inl before ↦ elim (member_cases d.item d.later e before) [
+                          | inl same ↦ absurd (d.other (ap (λ y. y.origin) same ∙ own))
+                          | inr later ↦ absurd (All-contains (λ y. y.origin ≢ r) d.later e d.others later own)
+                        ]
+                      ] in
                       let few : count_by (operation_of q) B ≤ w = omega (arith, one, wide) in
                       let is_d = cond-true {A = ℕ} (q == d.item.origin) 1 0 (eq-eqb q d.item.origin made) in
                       elim (cases_eq q u.0) [

@@ -155,7 +155,7 @@ sent_messages_are_near world r m honest l sent refused =
     let replica = honest.is_world.replicas r l in
     let h = (history_of world r).present in
     let near : is_far h.n world.w h.me (counts h.n h.messages) m ≡ false =
-        subst (λ me. is_far h.n world.w me (counts h.n h.messages) m ≡ false) (sym replica.of_member) (subst (λ u. is_far u world.w r (counts u h.messages) m ≡ false) (sym replica.of_store) (sent_is_near world honest r m l sent)) in
+    subst (λ me. is_far h.n world.w me (counts h.n h.messages) m ≡ false) (sym replica.of_member) (subst (λ u. is_far u world.w r (counts u h.messages) m ≡ false) (sym replica.of_store) (sent_is_near world honest r m l sent)) in
     both_ways (is_far h.n world.w h.me (counts h.n h.messages) m) near (far_is_far world.w (replica_of world r) m refused)
 
 -- ---- what was sent

@@ -1,5 +1,5 @@
 -- Scripts without a line of bytes: their worlds are honest, and their replies fair.
-use Rattle.std.proofs.Common.{not, ◌++◌, append-nil, ◌≡◌, ℕ, ◌<◌, Bool, true, false, All, List, [], ◌∷◌, Option, Some, None, refl, sym, ap, subst, ◌∙◌, if◌then◌else◌, arith}
+use Rattle.std.proofs.Common.{not, ◌++◌, append-nil, ◌≡◌, ℕ, ◌<◌, Bool, true, false, All, List, [], ◌∷◌, Option, Some, None, refl, sym, ap, subst, ◌∙◌}
 use Rattle.std.specs.List.{list_all, flat_map}
 use Rattle.std.proofs.lemmas.Bool.{false≢true, and_parts, not-true}
 use Rattle.std.proofs.lemmas.List.Elements.{All-nil, All-cons, All-append}
@@ -19,9 +19,8 @@ use Rattle.script_lang.specs.declared.reply.Reply.TheVariants as reply
 use Rattle.world_model.specs.Commands as world_command
 use Rattle.world_model.specs.Honest.{IsHonest, IsSentMessage, KeepsHonest}
 use Rattle.world_model.specs.Offering.{offered_between, resending_of}
-use Rattle.world_model.specs.Settling.{is_delivery, is_settled, world_settled}
-use Rattle.world_model.specs.World.{PlainWorld, size_of, opening, replica_of, sending_at, beating_at, receiving_at, sent_message, giving_of}
-use Rattle.world_model.specs.Worlds.{KeepsWorld}
+use Rattle.world_model.specs.Settling.{is_delivery}
+use Rattle.world_model.specs.World.{PlainWorld, size_of, opening, sending_at, beating_at, receiving_at, sent_message, giving_of}
 use Rattle.honest_worlds.proofs.Beats.{no_beat_is_held}
 use Rattle.honest_worlds.proofs.Commands.{commands_keep_honest, opening_is_honest, steps_deliver, resent_steps_deliver, sent_message_was_sent}
 use Rattle.honest_worlds.proofs.SentMessages.{sent_messages_are_near}
@@ -30,7 +29,6 @@ use Rattle.world_model.proofs.Worlds.{world_keeps_itself, kept_twice, opening_ha
 use Rattle.script_net.specs.Commands.{steps_reply, command_reply, command_world, sending_reply, beating_reply, receiving_reply, giving_reply, resending_reply, settling_reply}
 use Rattle.script_net.specs.Honest.{offers_bytes, are_unforged, are_unforged_from, is_fair, IsFairText}
 use Rattle.script_net.specs.HonestLaws.{ScriptsAreHonest, TranscriptsAreFair}
-use Rattle.script_net.specs.Laws.{world_by}
 use Rattle.script_net.specs.Lines.{lines_of, from_command}
 use Rattle.script_lang.specs.Headers.{header_of}
 use Rattle.script_lang.specs.Replies.{reply_line}
