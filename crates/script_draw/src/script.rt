@@ -1,0 +1,140 @@
+//! A script's lines and its header.
+
+ghost use Rattle.std.specs.Prelude.{◌≡◌, ◌↔◌, true, false, Err, map, IfOk, IsOk, IsErrOf};
+ghost use Rattle.std.specs.List.{slice_split};
+ghost use Rattle.std.specs.Str.Lines.{strip_carriage_return};
+ghost use Rattle.script_lang.specs.Headers.{header_of};
+ghost use Rattle.script_net.specs.Lines.{is_newline, lines_of, from_command};
+ghost use Rattle.script_draw.specs.Opening.{opens_store, has_header};
+
+use op_base::NoMemory;
+use replica_core::CreateFault;
+use script_lang::{Header, is_passed_over, read_header};
+use script_net::Runner;
+use std::alloc::{AllocError, Global};
+
+/// Why there is no picture.
+#[derive(Clone, Copy, Debug, PartialEq, Eq)]
+pub enum DrawFault {
+    /// The first command line is no header of a script, or there is none.
+    BadHeader,
+    /// There was no memory.
+    NoMemory,
+}
+
+impl From<NoMemory> for DrawFault {
+    ghost use Rattle.std.specs.Prelude.{◌≡◌};
+    ghost use Rattle.script_draw.specs.declared.script.DrawFault.TheVariants as faults;
+
+    ghost from_gives = { λ _ e. e ≡ faults.NoMemory };
+
+    fn from(_fault: NoMemory) -> DrawFault {
+        DrawFault::NoMemory
+    }
+}
+
+impl From<AllocError> for DrawFault {
+    ghost use Rattle.std.specs.Prelude.{◌≡◌};
+    ghost use Rattle.script_draw.specs.declared.script.DrawFault.TheVariants as faults;
+
+    ghost from_gives = { λ _ e. e ≡ faults.NoMemory };
+
+    fn from(_fault: AllocError) -> DrawFault {
+        DrawFault::NoMemory
+    }
+}
+
+/// A script, opened at its header.
+#[derive(Drop)]
+pub struct Opened<'a> {
+    pub n: u8,
+    pub runner: Runner,
+    /// How many lines the header is behind, itself among them.
+    pub passed: usize,
+    /// The lines behind the header.
+    pub lines: Vec<&'a [u8]>,
+}
+
+/// A line, without a carriage return at its end.
+fn without_return(line: &[u8]) -> &[u8]
+    ensures { result.now ≡ strip_carriage_return line.now }
+{
+    match line {
+        [front @ .., b'\r'] => front,
+        _ => line,
+    }
+}
+
+/// What stands between the newlines of a script.
+fn parts_of(alloc: Global, script: &[u8]) -> Result<Vec<&[u8]>, NoMemory>
+    ensures { IfOk result (λ parts. map (λ part. part.now) parts.items ≡ slice_split is_newline script.now) }
+{
+    Ok(script.split(|b| *b == b'\n').collect(alloc)?)
+}
+
+/// The lines of a script.
+fn lines_of(alloc: Global, script: &[u8]) -> Result<Vec<&[u8]>, NoMemory>
+    ensures { IfOk result (λ lines. map (λ line. line.now) lines.items ≡ lines_of script.now) }
+{
+    let parts = parts_of(alloc, script)?;
+    let mut lines = Vec::new(alloc);
+    for part in parts.iter() {
+        lines.push(without_return(part))?;
+    }
+    Ok(lines)
+}
+
+/// The lines from the first command line on.
+fn from_command<'a, 'b>(lines: &'b [&'a [u8]]) -> &'b [&'a [u8]]
+    ensures { map (λ line. line.now) result.now ≡ from_command (map (λ line. line.now) lines.now) }
+{
+    let mut rest = lines;
+    while let [line, after @ ..] = rest
+        && is_passed_over(line)
+    {
+        rest = after;
+    }
+    rest
+}
+
+/// The store that a header opens.
+fn run_of(alloc: Global, line: &[u8]) -> Result<(u8, Runner), DrawFault>
+    ensures { IsErrOf result DrawFault.BadHeader ↔ (opens_store (header_of line.now) ≡ false) }
+{
+    let Some(Header::Store { n, w, limit }) = read_header(line) else {
+        return Err(DrawFault::BadHeader);
+    };
+    match Runner::create(alloc, n, w, limit) {
+        Ok(runner) => Ok((n, runner)),
+        Err(CreateFault::BadNumbers) => unreachable!(),
+        Err(CreateFault::NoMemory) => Err(DrawFault::NoMemory),
+    }
+}
+
+/// Opens a script at its header.
+pub fn open(alloc: Global, script: &[u8]) -> Result<Opened<'_>, DrawFault>
+    ensures headless { result ≡ Err DrawFault.BadHeader → has_header script.now ≡ false }
+    ensures opens { IsOk result → has_header script.now ≡ true }
+{
+    let lines = lines_of(alloc, script)?;
+    let command_lines = from_command(&lines);
+    let [header, rest @ ..] = command_lines else {
+        return Err(DrawFault::BadHeader);
+    };
+    let (n, runner) = run_of(alloc, header)?;
+    Ok(Opened {
+        n,
+        runner,
+        passed: lines.len().saturating_sub(rest.len()),
+        lines: rest.to_vec(alloc)?,
+    })
+}
+
+/// The reply to a line, without its newline; nothing where the line is passed over.
+pub fn reply_to(alloc: Global, runner: &mut Runner, line: &[u8]) -> Result<Vec<u8>, NoMemory> {
+    let mut text = op_base::Text::new(alloc);
+    runner.line(alloc, line, &mut text)?;
+    let mut reply = text.into_vec();
+    let _newline = reply.pop();
+    Ok(reply)
+}
