@@ -1,6 +1,6 @@
 //! A peer, and what it tells.
 
-ghost use Rattle.std.specs.Prelude.{◌≡◌, ◌↔◌, IsTrue, IfOk, IsErrOf, false};
+ghost use Rattle.std.specs.Prelude.{◌≡◌, ◌↔◌, length, IfOk, IsErrOf, false};
 ghost use Rattle.causal_model.specs.History.{events};
 ghost use Rattle.causal_model.specs.Query.{answer};
 ghost use Rattle.causal_model.specs.Receiving.{State, start, counted};
@@ -56,14 +56,16 @@ impl Peer {
 
     /// How many messages of each member were delivered here.
     pub fn seen(&self) -> Tag
-        ensures { (s : State) → StandsFor self.now s → result ≡ counted s.history }
+        ensures counts { (s : State) → StandsFor self.now s → result ≡ counted s.history }
+        ensures members { length result ≡ self.now.n }
     {
         self.replica.counts
     }
 
     /// How many messages of each member every member is known to have, by what was told here.
     pub fn stable(&self) -> Tag
-        ensures { (s : State) → StandsFor self.now s → result ≡ stable_vector self.now.n self.now.me s.history.present.messages }
+        ensures counts { (s : State) → StandsFor self.now s → result ≡ stable_vector self.now.n self.now.me s.history.present.messages }
+        ensures members { length result ≡ self.now.n }
     {
         self.replica.matrix.stable()
     }

@@ -1,7 +1,7 @@
 //! What no clause says: that a peer's calls go well where there is memory, and what two peers come to.
 
 use crate::{Beat, CreateFault, Heard, Peer, Updated};
-use op_base::{Act, Answer, ObjectId, Update};
+use op_base::{Act, Answer, ObjectId, Tag, Update};
 use std::alloc::Global;
 use std::test::Fail;
 
@@ -71,17 +71,24 @@ fn counts(alloc: Global, peer: &Peer, sum: i128) -> Result<bool, Fail> {
 /// Whether a peer sends these frames again, and no others.
 fn sends_again(alloc: Global, peer: &Peer, frames: &[&[u8]]) -> Result<bool, Fail> {
     let again = peer.to_send_again(alloc)?;
-    Ok(again.len() == frames.len()
-        && again
-            .as_slice()
-            .iter()
-            .zip(frames)
-            .all(|(sent, frame)| sent.as_slice() == *frame))
+    Ok(
+        again.len() == frames.len()
+            && again
+                .as_slice()
+                .iter()
+                .zip(frames)
+                .all(|(sent, frame)| sent.as_slice() == *frame),
+    )
 }
 
 #[test]
 fn a_member_is_below_the_number_of_members(rt: HostRuntime) -> Result<(), Fail> {
-    assert!(rt; matches!(Peer::create(rt.alloc(), 2, 2, 2, 9), Err(CreateFault::BadNumbers)));
+    assert!(rt;
+        matches!(
+            Peer::create(rt.alloc(), 2, 2, 2, 9),
+            Err(CreateFault::BadNumbers)
+        )
+    );
     Ok(())
 }
 
@@ -103,7 +110,11 @@ fn until_it_is_confirmed(rt: HostRuntime) -> Result<(), Fail> {
     assert!(rt; sends(alloc, &mut one, 5, &FIRST)?);
     assert_eq!(rt; hear(alloc, &mut one, &NOOP), "took");
     assert!(rt; sends_again(alloc, &one, &[])?);
-    assert_eq!(rt; (one.seen().at(1), one.stable().at(0)), (1, 1));
+    let mut confirmed = Tag::zero(2);
+    confirmed.set(0, 1);
+    assert_eq!(rt; one.stable(), confirmed);
+    confirmed.set(1, 1);
+    assert_eq!(rt; one.seen(), confirmed);
     Ok(())
 }
 
