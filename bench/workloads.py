@@ -1,0 +1,158 @@
+"""The workloads of `bench/scripts`: what a script is of, and the lines of its script."""
+
+import random
+
+from made import frame as frame_of, gen
+
+# A script has at most so many bytes.
+CAP = 4194304
+
+
+def one_member():  # the limit is 65535 messages: later lines answer `end`
+    s, size, i = ['store 1 64 65535'], 17, 0
+    while True:
+        l = f'do 0 counter:k{i % 100} inc {i % 1000}'
+        if size + len(l) + 1 > CAP: return s
+        s.append(l); size += len(l) + 1; i += 1
+
+
+def one_member_asks(own=65000):  # own operations, then questions up to 4 MB
+    s, size, i = ['store 1 64 65535'], 17, 0
+    while True:
+        l = f'do 0 counter:k{i % 100} inc {i % 1000}' if i < own else f'ask 0 counter:k{i % 100}'
+        if size + len(l) + 1 > CAP: return s
+        s.append(l); size += len(l) + 1; i += 1
+
+
+def write_heavy():  # each member in turn adds; every 8 operations the members resend round, with beats
+    R = random.Random(3)
+    s, size, i = ['store 3 64 65535'], 16, 0
+    while True:
+        ls = [f'do {(i + j) % 3} awset:big add value-{R.randrange(1000):04d}' for j in range(8)]
+        i += 8
+        ls += [f'resend {a} {b}' for a in range(3) for b in range(3) if a != b]
+        if i % 32 == 0: ls += ['beat 0', 'beat 1', 'beat 2']
+        k = sum(len(l) + 1 for l in ls)
+        if size + k > CAP: return s
+        s += ls; size += k
+
+
+def ask_heavy():
+    s = ['store 1 64 65535'] + [f'do 0 awset:big add value-{i * 7919 % 1000:04d}' for i in range(1000)]
+    return s + ['ask 0 awset:big'] * 20000
+
+
+def frame(n, k, tag, code, key=b'', value=b'', version=1):
+    return frame_of(version, n, k, tag, code, key, value).hex()
+
+
+def deep_raw(n=3, w=64, total=20000, version=1, limit=65535):
+    # members 1.. send batches of operations to replica 0; each batch comes in reverse order, so it is kept
+    # until its first message comes. 0's own beats never reach the forged members, so nothing of them is
+    # acknowledged by us: each batch's first message names what was seen, and makes the last batch stable.
+    s, c, made = [f'store {n} {w} {limit}'], [0] * n, 0
+    while made < total:
+        old = c[:]
+        frames = []
+        for k in range(1, n):
+            for j in range(1, w + 1):
+                tag = old[:]; tag[k] = old[k] + j
+                key = b's'; val = b'v%d' % ((old[k] + j) % 100)
+                frames.append((k, f'raw 0 {frame(n, k, tag, 1, key, val, version)}'))
+            c[k] = old[k] + w
+        for j in range(w - 1, -1, -1):
+            for k in range(1, n): s.append(frames[(k - 1) * w + j][1]); made += 1
+        # each member shows by a no-op that it saw the batches: then they are stable
+        for k in range(1, n):
+            c[k] += 1
+            tag = [c[x] if x == k else old[x] + w if x else 0 for x in range(n)]
+            s.append(f'raw 0 {frame(n, k, tag, 0, version=version)}'); made += 1
+    return s
+
+
+def chain_raw(n=16, w=64):
+    # one chain through all members, message i happened after message i - 1, brought in reverse order:
+    # each line but the last is kept, the last delivers all. Small chains, many of them, then the largest.
+    s, c = [f'store {n} {w} 65535'], [0] * n
+    for length in [15 * 63] * 20:
+        ls = []
+        for i in range(length):
+            k = 1 + i % (n - 1)
+            c[k] += 1
+            val = b'v%d' % i
+            ls.append(f'raw 0 {frame(n, k, c, 1, b"s", val)}')
+        s += ls[::-1]
+        for k in range(1, n):
+            c[k] += 1
+            s.append(f'raw 0 {frame(n, k, c, 0)}')
+    return s
+
+
+def full_windows(times, ops=None, n=16, w=64):
+    R = random.Random(6)
+    kinds = [('awset', ['add', 'rmv']), ('rwset', ['add', 'rmv']), ('mvreg', ['write'])]
+    s = [f'store {n} {w} 65535']
+    for t in range(times):
+        for r in range(n):
+            for _ in range(w):
+                k, ws = R.choice(kinds)
+                s.append(f'do {r} {k}:k{R.randrange(2)} {R.choice(ws)} v{R.randrange(64)}')
+        s.append('settle')
+    return s + ['size 0', 'ask 0 awset:k0', 'ask 15 rwset:k1', 'ask 7 mvreg:k0']
+
+
+def many_items():  # growth in items: one member, 60000 different values of one set
+    return ['store 1 64 65535'] + [f'do 0 awset:big add value-{i * 7919 % 60000:05d}' for i in range(60000)] + ['size 0']
+
+
+def many_objects():
+    return ['store 1 64 65535'] + [f'do 0 counter:k{i * 7919 % 60000:05d} inc 1' for i in range(60000)] + ['size 0']
+
+
+def clears():  # a large settled set beside which another is cleared
+    return ['store 1 64 65535'] + [f'do 0 awset:big add value-{i:04d}' for i in range(5000)] + ['do 0 awset:small add x', 'do 0 awset:small clear'] * 15000
+
+
+def long_values():  # values of 4096 bytes: adds with resends round, asks of sets of at most 4 values, 4 MB
+    s, size, i = ['store 3 64'], 11, 0
+    while True:
+        v = f'{i // 4 * 7919 % 4}-'.ljust(4096, 'v')
+        ls = [f'do {i % 3} awset:k{i % 4} add {v}']
+        i += 1
+        if i % 4 == 0: ls += [f'resend {a} {b}' for a in range(3) for b in range(3) if a != b] + ['beat 0', 'beat 1', 'beat 2']
+        ls.append(f'ask {i % 3} awset:k{i // 3 % 4}')
+        k = sum(len(l) + 1 for l in ls)
+        if size + k > CAP: return s
+        s += ls; size += k
+
+
+def long_members():  # many messages of one member beyond 65535
+    return ['store 2 64 1000000'] + [l for i in range(24000) for l in ([f'do 0 counter:k{i % 100} inc {i % 1000}'] * 4 + ['resend 1 0', 'beat 1', 'resend 0 1'])]
+
+
+def comment(): return ['# ' + 'x' * 4000000, 'store 1 1']
+
+
+# Each workload's word, what it is, and what makes its lines.
+WORKLOADS = {
+    "a": ("one member, 4 MB of inc", one_member),
+    "a2": ("65000 inc, then asks, 4 MB", one_member_asks),
+    "b1": ("gen 7 20000 16 64", lambda: gen(7, 20000, 16, 64)),
+    "b2": ("gen 7 2000 3 4", lambda: gen(7, 2000, 3, 4)),
+    "b3": ("gen 7 20000 3 4", lambda: gen(7, 20000, 3, 4)),
+    "b4": ("gen 7 100000 16 64", lambda: gen(7, 100000, 16, 64)),
+    "c": ("adds of 3 members, 4 MB", write_heavy),
+    "d": ("20000 asks of 1000 values", ask_heavy),
+    "e": ("raw, batches reversed", deep_raw),
+    "e2": ("raw, chains of 945 reversed", chain_raw),
+    "e3": ("e in frames of version 2", lambda: deep_raw(version=2)),
+    "e4": ("e3, limit 1000000", lambda: deep_raw(version=2, limit=1000000)),
+    "f": ("settle, 16 full windows", lambda: full_windows(1)),
+    "f2": ("the same 8 times", lambda: full_windows(8)),
+    "g": ("60000 settled values", many_items),
+    "h": ("60000 counters", many_objects),
+    "i": ("30000 ops by 5000 values", clears),
+    "j": ("one line of 4 MB", comment),
+    "k": ("values of 4096 bytes, 4 MB", long_values),
+    "l": ("96000 inc, limit 1000000", long_members),
+}
