@@ -265,7 +265,7 @@ fn put_explanation(
 
 /// What explains the shade.
 const SHADE: &str =
-    "how many of the operations delivered here it was told to be everywhere; on top: lines of the script";
+    "shade: the part of the operations it delivered that it was told are everywhere; on top: script lines";
 
 /// Puts the notice of a run that had more marks.
 fn put_cut(y: u32, out: &mut String) -> Result<(), NoMemory> {

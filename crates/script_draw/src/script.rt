@@ -1,13 +1,17 @@
 //! A script's lines and its header.
 
-ghost use Rattle.std.specs.Prelude.{◌≡◌, ◌↔◌, true, false, Err, map, IfOk, IsOk, IsErrOf};
+ghost use Rattle.std.specs.Prelude.{◌≡◌, ◌↔◌, true, false, Some, Err, map, IfOk, OnOk, IsOk, IsErrOf};
 ghost use Rattle.std.specs.List.{slice_split};
 ghost use Rattle.std.specs.Str.Lines.{strip_carriage_return};
 ghost use Rattle.script_lang.specs.Headers.{header_of};
+ghost use Rattle.world_model.specs.World.{PlainWorld};
 ghost use Rattle.script_net.specs.Lines.{is_newline, lines_of, from_command};
+ghost use Rattle.script_net.specs.Runs.{RunsIn};
+ghost use Rattle.script_net.specs.Transcript.{opened, text_of_line, world_of_line};
 ghost use Rattle.script_draw.specs.Opening.{opens_store, has_header};
+ghost use Rattle.script_draw.specs.Runs.{StandsBehind, without_newline};
 
-use op_base::NoMemory;
+use op_base::{NoMemory, Text};
 use replica_core::CreateFault;
 use script_lang::{Header, is_passed_over, read_header};
 use script_net::Runner;
@@ -99,7 +103,8 @@ fn from_command<'a, 'b>(lines: &'b [&'a [u8]]) -> &'b [&'a [u8]]
 
 /// The store that a header opens.
 fn run_of(alloc: Global, line: &[u8]) -> Result<(u8, Runner), DrawFault>
-    ensures { IsErrOf result DrawFault.BadHeader ↔ (opens_store (header_of line.now) ≡ false) }
+    ensures bad_header { IsErrOf result DrawFault.BadHeader ↔ (opens_store (header_of line.now) ≡ false) }
+    ensures opens { IfOk result (λ run. (plain : PlainWorld) × (opened (header_of line.now) ≡ Some plain) × RunsIn run.1 plain) }
 {
     let Some(Header::Store { n, w, limit }) = read_header(line) else {
         return Err(DrawFault::BadHeader);
@@ -111,8 +116,9 @@ fn run_of(alloc: Global, line: &[u8]) -> Result<(u8, Runner), DrawFault>
     }
 }
 
-/// Opens a script at its header.
+/// Opens a script at its header: what is run then is the lines behind it, in the plain world that it opens.
 pub fn open(alloc: Global, script: &[u8]) -> Result<Opened<'_>, DrawFault>
+    ensures stands { IfOk result (λ run. StandsBehind (from_command (lines_of script.now)) run.runner (map (λ line. line.now) run.lines.items)) }
     ensures headless { result ≡ Err DrawFault.BadHeader → has_header script.now ≡ false }
     ensures opens { IsOk result → has_header script.now ≡ true }
 {
@@ -130,9 +136,12 @@ pub fn open(alloc: Global, script: &[u8]) -> Result<Opened<'_>, DrawFault>
     })
 }
 
-/// The reply to a line, without its newline; nothing where the line is passed over.
-pub fn reply_to(alloc: Global, runner: &mut Runner, line: &[u8]) -> Result<Vec<u8>, NoMemory> {
-    let mut text = op_base::Text::new(alloc);
+/// Runs a line. Its reply, without its newline; nothing where the line is passed over.
+pub fn reply_to(alloc: Global, runner: &mut Runner, line: &[u8]) -> Result<Vec<u8>, NoMemory>
+    ensures reply { (plain : PlainWorld) → RunsIn runner.old plain → IfOk result (λ reply. reply.items ≡ without_newline (text_of_line plain line.now)) }
+    ensures world { (plain : PlainWorld) → RunsIn runner.old plain → OnOk result (RunsIn runner.new (world_of_line plain line.now)) }
+{
+    let mut text = Text::new(alloc);
     runner.line(alloc, line, &mut text)?;
     let mut reply = text.into_vec();
     let _newline = reply.pop();

@@ -1,0 +1,33 @@
+//! Draws a script's run: reads the script from standard input, and writes its picture as SVG, or with the word `--table` a
+//! table of it.
+#![tactic(auto)]
+
+mod run;
+#[cfg(test)]
+mod tests;
+
+use run::{Status, run};
+use std::process::ExitCode;
+use std::rt::Env;
+use std::{env, io};
+use store_io::{StdinSource, StdoutSink};
+
+fn main(rt: HostRuntime) -> ExitCode {
+    let words = match given_words(&rt) {
+        Ok(words) => words,
+        Err(status) => return status.exit_code(),
+    };
+    let mut source = StdinSource::new(&rt);
+    let mut sink = StdoutSink::new(&rt);
+    run(rt.alloc(), words.as_slice(), &mut source, &mut sink).exit_code()
+}
+
+/// The program's words, its own name first. Words that aren't UTF-8 are none of a run's.
+fn given_words(rt: &(impl Env + AllocGlobal)) -> Result<Vec<String>, Status> {
+    let words = match env::args(rt) {
+        Ok(words) => words.collect(rt.alloc()),
+        Err(error) if error.kind() == io::ErrorKind::InvalidData => return Err(Status::BadWords),
+        Err(_) => return Err(Status::NoMemory),
+    };
+    words.map_err(|_| Status::NoMemory)
+}
