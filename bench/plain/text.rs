@@ -122,7 +122,7 @@ const KEY_BYTE: [bool; 256] = {
     t
 };
 fn key_ok(b: &[u8]) -> bool { (1..=32).contains(&b.len()) && b.iter().all(|c| KEY_BYTE[*c as usize]) }
-pub fn value_ok(b: &[u8]) -> bool {
+fn value_ok(b: &[u8]) -> bool {
     if !(1..=4096).contains(&b.len()) { return false; }
     let (mut low, mut all) = (false, 0u8);
     for c in b { low |= *c <= 0x20 || *c == 0x7f; all |= *c; }
@@ -137,7 +137,7 @@ pub fn object(b: &[u8]) -> Option<(Kind, &[u8])> {
     let k = kind(&b[..i])?;
     if key_ok(&b[i + 1..]) { Some((k, &b[i + 1..])) } else { None }
 }
-pub fn code(k: Kind, word: &[u8]) -> Option<u8> {
+fn code(k: Kind, word: &[u8]) -> Option<u8> {
     Some(match (k, word) {
         (AwSet, b"add") => 1, (AwSet, b"rmv") => 2, (AwSet, b"clear") => 3,
         (RwSet, b"add") => 4, (RwSet, b"rmv") => 5, (RwSet, b"clear") => 6,
