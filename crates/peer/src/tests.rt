@@ -108,13 +108,14 @@ fn until_it_is_confirmed(rt: HostRuntime) -> Result<(), Fail> {
     let alloc = rt.alloc();
     let mut one = peer(alloc, 0)?;
     assert!(rt; sends(alloc, &mut one, 5, &FIRST)?);
+    let mut counts = Tag::zero(2);
+    assert_eq!(rt; one.stable(), counts);
+    counts.set(0, 1);
+    assert_eq!(rt; one.seen(), counts);
     assert_eq!(rt; hear(alloc, &mut one, &NOOP), "took");
+    counts.set(1, 1);
+    assert_eq!(rt; one.stable(), counts);
     assert!(rt; sends_again(alloc, &one, &[])?);
-    let mut confirmed = Tag::zero(2);
-    confirmed.set(0, 1);
-    assert_eq!(rt; one.stable(), confirmed);
-    confirmed.set(1, 1);
-    assert_eq!(rt; one.seen(), confirmed);
     Ok(())
 }
 
