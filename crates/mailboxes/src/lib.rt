@@ -2,7 +2,7 @@
 //!
 //! The queue is that of `crossbeam_queue`, under a rule of this crate's: there is one list of the items that were ever
 //! posted, each with the number of the pass that posted it, and the queue holds the items of that list from the number
-//! that were taken on.
+//! that were taken on. Public clauses say of it what one pass has seen; passes meet by `fork` and `join` alone.
 #![tactic(auto)]
 
 mod laws;

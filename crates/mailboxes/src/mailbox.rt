@@ -75,8 +75,8 @@ impl<T> Mailbox<T> {
         })
     }
 
-    /// Puts an item at the back. It comes back only where the mailbox was full at a step of this call, and then the
-    /// pass has seen what it had.
+    /// Puts an item at the end of the list. Where it comes back, the pass has seen what it had; and where the pass knows
+    /// all, since it is the first and every fork was joined, the mailbox was full.
     pub fn post<R: Wait>(&self, rt: &R, pass: &mut MailPass<T>, item: T) -> Result<(), T>
         requires of { IsOf self.now pass.old }
         ensures of { IsOfTheSame pass.old pass.new }
@@ -89,8 +89,8 @@ impl<T> Mailbox<T> {
         self.queue.push_as::<Post, R>(rt, &mut pass.pass, item)
     }
 
-    /// Takes the item at the front. `None` comes only where the mailbox was empty at a step of this call, and then the
-    /// pass has seen what it had.
+    /// Takes an item of the list, at a place not below how many the pass had seen taken; where the pass knows all, the
+    /// oldest. Where it is `None`, the pass has seen what it had; and where the pass knows all, the mailbox was empty.
     pub fn take<R: Wait>(&self, rt: &R, pass: &mut MailPass<T>) -> Option<T>
         requires of { IsOf self.now pass.old }
         ensures of { IsOfTheSame pass.old pass.new }

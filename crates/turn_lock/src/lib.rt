@@ -1,8 +1,9 @@
-//! A ticket lock round one value, whose every turn is an entry of one list.
+//! A ticket lock round one value.
 //!
-//! A pass enters a turn, has the value to itself, and leaves the turn with an entry of the list or
-//! with none. What a pass has seen is a front of that list, and the value that its turn hands it
-//! fits just that front. `specs/Turns.antt` has the words of the contracts.
+//! A pass enters a turn, has the value to itself, and leaves the turn with an entry of a list or
+//! with none. The value that a turn hands out fits what its pass then has seen, a list that begins
+//! with what it had seen. Passes meet by `split`, `join` and `close`: on closing, what each joined
+//! pass had seen is a front of the opener's list. `specs/Turns.antt` has the words of the contracts.
 #![tactic(auto)]
 
 mod laws;

@@ -22,7 +22,7 @@ pub struct View<E, K> {
     /// The number of a pass.
     pub number: u64,
     pub about: K,
-    /// A front of the one list.
+    /// What it has seen of the turns.
     pub seen: LinkedList<TurnEntry<E>>,
     /// What the passes that the opener joined had seen, the last one first.
     pub fronts: LinkedList<LinkedList<TurnEntry<E>>>,
