@@ -1,5 +1,5 @@
 -- What a peer hears is what its replica receives.
-use Rattle.std.proofs.Common.{◌≡◌, ℕ, ◌≤◌, ◌<◌, ◌^◌, IsTrue, List, [], Ok, None, slice_index_or, nat_le, arith}
+use Rattle.std.proofs.Common.{◌≡◌, ℕ, ◌<◌, ◌^◌, IsTrue, List, Ok, slice_index_or, nat_le, arith}
 use Rattle.std.specs.List.{list_all}
 use Rattle.std.proofs.lemmas.Bool.{and_from, le-leb}
 use Rattle.std.proofs.lemmas.List.Sums.{list_all-from_AllPass}
@@ -7,7 +7,6 @@ use Rattle.op_base.specs.Valid.{is_valid}
 use Rattle.op_base.specs.declared.message.Message.{Message}
 use Rattle.causal_model.specs.Counts.{is_carried}
 use Rattle.causal_model.specs.Receiving.{State}
-use Rattle.frame_codec.specs.Fault.{frame_fault}
 use Rattle.frame_codec.specs.Grammar.{IsFrame}
 use Rattle.frame_codec.specs.Message.{frame_read}
 use Rattle.frame_codec.proofs.Frames.{frames_pass}

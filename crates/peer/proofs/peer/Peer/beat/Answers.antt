@@ -1,4 +1,4 @@
-use Rattle.std.proofs.Common.{◌≡◌, true, rules, sym, ap, subst, ◌∙◌}
+use Rattle.std.proofs.Common.{◌≡◌, true, rules, sym, subst, ◌∙◌}
 use Rattle.causal_model.specs.Receiving.{State}
 use Rattle.causal_model.specs.Sending.{beat_ended}
 use Rattle.replica_core.specs.Rules.{StandsFor, fields_of, beating_of}

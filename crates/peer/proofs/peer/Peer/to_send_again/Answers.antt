@@ -1,4 +1,4 @@
-use Rattle.std.proofs.Common.{IsTrue, List, All, sym, ap, subst}
+use Rattle.std.proofs.Common.{IsTrue, List, All, sym, subst}
 use Rattle.op_base.specs.Message.{fits}
 use Rattle.op_base.specs.declared.message.Message.{Message}
 use Rattle.peer.proofs.Sends.{outbox_fits_in}

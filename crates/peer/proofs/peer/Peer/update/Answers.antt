@@ -9,7 +9,7 @@ use Rattle.replica_core.proofs.Bounds.{is_bounded}
 use Rattle.replica_core.proofs.Sends.{sending_has_ended, sending_sends, more_may_be_sent}
 use Rattle.peer.specs.Rules.{AnswersUpdate, frame_at}
 use Rattle.peer.specs.declared.answers.Updated.{Updated}
-use Rattle.peer.proofs.Sends.{answers_update, update_refused}
+use Rattle.peer.proofs.Sends.{answers_update}
 use Rattle.peer.proofs.peer.Peer.update.Goals as goal
 
 pub returns-then-is_busy-clause-bounded : goal.returns-then-is_busy-clause-bounded
