@@ -1,10 +1,10 @@
 -- The queues that a buffer keeps, after an edit of one of them, and what is next.
-use Rattle.std.proofs.Common.{◌≡◌, ◌≢◌, ℕ, ◌+◌, ◌^◌, ◌<◌, ◌≤◌, Bool, true, false, not, cond, ◌&&◌, if◌then◌else◌, ◌==◌, nat_lt, IsTrue, All, List, [], ◌∷◌, ◌++◌, length, get_or, set, refl, sym, ap, subst, ◌∙◌, inl, inr, Option, Some, None, Bor, arith}
+use Rattle.std.proofs.Common.{◌≡◌, ◌≢◌, ℕ, ◌+◌, ◌^◌, ◌<◌, ◌≤◌, Bool, true, false, not, cond, ◌&&◌, ◌==◌, nat_lt, IsTrue, All, List, [], ◌∷◌, ◌++◌, length, get_or, set, refl, sym, ap, subst, ◌∙◌, inl, inr, Option, Some, None, Bor, arith}
 use Rattle.std.specs.List.{find, list_any, flat_map}
 use Rattle.std.specs.Option.{is_some, option_map, option_copied, option_to_list}
 use Rattle.std.specs.Bool.{then_some}
 use Rattle.std.specs.VecDeque.{deque_capacity}
-use Rattle.std.proofs.lemmas.Bool.{and_left, and_right, and_parts, or_left, or_from, lt-ltb, le-ltb, cases_eq, cond-false, false≢true, false_from_ne_true, ne_eqb, eq-eqb, eqb-true, not-true}
+use Rattle.std.proofs.lemmas.Bool.{and_left, and_right, and_parts, or_left, or_from, lt-ltb, le-ltb, cases_eq, false≢true, false_from_ne_true, ne_eqb, eq-eqb, eqb-true, not-true}
 use Rattle.std.proofs.lemmas.List.{get_or_default, get_or-set_same, get_or-set_other, length-set, length-append, get_or_append_left}
 use Rattle.std.proofs.Math.Seq.{get_or-append_seam}
 use Rattle.std.proofs.lemmas.List.Elements.{All-nil, All-cons, All-head, All-tail, All-filter, filter_passes}
@@ -14,11 +14,11 @@ use Rattle.op_base.specs.declared.message.Message.{Message}
 use Rattle.op_base.specs.declared.tag.MessageId.{MessageId}
 use Rattle.causal_model.specs.Counts.{is_deliverable}
 use Rattle.causal_model.specs.Stability.{noop_window}
-use Rattle.causal_model.specs.Receiving.{is_again, is_far, stands_before, put_early, has_id, without}
+use Rattle.causal_model.specs.Receiving.{is_far}
+use Rattle.causal_model.specs.Early.{is_again, stands_before, put_early, has_id, without}
 use Rattle.causal_model.proofs.Early.{All-put_early, IsNear-from_test, IsDeliverable-from_test}
 use Rattle.causal_model.proofs.Finds.{none_found}
-use Rattle.causal_buffer.specs.Buffer.{Buffer, offer_of, AreAhead, AreNear, IsNextId}
-use Rattle.causal_buffer.specs.declared.buffer.Offer.TheVariants.{Kept, Again, Far}
+use Rattle.causal_buffer.specs.Buffer.{AreAhead, AreNear, IsNextId}
 use Rattle.causal_buffer.specs.declared.queue.Queue.{Queue}
 use Rattle.causal_buffer.specs.Queue.{messages, IsQueue, AreWithin, IsKept, AreKept, is_ready}
 use Rattle.causal_buffer.proofs.Places.{has, all_at, standing_few, find_of_id}
@@ -218,12 +218,6 @@ module _ (n w : ℕ) where
           (λ k d i.
           let own = ap (entry counted) (queue_own m.origin q kept_here.is_queue k d i) in
           (omega (arith, is, own, above k d i), omega (arith, is, own, below k d i, kept_here.room)))
-
--- ---- what comes of an offer
-
-pub offer_kept : (b : Buffer) (me : ℕ) (counted : List ℕ) (m : Message) → is_again b.early m ≡ false → is_far b.n b.w me counted m ≡ false → offer_of b me counted m ≡ Kept
-offer_kept b me counted m e f =
-    cond-false (is_again b.early m) (Again m) (if is_far b.n b.w me counted m then Far m else Kept) e ∙ cond-false (is_far b.n b.w me counted m) (Far m) Kept f
 
 -- all that can be early at once of one member
 pub most_is_small : (n w : ℕ) → 1 ≤ n → n ≤ 16 → w ≤ 64 → w + noop_window n w ≤ 1985

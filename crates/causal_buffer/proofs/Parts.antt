@@ -7,7 +7,7 @@ use Rattle.std.proofs.lemmas.List.{take_more, append-nil, length-append}
 use Rattle.std.proofs.lemmas.List.Concat.{flat_map-append}
 use Rattle.std.proofs.lemmas.List.Elements.{All-nil, All-cons, All-head, All-tail, All-append, All-weaker, filter-append}
 use Rattle.op_base.specs.declared.message.Message.{Message}
-use Rattle.causal_model.specs.Receiving.{stands_before, put_early}
+use Rattle.causal_model.specs.Early.{stands_before, put_early}
 use Rattle.causal_model.proofs.Finds.{none_found, none_passes}
 use Rattle.causal_model.proofs.ItemMaps.{filter_all_of}
 

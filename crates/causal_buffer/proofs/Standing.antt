@@ -1,5 +1,5 @@
 -- What the calls make of a state's buffer, and what is asked of them.
-use Rattle.std.proofs.Common.{◌≡◌, ℕ, ◌+◌, ◌<◌, ◌≤◌, Bool, true, false, IsTrue, List, length, refl, sym, ap, ap₂, subst, ◌∙◌, inl, inr, Option, Some, None, if◌then◌else◌, arith}
+use Rattle.std.proofs.Common.{◌≡◌, ℕ, ◌+◌, ◌<◌, ◌≤◌, false, IsTrue, List, length, refl, sym, ap, ap₂, subst, ◌∙◌, inl, inr, Option, Some, None, arith}
 use Rattle.std.specs.List.{find}
 use Rattle.std.specs.Option.{option_map}
 use Rattle.std.proofs.lemmas.List.Elements.{All-contains, All-weaker}
@@ -9,10 +9,10 @@ use Rattle.op_base.specs.declared.message.Message.{Message}
 use Rattle.op_base.specs.declared.tag.MessageId.{MessageId}
 use Rattle.causal_model.specs.Counts.{is_deliverable}
 use Rattle.causal_model.specs.Stability.{noop_window}
-use Rattle.causal_model.specs.Receiving.{State, counted, is_old, is_again, is_far, put_early, next_early, has_id, without}
-use Rattle.causal_model.specs.Journal.{with_own}
+use Rattle.causal_model.specs.Receiving.{is_old, is_far, next_early, next_of}
+use Rattle.causal_model.specs.State.{State, counted, with_own}
+use Rattle.causal_model.specs.Early.{is_again, put_early, has_id, without}
 use Rattle.causal_model.specs.States.{IsState}
-use Rattle.causal_model.specs.Laws.States.{next_of}
 use Rattle.causal_model.proofs.Counts.{length-counts}
 use Rattle.causal_model.proofs.Early.{StandsBefore, standing, IsNew-from_test, IsNear-from_test, fits_member}
 use Rattle.causal_model.proofs.Finds.{found}
@@ -20,10 +20,8 @@ use Rattle.causal_model.proofs.Histories.{IsHistory-from_test}
 use Rattle.causal_model.proofs.Risings.{found_alike}
 use Rattle.causal_model.proofs.States.{accept_keeps_state, step_keeps_state, own_keeps_state, own_makes_none_deliverable}
 use Rattle.causal_model.proofs.Steps.{has_own_id}
-use Rattle.causal_buffer.specs.Buffer.{Buffer, with_messages, offer_of, after_offer, AreAhead, AreNear}
-use Rattle.causal_buffer.specs.Standing.{IsBufferOf, state_offered, AnswersInState, KeepsOffered, OfferKeepsState, IsNextInState, TakesNext, KeepsStep, OwnKeepsBuffer, MemberIsInStore, CountsAreOfStore, EarlyAreAhead, EarlyAreNear, NextIdIsOfMessage, NextIsOfMember}
-use Rattle.causal_buffer.specs.declared.buffer.Offer.{Offer}
-use Rattle.causal_buffer.specs.declared.buffer.Offer.TheVariants.{Kept, Again, Far}
+use Rattle.causal_buffer.specs.Buffer.{Buffer, with_messages, AreAhead, AreNear}
+use Rattle.causal_buffer.specs.Standing.{IsBufferOf, KeepsEarly, KeepKeepsState, IsNextInState, TakesNext, KeepsStep, OwnKeepsBuffer, MemberIsInStore, CountsAreOfStore, EarlyAreAhead, EarlyAreNear, NextIdIsOfMessage, NextIsOfMember}
 use Rattle.causal_buffer.proofs.Kept.{not_of_member}
 use Rattle.causal_buffer.proofs.Places.{has_not}
 
@@ -35,27 +33,19 @@ is_buffer_in : (w : ℕ) (s : State) (b : Buffer) → IsBufferOf w s b → b ≡
 is_buffer_in w s b of =
     ap (λ early. record { n = b.n; w = b.w; early = early }) of.early ∙ ap₂ (λ k v. record { n = k; w = v; early = s.early }) of.members of.window
 
--- ---- an offer
+-- ---- a message that is kept
 
-pub answers_in_state : (me : ℕ) (counts : List ℕ) (m : Message) (b : Buffer) (answer : Offer) → answer ≡ offer_of b me counts m → AnswersInState me counts m b answer
-answers_in_state me counts m b answer e w s of member =
-    e ∙ ap (λ (b : Buffer). offer_of b me counts m) (is_buffer_in w s b of) ∙ ap₂ (λ x c. offer_of (buffer_in w s) x c m) member.member member.delivered
+-- a message that is kept is one of the early messages of the buffer
+pub keeps_early : (m : Message) (old new : Buffer) → new ≡ with_messages old (put_early m old.early) → KeepsEarly m old new
+keeps_early m old new e w s of = record { members = ap (λ (b : Buffer). b.n) e ∙ of.members; window = ap (λ (b : Buffer). b.w) e ∙ of.window; early = ap (λ (b : Buffer). b.early) e ∙ ap (put_early m) of.early }
 
-pub keeps_offered : (m : Message) (answer : Offer) (old new : Buffer) → new ≡ with_messages old (after_offer old.early m answer) → KeepsOffered m answer old new
-keeps_offered m Kept old new e w s of = record { members = ap (λ (b : Buffer). b.n) e ∙ of.members; window = ap (λ (b : Buffer). b.w) e ∙ of.window; early = ap (λ (b : Buffer). b.early) e ∙ ap (put_early m) of.early }
-keeps_offered m (Again same) old new e w s of = record { members = ap (λ (b : Buffer). b.n) e ∙ of.members; window = ap (λ (b : Buffer). b.w) e ∙ of.window; early = ap (λ (b : Buffer). b.early) e ∙ of.early }
-keeps_offered m (Far same) old new e w s of = record { members = ap (λ (b : Buffer). b.n) e ∙ of.members; window = ap (λ (b : Buffer). b.w) e ∙ of.window; early = ap (λ (b : Buffer). b.early) e ∙ of.early }
-
-pub offer_keeps_state : (me : ℕ) (counts : List ℕ) (m : Message) (b : Buffer) (answer : Offer) → IsTrue (fits b.n m) → is_old me counts m ≡ false → answer ≡ offer_of b me counts m
-    → OfferKeepsState me counts m answer b
-offer_keeps_state me counts m b answer fit new e w limit s is of member carried =
-    subst (λ a. IsState w limit (state_offered s m a)) (sym (answers_in_state me counts m b answer e w s of member)) (by (is_again s.early m) (is_far s.history.present.n w s.history.present.me (counted s.history) m) refl refl) where
-      by : (again far : Bool) → is_again s.early m ≡ again → is_far s.history.present.n w s.history.present.me (counted s.history) m ≡ far
-          → IsState w limit (state_offered s m (if again then Again m else if far then Far m else Kept))
-      by true far a f = is
-      by false true a f = is
-      by false false a f =
-          accept_keeps_state w limit s m is (subst (λ n. IsTrue (fits n m)) of.members fit) carried (sym (ap₂ (λ x c. is_old x c m) member.member member.delivered) ∙ new) a f
+-- and one that is neither old, nor early already, nor far leaves a state that a replica can be in
+pub keep_keeps_state : (me : ℕ) (counts : List ℕ) (m : Message) (b : Buffer) → IsTrue (fits b.n m) → is_old me counts m ≡ false → is_again b.early m ≡ false → is_far b.n b.w me counts m ≡ false
+    → KeepKeepsState me counts m b
+keep_keeps_state me counts m b fit new apart near w limit s is of member carried =
+    let by_state : (b : Buffer) → is_far b.n b.w me counts m ≡ is_far b.n b.w s.history.present.me (counted s.history) m = λ b. ap₂ (λ x c. is_far b.n b.w x c m) member.member member.delivered in
+    accept_keeps_state w limit s m is (subst (λ n. IsTrue (fits n m)) of.members fit) carried (sym (ap₂ (λ x c. is_old x c m) member.member member.delivered) ∙ new) (sym (ap (λ early. is_again early m) of.early) ∙ apart)
+    (sym (by_state (buffer_in w s)) ∙ sym (ap (λ (b : Buffer). is_far b.n b.w me counts m) (is_buffer_in w s b of)) ∙ near)
 
 -- ---- what is next, and its removal
 

@@ -6,7 +6,8 @@ use Rattle.op_base.specs.Message.{number}
 use Rattle.op_base.specs.declared.message.Message.{Message}
 use Rattle.op_base.specs.declared.tag.MessageId.{MessageId}
 use Rattle.causal_model.specs.Stability.{noop_window}
-use Rattle.causal_model.specs.Receiving.{is_again, is_far, put_early}
+use Rattle.causal_model.specs.Receiving.{is_far}
+use Rattle.causal_model.specs.Early.{is_again, put_early}
 use Rattle.causal_buffer.specs.declared.buffer.Offer.{Offer}
 use Rattle.causal_buffer.specs.declared.buffer.Offer.TheVariants.{Kept, Again, Far}
 

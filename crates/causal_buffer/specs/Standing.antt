@@ -7,12 +7,11 @@ use Rattle.op_base.specs.declared.message.Message.{Message}
 use Rattle.op_base.specs.declared.operation.Op.{Op}
 use Rattle.op_base.specs.declared.tag.MessageId.{MessageId}
 use Rattle.causal_model.specs.Counts.{count_of, is_carried}
-use Rattle.causal_model.specs.Sending.{own_message}
-use Rattle.causal_model.specs.Receiving.{State, counted, is_again, is_far, with_early, state_with}
-use Rattle.causal_model.specs.Journal.{with_own}
+use Rattle.causal_model.specs.Sending.{own_message, HasRoom}
+use Rattle.causal_model.specs.Receiving.{is_far, with_early, state_with, next_of}
+use Rattle.causal_model.specs.State.{State, counted, with_own}
+use Rattle.causal_model.specs.Early.{is_again}
 use Rattle.causal_model.specs.States.{IsState}
-use Rattle.causal_model.specs.Laws.Delivery.{HasRoom}
-use Rattle.causal_model.specs.Laws.States.{next_of}
 use Rattle.causal_buffer.specs.Buffer.{Buffer, AreAhead, AreNear}
 use Rattle.causal_buffer.specs.declared.buffer.Offer.{Offer}
 use Rattle.causal_buffer.specs.declared.buffer.Offer.TheVariants.{Kept, Again, Far}
@@ -55,6 +54,17 @@ KeepsOffered m answer old new = (w : ℕ) (s : State) → IsBufferOf w s old →
 abbrev pub OfferKeepsState : ℕ → List ℕ → Message → Offer → Buffer → Type 0
 OfferKeepsState me counts m answer old = (w limit : ℕ) (s : State) → IsState w limit s → IsBufferOf w s old → IsMemberOf me counts s
     → IsTrue (is_carried limit m) → IsState w limit (state_offered s m answer)
+
+-- ---- a message that is kept
+
+-- a state's buffer is then that of the state with the message among the early ones
+abbrev pub KeepsEarly : Message → Buffer → Buffer → Type 0
+KeepsEarly m old new = (w : ℕ) (s : State) → IsBufferOf w s old → IsBufferOf w (with_early s m) new
+
+-- that is a state that a replica can be in, where it was one and the message can be carried
+abbrev pub KeepKeepsState : ℕ → List ℕ → Message → Buffer → Type 0
+KeepKeepsState me counts m old = (w limit : ℕ) (s : State) → IsState w limit s → IsBufferOf w s old → IsMemberOf me counts s
+    → IsTrue (is_carried limit m) → IsState w limit (with_early s m)
 
 -- ---- what is next, and its removal
 

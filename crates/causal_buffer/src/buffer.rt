@@ -7,7 +7,9 @@ ghost use Rattle.op_base.specs.Timestamp.{entry};
 ghost use Rattle.op_base.specs.Message.{number, id_of, fits};
 ghost use Rattle.op_base.specs.declared.tag.TheConstants.{MOST_MEMBERS};
 ghost use Rattle.causal_model.specs.Counts.{is_deliverable};
-ghost use Rattle.causal_model.specs.Receiving.{start, is_old, is_far, has_id, without, next_early};
+ghost use Rattle.causal_model.specs.Receiving.{is_old, is_far, next_early};
+ghost use Rattle.causal_model.specs.State.{start};
+ghost use Rattle.causal_model.specs.Early.{has_id, is_again, put_early, without};
 ghost use Rattle.causal_buffer.specs.Buffer.{with_messages, offer_of, after_offer, AreAhead, AreNear, IsNextId, KeepsAhead, KeepsNear};
 ghost use Rattle.causal_buffer.specs.Queue.{is_ready};
 
@@ -68,7 +70,7 @@ fn is_deliverable(message: &Message, counts: &Tag) -> bool
 }
 
 impl CausalBuffer {
-    ghost use Rattle.causal_buffer.specs.Standing.{IsBufferOf, AnswersInState, KeepsOffered, OfferKeepsState, IsNextInState, TakesNext, KeepsStep};
+    ghost use Rattle.causal_buffer.specs.Standing.{IsBufferOf, AnswersInState, KeepsOffered, OfferKeepsState, KeepsEarly, KeepKeepsState, IsNextInState, TakesNext, KeepsStep};
 
     /// The buffer of a store of `n` members with a window `w`, with no message. It takes all the room that it will ever need,
     /// and doesn't fill it.
@@ -114,9 +116,33 @@ impl CausalBuffer {
         if self.is_far(&message, me, counts) {
             return Offer::Far(message);
         }
+        self.keep(message, me, counts);
+        Offer::Kept
+    }
+
+    /// Keeps a message of another member that wasn't delivered, is not early already and not too far ahead. It takes no
+    /// memory.
+    pub fn keep(&mut self, message: Message, me: u8, counts: &Tag)
+        requires fits { IsTrue (fits self.old.n message) }
+        requires me { me < self.old.n }
+        requires counts { length counts.now ≡ self.old.n }
+        requires new { is_old me counts.now message ≡ false }
+        requires apart { is_again self.old.early message ≡ false }
+        requires near { is_far self.old.n self.old.w me counts.now message ≡ false }
+        requires held_ahead { AreAhead counts.now self.old.early }
+        requires held_near { AreNear self.old.n self.old.w counts.now self.old.early }
+        ensures early { self.new ≡ with_messages self.old (put_early message self.old.early) }
+
+        // What was asked of the messages that are held holds of them again.
+        ensures held_ahead { AreAhead counts.now self.new.early }
+        ensures held_near { AreNear self.new.n self.new.w counts.now self.new.early }
+
+        // Where it is a state's buffer:
+        ensures stands { KeepsEarly message self.old self.new }
+        ensures is_state { KeepKeepsState me counts.now message self.old }
+    {
         let member = message.origin;
         self.queues[member as usize].put(message, counts.at(member));
-        Offer::Kept
     }
 
     /// Whether a message is too far ahead to be kept: by its number, which is above its origin's count, or by own messages

@@ -5,7 +5,7 @@ ghost use Rattle.std.specs.List.{find};
 ghost use Rattle.std.specs.Option.{option_copied};
 ghost use Rattle.std.specs.VecDeque.{deque_capacity};
 ghost use Rattle.op_base.specs.Message.{number, id_of};
-ghost use Rattle.causal_model.specs.Receiving.{has_id, without, put_early};
+ghost use Rattle.causal_model.specs.Early.{has_id, without, put_early};
 ghost use Rattle.causal_buffer.specs.Queue.{IsQueue, AreWithin, messages};
 
 use op_base::{Message, MessageId, NoMemory};

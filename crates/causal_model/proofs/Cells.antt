@@ -11,10 +11,9 @@ use Rattle.op_base.specs.declared.message.Message.{Message}
 use Rattle.op_base.specs.declared.operation.Op.{Op}
 use Rattle.op_base.specs.declared.operation.Op.TheVariants as op
 use Rattle.op_base.specs.declared.outcome.Cell.{Cell}
-use Rattle.causal_model.specs.Acts.{value_of}
+use Rattle.causal_model.specs.Acts.{value_of, amount_of}
 use Rattle.causal_model.specs.CellSteps.{marks_on, marks_off, with_act, cell_with}
 use Rattle.causal_model.specs.Items.{zero_cell}
-use Rattle.causal_model.specs.Query.{amount_of}
 use Rattle.causal_model.specs.Settled.{on_cell, sum_cell}
 
 -- two cells joined

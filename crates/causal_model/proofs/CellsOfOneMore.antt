@@ -19,13 +19,13 @@ use Rattle.op_base.specs.declared.operation.Op.TheVariants as op
 use Rattle.op_base.specs.declared.outcome.Cell.{Cell}
 use Rattle.op_base.proofs.Orders.{items_tied}
 use Rattle.causal_model.specs.Acts.{value_of}
-use Rattle.causal_model.specs.CellSteps.{with_act, covers_value, covers_place, log_of, stripped_of}
+use Rattle.causal_model.specs.CellSteps.{with_act, covers_value, covers_place}
+use Rattle.causal_model.specs.Log.{log_of, stripped_of, is_kept, is_covered_by, is_uncovered}
 use Rattle.causal_model.specs.Chapter.{is_chapter, is_next}
 use Rattle.causal_model.specs.Covering.{covers_act, store_keeps, store_covers}
 use Rattle.causal_model.specs.History.{History, Event, events, events_in, events_from, epoch_of, with_message, is_before, is_history}
 use Rattle.causal_model.specs.Items.{zero_cell}
 use Rattle.causal_model.specs.Laws.Events.{present_event}
-use Rattle.causal_model.specs.Log.{is_kept, is_covered_by, is_uncovered}
 use Rattle.causal_model.specs.Order.{happened_before}
 use Rattle.causal_model.specs.Settled.{is_stable_event, is_uncovered_event, is_settled}
 use Rattle.causal_model.specs.Stability.{stable_vector, is_stable}

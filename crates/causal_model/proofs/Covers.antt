@@ -13,11 +13,10 @@ use Rattle.op_base.specs.declared.operation.Act.TheVariants.{Add, Rmv, Clear, En
 use Rattle.op_base.specs.declared.operation.Update.{Update}
 use Rattle.op_base.specs.declared.operation.Op.{Op}
 use Rattle.op_base.specs.declared.operation.Op.TheVariants as op
-use Rattle.causal_model.specs.Acts.{acts_on, is_add_of, is_rmv_of, is_write_of, is_write, is_clear, is_enable, is_disable, value_of}
-use Rattle.causal_model.specs.Covering.{same_value, keeps_act, covers_act, store_covers}
+use Rattle.causal_model.specs.Acts.{acts_on, is_add_of, is_rmv_of, is_write_of, is_write, is_clear, is_enable, is_disable, value_of, same_value, amount_of, share_of}
+use Rattle.causal_model.specs.Covering.{keeps_act, covers_act, store_covers}
 use Rattle.causal_model.specs.Log.{is_covered_by}
 use Rattle.causal_model.specs.Parts.{puts}
-use Rattle.causal_model.specs.Query.{amount_of, share_of}
 use Rattle.causal_model.proofs.Rules.{object_from_same}
 
 -- ---- tests of acts on an object

@@ -10,7 +10,8 @@ use Rattle.op_base.specs.declared.message.Message.{Message}
 use Rattle.causal_model.specs.Counts.{members, is_deliverable}
 use Rattle.causal_model.specs.Order.{same_id}
 use Rattle.causal_model.specs.Stability.{noop_window}
-use Rattle.causal_model.specs.Receiving.{is_old, is_again, is_far, stands_before, put_early, next_early}
+use Rattle.causal_model.specs.Receiving.{is_old, is_far, next_early}
+use Rattle.causal_model.specs.Early.{is_again, stands_before, put_early}
 use Rattle.causal_model.specs.States.{AreEarly}
 use Rattle.causal_model.proofs.Finds.{found}
 use Rattle.causal_model.proofs.Lists.{each_member, from_each_member}

@@ -13,8 +13,8 @@ use Rattle.op_base.specs.declared.name.ObjectId.{ObjectId}
 use Rattle.op_base.specs.declared.outcome.Cell.{Cell}
 use Rattle.op_base.specs.declared.outcome.Item.{Item}
 use Rattle.op_base.proofs.Orders.{items_tied}
-use Rattle.causal_model.specs.Items.{zero_cell, is_at, cell_in, is_filled, AreApart, Rise}
-use Rattle.causal_model.specs.Laws.Cells.{SameCells, AreFilled}
+use Rattle.causal_model.specs.Items.{zero_cell, is_at, cell_in, is_filled, AreApart, Rise, AreFilled}
+use Rattle.causal_model.specs.Laws.Cells.{SameCells}
 use Rattle.causal_model.proofs.Places.{places_total, is_equal}
 
 -- ---- pairs, by recursion on the list

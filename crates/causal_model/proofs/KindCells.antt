@@ -22,13 +22,13 @@ use Rattle.op_base.specs.declared.operation.Update.{Update}
 use Rattle.op_base.specs.declared.operation.Op.{Op}
 use Rattle.op_base.specs.declared.operation.Op.TheVariants as op
 use Rattle.op_base.specs.declared.outcome.Cell.{Cell}
-use Rattle.causal_model.specs.Acts.{acts_on, value_of, is_add_of, is_rmv_of, is_write_of, is_enable, is_disable}
+use Rattle.causal_model.specs.Acts.{acts_on, value_of, is_add_of, is_rmv_of, is_write_of, is_enable, is_disable, amount_of, share_of}
 use Rattle.causal_model.specs.CellSteps.{with_act}
 use Rattle.causal_model.specs.Covering.{keeps_act, store_keeps}
 use Rattle.causal_model.specs.History.{Event}
 use Rattle.causal_model.specs.Items.{zero_cell}
 use Rattle.causal_model.specs.Log.{is_kept}
-use Rattle.causal_model.specs.Query.{is_act_on, amount_of, share_of, counter_sum}
+use Rattle.causal_model.specs.Query.{is_act_on, counter_sum}
 use Rattle.causal_model.specs.Settled.{on_cell, sum_cell}
 use Rattle.causal_model.proofs.Cells.{restrict, marks, gather, zero_join, gather-marks, gather-on_cells, gather_same, gather_none, restrict_both, fold-sums, cell_of}
 use Rattle.causal_model.proofs.Rules.{object_from_same}

@@ -1,5 +1,6 @@
 pub mod Lists
 pub mod Options
+pub mod Outcomes
 pub mod Counts
 pub mod Crooks
 pub mod Chapters

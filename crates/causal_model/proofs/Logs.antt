@@ -112,7 +112,7 @@ kept_log-push keeps covers n w me h m t =
 -- ---- how long a log is
 
 -- of what passes a test, each passes one of two others
-count_by-either : {X : Type 0} (p q r : X → Bool) (xs : List X) → ((x : X) → p x ≡ true → (q x || r x) ≡ true) → count_by p xs ≤ count_by q xs + count_by r xs
+pub count_by-either : {X : Type 0} (p q r : X → Bool) (xs : List X) → ((x : X) → p x ≡ true → (q x || r x) ≡ true) → count_by p xs ≤ count_by q xs + count_by r xs
 count_by-either p q r [] h = omega arith
 count_by-either p q r (x ∷ xs) h =
     omega (arith, sum_by-cons (λ y. cond (p y) 1 0) x xs, sum_by-cons (λ y. cond (q y) 1 0) x xs, sum_by-cons (λ y. cond (r y) 1 0) x xs, one (p x) (q x) (r x) (h x), count_by-either p q r xs h) where

@@ -24,13 +24,13 @@ use Rattle.op_base.specs.declared.operation.Op.{Op}
 use Rattle.op_base.specs.declared.operation.Op.TheVariants as op
 use Rattle.op_base.specs.declared.outcome.Cell.{Cell}
 use Rattle.op_base.proofs.Orders.{items_tied}
-use Rattle.causal_model.specs.Acts.{value_of}
-use Rattle.causal_model.specs.CellSteps.{is_counter, marks_on, marks_off, with_act, covers_value, covers_place, cell_uncovered, cell_with, cell_settled, is_put_in, log_of, stripped_of, cell_absorbed, cell_applied, cell_moved}
+use Rattle.causal_model.specs.Acts.{value_of, amount_of, share_of}
+use Rattle.causal_model.specs.CellSteps.{is_counter, marks_on, marks_off, with_act, covers_value, covers_place, cell_uncovered, cell_with, cell_settled, is_put_in, cell_absorbed, cell_applied, cell_moved}
+use Rattle.causal_model.specs.Log.{log_of, stripped_of, is_kept}
 use Rattle.causal_model.specs.Covering.{keeps_act, store_keeps}
 use Rattle.causal_model.specs.History.{History, events, with_message, is_history}
 use Rattle.causal_model.specs.Items.{zero_cell}
-use Rattle.causal_model.specs.Log.{is_kept}
-use Rattle.causal_model.specs.Query.{amount_of, share_of, counter_sum}
+use Rattle.causal_model.specs.Query.{counter_sum}
 use Rattle.causal_model.specs.Settled.{sum_cell, object_cell, value_cell, settled_cell}
 use Rattle.causal_model.proofs.EventsOfOneMore.{counter_sum_of_one_more}
 use Rattle.causal_model.proofs.KindCells.{place_parts}

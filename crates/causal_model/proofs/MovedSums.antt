@@ -18,12 +18,13 @@ use Rattle.op_base.specs.declared.name.Kind.TheVariants.{AwSet, RwSet, MvReg, Co
 use Rattle.op_base.specs.declared.operation.Op.{Op}
 use Rattle.op_base.specs.declared.operation.Op.TheVariants as op
 use Rattle.op_base.specs.declared.outcome.Cell.{Cell}
-use Rattle.causal_model.specs.Acts.{value_of}
-use Rattle.causal_model.specs.CellSteps.{with_act, is_counter, covers_place, cell_uncovered, cell_with, stripped_of, cell_absorbed, cell_applied, cell_moved}
+use Rattle.causal_model.specs.Acts.{value_of, amount_of}
+use Rattle.causal_model.specs.CellSteps.{with_act, is_counter, covers_place, cell_uncovered, cell_with, cell_absorbed, cell_applied, cell_moved}
+use Rattle.causal_model.specs.Log.{stripped_of}
 use Rattle.causal_model.specs.Counts.{is_carried}
 use Rattle.causal_model.specs.History.{History, Event, epoch_of, events, events_from, events_in, with_message, is_history, is_limited}
 use Rattle.causal_model.specs.Items.{zero_cell}
-use Rattle.causal_model.specs.Query.{amount_of, counter_sum, IsWithin}
+use Rattle.causal_model.specs.Query.{counter_sum, IsWithin}
 use Rattle.causal_model.specs.Settled.{is_settled, object_cell, value_cell, settled_cell}
 use Rattle.causal_model.proofs.EventsOfOneMore.{filter_all}
 use Rattle.causal_model.proofs.Histories.{IsLimited-from_test, history_before, limited_before}

@@ -13,14 +13,13 @@ use Rattle.op_base.specs.declared.operation.Act.{Act}
 use Rattle.op_base.specs.declared.operation.Op.{Op}
 use Rattle.op_base.specs.declared.operation.Op.TheVariants as op
 use Rattle.op_base.specs.declared.outcome.Item.{Item}
-use Rattle.causal_model.specs.Acts.{acts_on}
-use Rattle.causal_model.specs.CellSteps.{log_of}
+use Rattle.causal_model.specs.Acts.{acts_on, amount_of, share_of}
+use Rattle.causal_model.specs.Log.{log_of, is_kept}
 use Rattle.causal_model.specs.Covering.{store_keeps}
 use Rattle.causal_model.specs.History.{History, events, is_history}
 use Rattle.causal_model.specs.Items.{cell_in}
-use Rattle.causal_model.specs.Log.{is_kept}
 use Rattle.causal_model.specs.Parts.{puts, takes, has, is_in, has_logged, has_by_parts, is_on, ArePartsOf}
-use Rattle.causal_model.specs.Query.{amount_of, share_of, total_of, counter_sum, rcounter_sum}
+use Rattle.causal_model.specs.Query.{total_of, counter_sum, rcounter_sum}
 use Rattle.causal_model.specs.Settled.{object_cell, settled_cell}
 use Rattle.causal_model.proofs.Elements.{list_any_agree, list_any-filter}
 use Rattle.causal_model.proofs.MovedCells.{counter_is_not_kept}

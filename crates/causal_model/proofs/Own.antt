@@ -9,8 +9,7 @@ use Rattle.op_base.specs.declared.operation.Op.TheVariants as op
 use Rattle.causal_model.specs.Counts.{next_tag}
 use Rattle.causal_model.specs.Stability.{last_tag, carries_operation, unstable_of, unstable_operations, unstable_noops, noop_window}
 use Rattle.causal_model.specs.Chapter.{is_chapter, is_next}
-use Rattle.causal_model.specs.Sending.{own_message}
-use Rattle.causal_model.specs.Laws.Delivery.{HasRoom}
+use Rattle.causal_model.specs.Sending.{own_message, HasRoom}
 use Rattle.causal_model.proofs.Counts.{length-next_tag, entry-next_tag_other, number-own_message}
 use Rattle.causal_model.proofs.Crooks.{IsStraight}
 use Rattle.causal_model.proofs.Chapters.{is_next-from_IsNext}

@@ -15,7 +15,7 @@ use Rattle.causal_model.specs.Covering.{keeps_act}
 use Rattle.causal_model.specs.History.{History, events, is_history}
 use Rattle.causal_model.specs.Parts.{puts, has, has_uncovered, is_in, has_by_uncovered, has_logged, has_by_parts}
 use Rattle.causal_model.specs.Settled.{is_uncovered_event, has_settled, has_pending, value_cell, object_cell, settled_cell}
-use Rattle.causal_model.specs.CellSteps.{log_of}
+use Rattle.causal_model.specs.Log.{log_of}
 use Rattle.causal_model.proofs.Covers.{acts_on_agree, acts_on_none, puts_as, puts_is, awset_keeps, rwset_keeps, mvreg_keeps, ewflag_keeps, dwflag_keeps}
 use Rattle.causal_model.proofs.Elements.{list_any_agree}
 use Rattle.causal_model.proofs.Parts.{uncovered_is_settled_or_pending, kept_is_logged, pending_is_logged}

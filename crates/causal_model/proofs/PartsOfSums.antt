@@ -9,14 +9,13 @@ use Rattle.op_base.specs.declared.message.Message.{Message}
 use Rattle.op_base.specs.declared.name.Kind.TheVariants.{RCounter}
 use Rattle.op_base.specs.declared.name.ObjectId.{ObjectId}
 use Rattle.op_base.specs.declared.operation.Op.{Op}
-use Rattle.causal_model.specs.Acts.{acts_on}
+use Rattle.causal_model.specs.Acts.{acts_on, share_of}
 use Rattle.causal_model.specs.Covering.{store_keeps, store_covers}
 use Rattle.causal_model.specs.History.{is_history, History, Event, epoch_of, events, events_from, events_in}
-use Rattle.causal_model.specs.Log.{is_kept, is_uncovered}
-use Rattle.causal_model.specs.Query.{rcounter_sum, share_of, total_of, counter_sum}
+use Rattle.causal_model.specs.Log.{is_kept, is_uncovered, log_of}
+use Rattle.causal_model.specs.Query.{rcounter_sum, total_of, counter_sum}
 use Rattle.causal_model.specs.Settled.{is_stable_event, is_uncovered_event, is_settled, is_pending, object_cell, settled_cell}
 use Rattle.causal_model.specs.Stability.{stable_vector, is_stable}
-use Rattle.causal_model.specs.CellSteps.{log_of}
 use Rattle.causal_model.specs.Laws.Events.{present_event}
 use Rattle.causal_model.proofs.Covers.{is_amount, rcounter_keeps, share_none}
 use Rattle.causal_model.proofs.Parts.{past_is_not_pending, present_is_pending, kept_is_logged, is_kept_act}

@@ -10,14 +10,14 @@ use Rattle.op_base.specs.declared.name.Kind.TheVariants.{Counter}
 use Rattle.op_base.specs.declared.operation.Op.{Op}
 use Rattle.op_base.specs.declared.operation.Op.TheVariants as op
 use Rattle.op_base.specs.declared.outcome.Cell.{Cell}
-use Rattle.causal_model.specs.CellSteps.{is_counter, cell_settled, is_put_in, log_of}
+use Rattle.causal_model.specs.CellSteps.{is_counter, cell_settled, is_put_in}
+use Rattle.causal_model.specs.Log.{log_of, is_kept, is_uncovered}
 use Rattle.causal_model.specs.Covering.{store_keeps, store_covers}
 use Rattle.causal_model.specs.History.{History, Event, events, events_in, events_from, epoch_of, chapters, is_all_stable}
 use Rattle.causal_model.specs.Items.{is_filled}
 use Rattle.causal_model.specs.Journal.{regrouped}
-use Rattle.causal_model.specs.Log.{is_kept, is_uncovered}
 use Rattle.causal_model.specs.Query.{counter_sum, answer}
-use Rattle.causal_model.specs.Receiving.{State}
+use Rattle.causal_model.specs.State.{State}
 use Rattle.causal_model.specs.Settled.{is_stable_event, is_uncovered_event, is_settled, sum_cell, settled_cell, places_of, settled_items}
 use Rattle.causal_model.specs.Stability.{stable_vector, is_stable, carries_operation}
 use Rattle.causal_model.proofs.Cells.{restrict, gather, gather_agree}

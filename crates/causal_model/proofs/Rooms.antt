@@ -9,10 +9,9 @@ use Rattle.op_base.specs.Timestamp.{entry}
 use Rattle.op_base.specs.Message.{number}
 use Rattle.op_base.specs.declared.message.Message.{Message}
 use Rattle.op_base.specs.declared.operation.Update.{Update}
-use Rattle.causal_model.specs.CellSteps.{pruned_log}
+use Rattle.causal_model.specs.Log.{pruned_log, is_kept, is_covered_by, is_uncovered, kept_log}
 use Rattle.causal_model.specs.Chapter.{is_chapter}
 use Rattle.causal_model.specs.Counts.{members, count_of, counts}
-use Rattle.causal_model.specs.Log.{is_kept, is_covered_by, is_uncovered, kept_log}
 use Rattle.causal_model.specs.Order.{happened_before}
 use Rattle.causal_model.specs.Stability.{last_tag, known_vector, minimum, stable_count, stable_vector, is_stable, carries_operation, unstable_of, unstable_operations, unstable_noops, noop_window}
 use Rattle.causal_model.proofs.Chapters.{IsNext, chapter_induction}

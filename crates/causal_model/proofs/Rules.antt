@@ -15,8 +15,8 @@ use Rattle.op_base.specs.declared.operation.Act.{Act}
 use Rattle.op_base.specs.declared.operation.Act.TheVariants.{Add, Rmv, Clear, Enable, Disable, Write, Inc, Dec}
 use Rattle.op_base.specs.declared.operation.Update.{Update}
 use Rattle.op_base.proofs.Orders.{items_tied}
-use Rattle.causal_model.specs.Acts.{value_of, is_clear}
-use Rattle.causal_model.specs.Covering.{same_value, covers_act, store_keeps, store_covers}
+use Rattle.causal_model.specs.Acts.{value_of, is_clear, same_value}
+use Rattle.causal_model.specs.Covering.{covers_act, store_keeps, store_covers}
 
 -- two names of one object are one name
 pub object_from_same : (a b : ObjectId) → same_object a b ≡ true → a ≡ b

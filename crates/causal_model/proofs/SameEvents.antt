@@ -11,12 +11,11 @@ use Rattle.op_base.specs.declared.name.Kind.TheVariants.{AwSet, RwSet, EwFlag, D
 use Rattle.op_base.specs.declared.name.ObjectId.{ObjectId}
 use Rattle.op_base.specs.declared.operation.Act.{Act}
 use Rattle.op_base.specs.declared.outcome.Answer.TheVariants.{Values, Flag, Sum}
-use Rattle.causal_model.specs.Acts.{is_clear}
-use Rattle.causal_model.specs.History.{History, Event, events, is_before, is_history}
+use Rattle.causal_model.specs.Acts.{is_clear, share_of}
+use Rattle.causal_model.specs.History.{History, Event, events, is_before, is_history, SameEvents}
 use Rattle.causal_model.specs.Order.{same_id, is_followed}
 use Rattle.causal_model.specs.Parts.{has}
-use Rattle.causal_model.specs.Query.{is_act_on, is_live, add_wins, remove_wins, share_of, counter_sum, rcounter_sum, values_that, answer_as, answer}
-use Rattle.causal_model.specs.Laws.Events.{SameEvents}
+use Rattle.causal_model.specs.Query.{is_act_on, is_live, add_wins, remove_wins, counter_sum, rcounter_sum, values_that, answer_as, answer}
 use Rattle.causal_model.proofs.Elements.{same_tests}
 use Rattle.causal_model.proofs.Events.{events_are_apart}
 use Rattle.causal_model.proofs.Totals.{Unlike, Apart, sum_of, sum_of-map, same_sum}

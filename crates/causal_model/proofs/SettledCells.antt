@@ -15,10 +15,10 @@ use Rattle.op_base.specs.declared.operation.Op.{Op}
 use Rattle.op_base.specs.declared.operation.Op.TheVariants as op
 use Rattle.op_base.specs.declared.outcome.Cell.{Cell}
 use Rattle.causal_model.specs.Acts.{acts_on, is_add_of, is_rmv_of, is_write_of, is_enable, is_disable}
-use Rattle.causal_model.specs.CellSteps.{cell_settled, marks_settled, is_put_in, log_of}
+use Rattle.causal_model.specs.CellSteps.{cell_settled, marks_settled, is_put_in}
+use Rattle.causal_model.specs.Log.{log_of, is_kept, is_uncovered}
 use Rattle.causal_model.specs.Covering.{keeps_act, store_keeps, store_covers}
 use Rattle.causal_model.specs.History.{History, Event, events, events_in, events_from, epoch_of}
-use Rattle.causal_model.specs.Log.{is_kept, is_uncovered}
 use Rattle.causal_model.specs.Query.{is_act_on}
 use Rattle.causal_model.specs.Settled.{is_stable_event, is_uncovered_event, is_settled, is_pending, has_settled, has_pending, object_cell, value_cell, settled_cell}
 use Rattle.causal_model.specs.Stability.{stable_vector, is_stable}

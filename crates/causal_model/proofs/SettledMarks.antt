@@ -16,11 +16,11 @@ use Rattle.op_base.specs.declared.operation.Op.{Op}
 use Rattle.op_base.specs.declared.operation.Op.TheVariants as op
 use Rattle.op_base.specs.declared.outcome.Cell.{Cell}
 use Rattle.causal_model.specs.Acts.{acts_on}
-use Rattle.causal_model.specs.CellSteps.{covers_value, covers_place, cell_uncovered, cell_with, marks_settled, cell_settled, puts_in, is_put_in, log_of, stripped_of}
+use Rattle.causal_model.specs.CellSteps.{covers_value, covers_place, cell_uncovered, cell_with, marks_settled, cell_settled, puts_in, is_put_in}
+use Rattle.causal_model.specs.Log.{log_of, stripped_of, is_kept}
 use Rattle.causal_model.specs.Covering.{store_keeps, store_covers}
 use Rattle.causal_model.specs.History.{History, with_message, is_history}
 use Rattle.causal_model.specs.Items.{zero_cell}
-use Rattle.causal_model.specs.Log.{is_kept}
 use Rattle.causal_model.specs.Settled.{settled_cell}
 use Rattle.causal_model.specs.Stability.{stable_vector, is_stable}
 use Rattle.causal_model.proofs.Cells.{join, restrict, gather, gather-on, cell_of, fold-cells}

@@ -18,12 +18,12 @@ use Rattle.op_base.specs.declared.outcome.Crook.{Crook}
 use Rattle.causal_model.specs.Counts.{count_of, counts, next_tag, is_deliverable, is_carried, are_carried}
 use Rattle.causal_model.specs.Chapter.{is_admissible, is_next}
 use Rattle.causal_model.specs.History.{epoch_of, with_messages, is_chapter_of, is_all_stable}
-use Rattle.causal_model.specs.Sending.{own_message}
-use Rattle.causal_model.specs.Receiving.{State, start, counted, is_old, is_again, is_far, has_id, without, crook_after, messages_with, state_with, with_early}
-use Rattle.causal_model.specs.Journal.{with_own, regrouped}
+use Rattle.causal_model.specs.Sending.{own_message, HasRoom}
+use Rattle.causal_model.specs.Receiving.{is_old, is_far, crook_after, messages_with, state_with, with_early, next_of}
+use Rattle.causal_model.specs.State.{State, start, counted, with_own}
+use Rattle.causal_model.specs.Early.{is_again, has_id, without}
+use Rattle.causal_model.specs.Journal.{regrouped}
 use Rattle.causal_model.specs.States.{AreEarly, IsState}
-use Rattle.causal_model.specs.Laws.Delivery.{HasRoom}
-use Rattle.causal_model.specs.Laws.States.{next_of}
 use Rattle.causal_model.proofs.Counts.{length-counts, entry-counts, count_of_grows, count_of-push_own, count_of-push_other}
 use Rattle.causal_model.proofs.Early.{StandsBefore, IsDeliverable, IsDeliverable-from_test, test-from_IsDeliverable, IsNew-from_test, test-from_IsNew, IsNear-from_test, test-from_IsNear, All-put_early, put_early_rises, fits_member}
 use Rattle.causal_model.proofs.Finds.{found, none_found, none_passes}

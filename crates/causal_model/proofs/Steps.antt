@@ -6,8 +6,9 @@ use Rattle.op_base.specs.Message.{number, id_of}
 use Rattle.op_base.specs.declared.message.Message.{Message}
 use Rattle.op_base.specs.declared.outcome.Step.{Step}
 use Rattle.causal_model.specs.Counts.{is_deliverable}
-use Rattle.causal_model.specs.Receiving.{State, counted, next_early, has_id, crook_after, state_with, step_of, steps_within, steps}
-use Rattle.causal_model.specs.Laws.States.{next_of}
+use Rattle.causal_model.specs.Receiving.{next_early, crook_after, state_with, step_of, steps_within, steps, next_of}
+use Rattle.causal_model.specs.State.{State, counted}
+use Rattle.causal_model.specs.Early.{has_id}
 use Rattle.causal_model.proofs.Finds.{found, fewer_pass}
 
 pub has_own_id : (m : Message) → has_id (id_of m) m ≡ true

@@ -5,10 +5,9 @@ use Rattle.std.proofs.lemmas.Bool.{and_parts, cond_both}
 use Rattle.std.proofs.lemmas.List.Elements.{All-nil, All-cons, All-append, All-filter, filter_passes}
 use Rattle.std.proofs.lemmas.List.Sums.{length-filter, count_by-le-length}
 use Rattle.op_base.specs.declared.message.Message.{Message}
-use Rattle.causal_model.specs.CellSteps.{pruned_log, log_of, stripped_of}
+use Rattle.causal_model.specs.Log.{pruned_log, log_of, stripped_of, is_kept, is_covered_by, is_uncovered}
 use Rattle.causal_model.specs.Covering.{store_keeps, store_covers}
 use Rattle.causal_model.specs.History.{History}
-use Rattle.causal_model.specs.Log.{is_kept, is_covered_by, is_uncovered}
 use Rattle.causal_model.specs.Order.{happened_before}
 use Rattle.causal_model.specs.Stability.{stable_vector, is_stable}
 

@@ -19,7 +19,8 @@ use Rattle.op_base.specs.declared.operation.Op.{Op}
 use Rattle.op_base.specs.declared.operation.Op.TheVariants as op
 use Rattle.causal_model.specs.Counts.{is_carried}
 use Rattle.causal_model.specs.History.{History, Event, events, is_history, is_limited}
-use Rattle.causal_model.specs.Query.{amount_of, share_of, counter_sum, IsWithin}
+use Rattle.causal_model.specs.Query.{counter_sum, IsWithin}
+use Rattle.causal_model.specs.Acts.{amount_of, share_of}
 use Rattle.causal_model.proofs.Lengths.{events_are_carried, history_is_bounded}
 
 -- ---- magnitudes

@@ -20,12 +20,11 @@ use Rattle.op_base.specs.declared.operation.Act.{Act}
 use Rattle.op_base.specs.declared.operation.Act.TheVariants.{Add, Rmv, Clear, Enable, Disable, Write, Inc, Dec}
 use Rattle.op_base.specs.declared.operation.Op.{Op}
 use Rattle.op_base.specs.declared.operation.Op.TheVariants as op
-use Rattle.causal_model.specs.Acts.{acts_on, is_add_of, is_write_of, value_of}
-use Rattle.causal_model.specs.Covering.{same_value}
+use Rattle.causal_model.specs.Acts.{acts_on, is_add_of, is_write_of, value_of, same_value}
 use Rattle.causal_model.specs.History.{Event}
 use Rattle.causal_model.specs.Parts.{has}
-use Rattle.causal_model.specs.Query.{is_act_on, put_value, put_named, put_of, named_values, values_that}
-use Rattle.causal_model.specs.Laws.Answers.{TextsRise, is_named}
+use Rattle.causal_model.specs.Query.{is_act_on, put_value, put_named, put_of, named_values, values_that, TextsRise}
+use Rattle.causal_model.specs.Laws.Answers.{is_named}
 use Rattle.causal_model.proofs.Members.{no_member, member_here, member_later, member_cases, member_of_filter, list_any_weaker, pairs_head, pairs_tail, one_rising_list}
 
 texts_total : IsTotalOrder text_cmp

@@ -1,11 +1,11 @@
 -- What a message does to an object, as tests. The acts are those of the usual kinds, as this project's own profile has
 -- them.
-use Rattle.std.specs.Prelude.{ℕ, Bool, true, false, ◌&&◌, List, Option, Some, None}
+use Rattle.std.specs.Prelude.{ℕ, Bool, true, false, ◌&&◌, ℤ, pos, neg_ℤ, List, Option, Some, None, if◌then◌else◌}
 use Rattle.op_base.specs.Name.{same_text}
 use Rattle.op_base.specs.Object.{same_object}
 use Rattle.op_base.specs.declared.name.ObjectId.{ObjectId}
 use Rattle.op_base.specs.declared.operation.Act.{Act}
-use Rattle.op_base.specs.declared.operation.Act.TheVariants.{Add, Rmv, Clear, Enable, Disable, Write}
+use Rattle.op_base.specs.declared.operation.Act.TheVariants.{Add, Rmv, Clear, Enable, Disable, Write, Inc, Dec}
 use Rattle.op_base.specs.declared.operation.Op.{Op}
 use Rattle.op_base.specs.declared.operation.Op.TheVariants as op
 
@@ -55,3 +55,20 @@ value_of (Add v) = Some v
 value_of (Rmv v) = Some v
 value_of (Write v) = Some v
 value_of act = None
+
+-- what an act adds to a counter
+abbrev pub amount_of : Act → ℤ
+amount_of (Inc a) = pos a
+amount_of (Dec a) = neg_ℤ (pos a)
+amount_of other = pos 0
+
+-- what an operation adds to a counter
+abbrev pub share_of : ObjectId → Op → ℤ
+share_of object op.NoOp = pos 0
+share_of object (op.Update u) = if same_object u.object object then amount_of u.act else pos 0
+
+-- whether two acts name the same value
+abbrev pub same_value : Option (List ℕ) → Option (List ℕ) → Bool
+same_value None other = false
+same_value (Some v) None = false
+same_value (Some v) (Some w) = same_text v w

@@ -1,7 +1,7 @@
 -- What one message more does to settled cells, step by step: what it covers goes, the entries of the log that are stable
 -- now are absorbed, and the marks of the kinds in which a remove wins are settled. The cells are this project's own
 -- profile.
-use Rattle.std.specs.Prelude.{ℕ, Bool, true, false, not, ◌&&◌, ◌||◌, ◌+ℤ◌, List, [], ◌∷◌, ◌++◌, filter, fold, take, length, Option, Some, None, if◌then◌else◌}
+use Rattle.std.specs.Prelude.{ℕ, Bool, true, false, not, ◌&&◌, ◌||◌, ◌+ℤ◌, List, fold, take, length, Option, Some, None, if◌then◌else◌}
 use Rattle.std.specs.List.{list_any}
 use Rattle.std.specs.Ordering.{is_eq}
 use Rattle.op_base.specs.Object.{same_object}
@@ -14,17 +14,12 @@ use Rattle.op_base.specs.declared.operation.Act.{Act}
 use Rattle.op_base.specs.declared.operation.Act.TheVariants.{Add, Rmv, Enable, Disable, Write}
 use Rattle.op_base.specs.declared.operation.Op.{Op}
 use Rattle.op_base.specs.declared.operation.Op.TheVariants as op
-use Rattle.op_base.specs.declared.operation.Update.{Update}
 use Rattle.op_base.specs.declared.outcome.Cell.{Cell}
-use Rattle.causal_model.specs.Acts.{acts_on, value_of, is_clear, is_enable, is_add_of}
-use Rattle.causal_model.specs.Covering.{same_value, store_keeps, store_covers}
+use Rattle.causal_model.specs.Acts.{acts_on, value_of, is_clear, is_enable, is_add_of, same_value, amount_of}
 use Rattle.causal_model.specs.History.{History}
 use Rattle.causal_model.specs.Items.{zero_cell}
-use Rattle.causal_model.specs.Log.{is_kept, is_covered_by, kept_log}
-use Rattle.causal_model.specs.Order.{happened_before}
-use Rattle.causal_model.specs.Query.{amount_of}
+use Rattle.causal_model.specs.Log.{stripped_of}
 use Rattle.causal_model.specs.Settled.{settled_cell}
-use Rattle.causal_model.specs.Stability.{stable_vector, is_stable}
 
 -- whether a kind is that of counters that can't be cleared
 abbrev pub is_counter : Kind → Bool
@@ -87,30 +82,11 @@ abbrev pub puts_in : Option (List ℕ) → Act → Bool
 puts_in None act = is_enable act
 puts_in (Some value) act = is_add_of value act
 
--- the log with what a message covers gone, and the message where it is kept, before what is stable now goes
-abbrev pub pruned_log : (Update → Bool) → (Update → Update → Bool) → ℕ → ℕ → List Message → Message → List Message
-pruned_log keeps covers n me messages m =
-    filter (λ e. not (is_covered_by covers e.op m.op && happened_before e m)) (kept_log keeps covers n me messages)
-    ++ (if is_kept keeps m.op then m ∷ [] else [])
-
--- the entries that go from the log as settled, when a message has come
-abbrev pub stripped_log : (Update → Bool) → (Update → Update → Bool) → ℕ → ℕ → List Message → Message → List Message
-stripped_log keeps covers n me messages m =
-    filter (is_stable (stable_vector n me (messages ++ m ∷ []))) (pruned_log keeps covers n me messages m)
-
 -- whether a message of a log puts in what an object's value says, or turns it on
 abbrev pub is_put_in : List Message → ObjectId → Option (List ℕ) → Bool
 is_put_in log object value = list_any (λ m. acts_on object (puts_in value) m.op) log
 
 -- ---- by the store's rules
-
--- the log of a history's present epoch
-abbrev pub log_of : History → List Message
-log_of h = kept_log store_keeps store_covers h.present.n h.present.me h.present.messages
-
--- the entries that go from that log as settled, when a message has come
-abbrev pub stripped_of : History → Message → List Message
-stripped_of h m = stripped_log store_keeps store_covers h.present.n h.present.me h.present.messages m
 
 -- a cell of a history when a message has come: without what the message covers, and with the first k of the entries that go
 -- from the log

@@ -1,14 +1,13 @@
 -- Which operations are logged, and which later operation makes an earlier one redundant. That one may do so is the idea
 -- of Baquero, Almeida and Shoker (arXiv 1710.04469); the table is this project's own profile.
-use Rattle.std.specs.Prelude.{ℕ, Bool, true, false, ◌&&◌, ◌||◌, List, Option, Some, None}
-use Rattle.op_base.specs.Name.{same_text}
+use Rattle.std.specs.Prelude.{Bool, true, false, ◌&&◌, ◌||◌}
 use Rattle.op_base.specs.Object.{same_object}
 use Rattle.op_base.specs.declared.name.Kind.{Kind}
 use Rattle.op_base.specs.declared.name.Kind.TheVariants.{AwSet, RwSet, EwFlag, DwFlag, MvReg, Counter, RCounter}
 use Rattle.op_base.specs.declared.operation.Act.{Act}
 use Rattle.op_base.specs.declared.operation.Act.TheVariants.{Add, Rmv, Enable, Disable, Write, Inc, Dec}
 use Rattle.op_base.specs.declared.operation.Update.{Update}
-use Rattle.causal_model.specs.Acts.{value_of, is_clear}
+use Rattle.causal_model.specs.Acts.{value_of, is_clear, same_value}
 
 -- whether an act of a kind is logged while it is unstable and uncovered
 abbrev pub keeps_act : Kind → Act → Bool
@@ -22,12 +21,6 @@ keeps_act MvReg (Write v) = true
 keeps_act RCounter (Inc a) = true
 keeps_act RCounter (Dec a) = true
 keeps_act kind act = false
-
--- whether two acts name the same value
-abbrev pub same_value : Option (List ℕ) → Option (List ℕ) → Bool
-same_value None other = false
-same_value (Some v) None = false
-same_value (Some v) (Some w) = same_text v w
 
 -- Whether a later act of a kind covers an earlier one that is logged. In a set an act covers those of its value and a
 -- clear covers all; in a flag and a register each act covers all; in a counter that can be cleared a clear does.

@@ -1,5 +1,7 @@
--- Crooked messages: deliverable ones that no member that follows the rules can have sent. With these four checks the
--- order of messages is transitive on every history, whatever bytes came. The checks are this project's own profile.
+-- Crooked messages: deliverable ones that don't fit what this member delivered. They have seen less than a message that they
+-- follow, or with them more would be unstable than a window has. With these four checks the order of messages is transitive
+-- on every history, whatever bytes came. No message that was sent is crooked where no frame was forged; one forged frame can
+-- make messages crooked that members sent by the rules. The checks are this project's own profile.
 use Rattle.std.specs.Prelude.{ℕ, ◌&&◌, ◌||◌, ◌==◌, nat_lt, List, map, [], ◌∷◌, ◌++◌, Option, Some, None, if◌then◌else◌}
 use Rattle.std.specs.Option.{option_map}
 use Rattle.std.specs.List.{find}

@@ -1,6 +1,6 @@
 -- Histories: the chapters of the epochs that are over, and that of the present epoch. Epochs are this project's own
 -- profile.
-use Rattle.std.specs.Prelude.{ℕ, ◌+◌, Bool, not, ◌&&◌, ◌||◌, ◌==◌, nat_lt, nat_le, List, [], ◌∷◌, ◌++◌, map, length}
+use Rattle.std.specs.Prelude.{ℕ, ◌↔◌, ◌+◌, Bool, not, ◌&&◌, ◌||◌, ◌==◌, nat_lt, nat_le, List, [], ◌∷◌, ◌++◌, map, length, Contains}
 use Rattle.std.specs.List.{list_all}
 use Rattle.op_base.specs.declared.message.Message.{Message}
 use Rattle.causal_model.specs.Order.{happened_before}
@@ -61,6 +61,10 @@ events_from epoch (chapter ∷ later) = events_in epoch chapter.messages ++ even
 -- the events of a history, oldest first
 abbrev pub events : History → List Event
 events h = events_from 0 h.past ++ events_in (epoch_of h) h.present.messages
+
+-- two histories have the same events
+abbrev pub SameEvents : History → History → Type 0
+SameEvents g h = (e : Event) → (Contains (events g) e ↔ Contains (events h) e)
 
 -- whether a happened before b: in an earlier epoch, or in one epoch by their timestamps
 abbrev pub is_before : Event → Event → Bool

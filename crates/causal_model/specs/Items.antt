@@ -1,5 +1,5 @@
 -- A finite map of items, as a list of them. The cells are this project's own profile.
-use Rattle.std.specs.Prelude.{◌≡◌, ℕ, Bool, false, not, ◌||◌, pos, List, [], ◌∷◌, Option, Some, None, if◌then◌else◌, AllPairs}
+use Rattle.std.specs.Prelude.{◌≡◌, ℕ, Bool, false, not, ◌||◌, pos, List, [], ◌∷◌, Option, Some, None, if◌then◌else◌, IsTrue, All, AllPairs}
 use Rattle.std.specs.Ordering.{is_eq, int_eq}
 use Rattle.std.specs.declared.cmp.Ordering.TheVariants.{Less}
 use Rattle.op_base.specs.Order.{item_cmp}
@@ -23,6 +23,10 @@ is_at object value item = is_eq (item_cmp item.object item.value object value)
 abbrev pub cell_in : List Item → ObjectId → Option (List ℕ) → Cell
 cell_in [] object value = zero_cell
 cell_in (item ∷ items) object value = if is_at object value item then item.cell else cell_in items object value
+
+-- each item's cell has a mark or a sum
+abbrev pub AreFilled : List Item → Type 0
+AreFilled items = All (λ item. IsTrue (is_filled item.cell)) items
 
 -- no two items are of one object and value
 abbrev pub AreApart : List Item → Type 0

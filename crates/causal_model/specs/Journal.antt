@@ -1,6 +1,6 @@
 -- Journals: the notes that a replica's calls leave, their replay, and which lists of notes calls can have left. They are
 -- this project's own profile.
-use Rattle.std.specs.Prelude.{◌≡◌, ℕ, ◌+◌, ◌<◌, ◌≤◌, IsTrue, List, [], ◌∷◌, ◌++◌, map, fold, Option, Some, None}
+use Rattle.std.specs.Prelude.{◌≡◌, ℕ, ◌+◌, ◌<◌, ◌≤◌, IsTrue, List, [], ◌∷◌, ◌++◌, map, fold, Option, Some, None, if◌then◌else◌}
 use Rattle.std.specs.List.{find, flat_map}
 use Rattle.op_base.specs.declared.message.Message.{Message}
 use Rattle.op_base.specs.declared.operation.Update.{Update}
@@ -9,15 +9,18 @@ use Rattle.op_base.specs.declared.outcome.Step.TheVariants as step
 use Rattle.op_base.specs.Message.{fits}
 use Rattle.op_base.specs.Valid.{is_valid_update}
 use Rattle.causal_model.specs.Counts.{is_carried}
-use Rattle.causal_model.specs.History.{epoch_of, with_message, with_messages, is_all_stable}
-use Rattle.causal_model.specs.Sending.{Sending, sends, busy, ended, sending, Beating, beats, quiet, held, beat_ended, beating}
-use Rattle.causal_model.specs.Receiving.{State, start, has_id, without, with_early, Receiving, old, again, far, accepts, receiving}
+use Rattle.causal_model.specs.History.{epoch_of, with_messages, is_all_stable}
+use Rattle.causal_model.specs.Sending.{local_messages, beat_messages, local_rule, beat_rule}
+use Rattle.causal_model.specs.Early.{has_id, without}
+use Rattle.causal_model.specs.Receiving.{with_early, steps, refusal_of, steps_of, is_accepted}
+use Rattle.causal_model.specs.State.{State, start, with_own}
+use Rattle.causal_model.specs.declared.outcome.Local.{Local}
+use Rattle.causal_model.specs.declared.outcome.Local.TheVariants as local
+use Rattle.causal_model.specs.declared.outcome.Beat.{Beat}
+use Rattle.causal_model.specs.declared.outcome.Beat.TheVariants as beat
+use Rattle.causal_model.specs.declared.outcome.Receive.{Receive}
 use Rattle.causal_model.specs.declared.note.Note.{Note}
 use Rattle.causal_model.specs.declared.note.Note.TheVariants.{Sent, Kept, Took, Crook, Regroup}
-
--- the state after an own message
-abbrev pub with_own : State → Message → State
-with_own s m = record { history = with_message s.history m; early = s.early }
 
 -- messages with an early message, where there is one
 abbrev pub messages_and : List Message → Option Message → List Message
@@ -52,35 +55,24 @@ abbrev pub step_note : Step → Note
 step_note (step.Took id) = Took id
 step_note (step.Crook id cause) = Crook id
 
--- what a send notes
-abbrev pub sending_notes : Sending → List Note
-sending_notes (sends m) = Sent m ∷ []
-sending_notes busy = []
-sending_notes ended = []
+-- what sending notes, what a no-op's send does, and what receiving a message does: the message, and its steps in order
+abbrev pub local_notes : Local → List Note
+local_notes answer = map Sent (local_messages answer)
 
--- what a no-op's send notes
-abbrev pub beating_notes : Beating → List Note
-beating_notes (beats m) = Sent m ∷ []
-beating_notes quiet = []
-beating_notes held = []
-beating_notes beat_ended = []
+abbrev pub beat_notes : Beat → List Note
+beat_notes answer = map Sent (beat_messages answer)
 
--- what receiving a message notes: the message, and its steps in order
-abbrev pub receiving_notes : Message → Receiving → List Note
-receiving_notes m (accepts steps s) = Kept m ∷ map step_note steps
-receiving_notes m old = []
-receiving_notes m again = []
-receiving_notes m far = []
+abbrev pub receive_notes : Message → Receive → List Note
+receive_notes m answer = if is_accepted answer then Kept m ∷ map step_note (steps_of answer) else []
 
 -- A group: what one call notes by the rules at a state, in a store with a window w and a limit; none is empty. What a call
 -- receives is a message of the store that can be carried there: that is what receiving owes. An epoch ends where every
 -- operation is stable; the last is 65535.
 pub data IsGroup (w limit : ℕ) (s : State) : List Note → Type 0 where
-  sent : (update : Update) (m : Message) → IsTrue (is_valid_update update) → sending s.history.present.n w limit s.history.present.me s.history.present.messages update ≡ sends m
-      → IsGroup w limit s (Sent m ∷ [])
-  beaten : (m : Message) → beating s.history.present.n w limit s.history.present.me s.history.present.messages ≡ beats m → IsGroup w limit s (Sent m ∷ [])
-  received : (m : Message) (steps : List Step) (after : State) → IsTrue (fits s.history.present.n m) → IsTrue (is_carried limit m)
-      → receiving w s m ≡ accepts steps after → IsGroup w limit s (Kept m ∷ map step_note steps)
+  sent : (update : Update) (m : Message) → IsTrue (is_valid_update update) → (local_rule w limit update s).0 ≡ local.Sent m → IsGroup w limit s (Sent m ∷ [])
+  beaten : (m : Message) → (beat_rule w limit s).0 ≡ beat.Sent m → IsGroup w limit s (Sent m ∷ [])
+  received : (m : Message) → IsTrue (fits s.history.present.n m) → IsTrue (is_carried limit m) → refusal_of w s m ≡ None
+      → IsGroup w limit s (Kept m ∷ map step_note (steps w (with_early s m)).0)
   regrouped_as : (n me : ℕ) → n ≤ 16 → me < n → epoch_of s.history < 65535 → IsTrue (is_all_stable s.history.present)
       → IsGroup w limit s (Regroup (epoch_of s.history + 1) n me ∷ [])
 
@@ -94,7 +86,7 @@ abbrev pub notes_of : List (List Note) → List Note
 notes_of groups = flat_map (λ group. group) groups
 
 -- Notes are legal, first for member me of n members, where they are the notes of a list of groups, from nothing.
-pub record IsLegal (w limit n me : ℕ) (notes : List Note) : Type 0 where
+pub record IsLegal (n w limit me : ℕ) (notes : List Note) : Type 0 where
   pub groups : List (List Note)
   pub are_groups : AreGroups w limit (start n me) groups
   pub are_theirs : notes ≡ notes_of groups

@@ -12,6 +12,9 @@ pub mod Items
 pub mod Settled
 pub mod CellSteps
 pub mod Parts
+pub mod Follows
+pub mod State
+pub mod Early
 pub mod Sending
 pub mod Receiving
 pub mod Journal

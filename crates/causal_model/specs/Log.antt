@@ -1,11 +1,13 @@
 -- The log of an epoch's messages: what remains of them in a partially ordered log, as in Baquero, Almeida and Shoker
 -- (arXiv 1710.04469). It filters all of them; nothing is pruned step by step.
-use Rattle.std.specs.Prelude.{ℕ, Bool, false, not, ◌&&◌, List, filter}
+use Rattle.std.specs.Prelude.{ℕ, Bool, false, not, ◌&&◌, List, [], ◌∷◌, ◌++◌, filter, if◌then◌else◌}
 use Rattle.op_base.specs.declared.message.Message.{Message}
 use Rattle.op_base.specs.declared.message.Entry.{Entry}
 use Rattle.op_base.specs.declared.operation.Update.{Update}
 use Rattle.op_base.specs.declared.operation.Op.{Op}
 use Rattle.op_base.specs.declared.operation.Op.TheVariants as op
+use Rattle.causal_model.specs.Covering.{store_keeps, store_covers}
+use Rattle.causal_model.specs.History.{History}
 use Rattle.causal_model.specs.Order.{happened_before, is_followed}
 use Rattle.causal_model.specs.Stability.{stable_vector, is_stable}
 
@@ -28,6 +30,27 @@ is_uncovered covers messages m = not (is_followed happened_before (λ later. is_
 abbrev pub kept_log : (Update → Bool) → (Update → Update → Bool) → ℕ → ℕ → List Message → List Message
 kept_log keeps covers n me messages =
     filter (λ m. is_kept keeps m.op && is_uncovered covers messages m && not (is_stable (stable_vector n me messages) m)) messages
+
+-- the log with what a message covers gone, and the message where it is kept, before what is stable now goes
+abbrev pub pruned_log : (Update → Bool) → (Update → Update → Bool) → ℕ → ℕ → List Message → Message → List Message
+pruned_log keeps covers n me messages m =
+    filter (λ e. not (is_covered_by covers e.op m.op && happened_before e m)) (kept_log keeps covers n me messages)
+    ++ (if is_kept keeps m.op then m ∷ [] else [])
+
+-- the entries that go from the log as settled, when a message has come
+abbrev pub stripped_log : (Update → Bool) → (Update → Update → Bool) → ℕ → ℕ → List Message → Message → List Message
+stripped_log keeps covers n me messages m =
+    filter (is_stable (stable_vector n me (messages ++ m ∷ []))) (pruned_log keeps covers n me messages m)
+
+-- ---- by the store's rules
+
+-- the log of a history's present epoch
+abbrev pub log_of : History → List Message
+log_of h = kept_log store_keeps store_covers h.present.n h.present.me h.present.messages
+
+-- the entries that go from that log as settled, when a message has come
+abbrev pub stripped_of : History → Message → List Message
+stripped_of h m = stripped_log store_keeps store_covers h.present.n h.present.me h.present.messages m
 
 -- the message that an entry of a log is of
 abbrev pub message_of : Entry → Message

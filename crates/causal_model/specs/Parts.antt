@@ -12,7 +12,7 @@ use Rattle.op_base.specs.declared.outcome.Answer.TheVariants.{Values, Flag, Sum}
 use Rattle.op_base.specs.declared.outcome.Cell.{Cell}
 use Rattle.op_base.specs.declared.outcome.Item.{Item}
 use Rattle.causal_model.specs.Acts.{acts_on, is_add_of, is_rmv_of, is_write_of, is_enable, is_disable}
-use Rattle.causal_model.specs.CellSteps.{log_of}
+use Rattle.causal_model.specs.Log.{log_of}
 use Rattle.causal_model.specs.History.{History, Event}
 use Rattle.causal_model.specs.Items.{cell_in}
 use Rattle.causal_model.specs.Query.{is_act_on, awset_has, rwset_has, mvreg_has, ewflag_on, dwflag_on, counter_sum, values_that}

@@ -1,8 +1,9 @@
 -- Queries: what an object is, over all events of a history and their order. They name no order of delivery, no log and
 -- no stability. The kinds are the usual ones, in this project's wording.
-use Rattle.std.specs.Prelude.{ℕ, Bool, not, ◌||◌, ◌&&◌, ℤ, pos, ◌+ℤ◌, ◌<ℤ◌, neg_ℤ, List, [], ◌∷◌, map, filter, fold, Option, Some, None, if◌then◌else◌}
+use Rattle.std.specs.Prelude.{◌≡◌, ℕ, Bool, not, ◌||◌, ◌&&◌, ℤ, pos, ◌+ℤ◌, ◌<ℤ◌, neg_ℤ, List, [], ◌∷◌, map, filter, fold, AllPairs, Option, Some, None, if◌then◌else◌}
 use Rattle.std.specs.List.{list_any, list_all}
 use Rattle.std.specs.Ordering.{is_lt, is_eq}
+use Rattle.std.specs.declared.cmp.Ordering.TheVariants.{Less}
 use Rattle.op_base.specs.Object.{same_object}
 use Rattle.op_base.specs.Order.{text_cmp}
 use Rattle.op_base.specs.declared.name.ObjectId.{ObjectId}
@@ -11,12 +12,11 @@ use Rattle.op_base.specs.declared.name.Kind.TheVariants.{AwSet, RwSet, EwFlag, D
 use Rattle.op_base.specs.declared.outcome.Answer.{Answer}
 use Rattle.op_base.specs.declared.outcome.Answer.TheVariants.{Values, Flag, Sum}
 use Rattle.op_base.specs.declared.operation.Act.{Act}
-use Rattle.op_base.specs.declared.operation.Act.TheVariants.{Inc, Dec}
 use Rattle.op_base.specs.declared.operation.Op.{Op}
 use Rattle.op_base.specs.declared.operation.Op.TheVariants as op
 use Rattle.causal_model.specs.Order.{is_followed}
 use Rattle.causal_model.specs.History.{Event, is_before}
-use Rattle.causal_model.specs.Acts.{acts_on, is_add_of, is_rmv_of, is_write_of, is_write, is_clear, is_enable, is_disable, value_of}
+use Rattle.causal_model.specs.Acts.{acts_on, is_add_of, is_rmv_of, is_write_of, is_write, is_clear, is_enable, is_disable, value_of, share_of}
 
 -- whether an event does an act that passes to an object
 abbrev pub is_act_on : ObjectId → (Act → Bool) → Event → Bool
@@ -56,17 +56,6 @@ dwflag_on object events = remove_wins object is_enable is_disable events
 -- a register has a value: it was written, and nothing was written or cleared after that
 abbrev pub mvreg_has : ObjectId → List Event → List ℕ → Bool
 mvreg_has object events value = add_wins object (is_write_of value) (λ act. is_write act || is_clear act) events
-
--- what an act adds to a counter
-abbrev pub amount_of : Act → ℤ
-amount_of (Inc a) = pos a
-amount_of (Dec a) = neg_ℤ (pos a)
-amount_of other = pos 0
-
--- what an operation adds to a counter
-abbrev pub share_of : ObjectId → Op → ℤ
-share_of object op.NoOp = pos 0
-share_of object (op.Update u) = if same_object u.object object then amount_of u.act else pos 0
 
 -- what operations add to a counter in all
 abbrev pub total_of : ObjectId → List Op → ℤ
@@ -109,6 +98,10 @@ named_values object events = fold (λ values e. put_of object e.message.op value
 -- the values of a set or a register, in byte order and each once
 abbrev pub values_that : (List ℕ → Bool) → ObjectId → List Event → List (List ℕ)
 values_that has object events = filter has (named_values object events)
+
+-- values rise in byte order
+abbrev pub TextsRise : List (List ℕ) → Type 0
+TextsRise values = AllPairs (λ (a b : List ℕ). text_cmp a b ≡ Less) values
 
 -- the answer of a kind
 abbrev pub answer_as : Kind → ObjectId → List Event → Answer

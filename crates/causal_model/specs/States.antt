@@ -4,7 +4,9 @@ use Rattle.op_base.specs.Message.{fits}
 use Rattle.op_base.specs.declared.message.Message.{Message}
 use Rattle.causal_model.specs.Counts.{is_carried}
 use Rattle.causal_model.specs.History.{is_history, is_limited}
-use Rattle.causal_model.specs.Receiving.{State, counted, is_old, is_far, stands_before}
+use Rattle.causal_model.specs.Early.{stands_before}
+use Rattle.causal_model.specs.Receiving.{is_old, is_far}
+use Rattle.causal_model.specs.State.{State, counted}
 
 -- messages are early at member me of n members, with a window w and a limit, where so many of each member were delivered
 pub record AreEarly (n w limit me : ℕ) (counted : List ℕ) (early : List Message) : Type 0 where

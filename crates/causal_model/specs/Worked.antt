@@ -25,10 +25,14 @@ use Rattle.causal_model.specs.Query.{answer}
 use Rattle.causal_model.specs.Covering.{store_keeps, store_covers}
 use Rattle.causal_model.specs.Log.{kept_log}
 use Rattle.causal_model.specs.Settled.{on_cell, settled_cell, settled_items}
-use Rattle.causal_model.specs.Sending.{sends, busy, ended, sending, is_noop_due, beats, quiet, held, beat_ended, beating, outbox_of}
-use Rattle.causal_model.specs.Receiving.{State, start, counted, old, again, far, accepts, receiving}
-use Rattle.causal_model.specs.Journal.{replay, receiving_notes, IsLegal}
+use Rattle.causal_model.specs.Sending.{sending, is_noop_due, beating, outbox_of}
+use Rattle.causal_model.specs.Receiving.{receive_rule}
+use Rattle.causal_model.specs.State.{State, start, counted}
+use Rattle.causal_model.specs.Journal.{replay, receive_notes, IsLegal}
 use Rattle.causal_model.specs.declared.note.Note.{Note}
+use Rattle.causal_model.specs.declared.outcome.Local.TheVariants as local
+use Rattle.causal_model.specs.declared.outcome.Beat.TheVariants as beat
+use Rattle.causal_model.specs.declared.outcome.Receive.TheVariants as receive
 use Rattle.causal_model.specs.declared.note.Note.TheVariants as note
 
 -- the object of a kind with a key
@@ -324,23 +328,23 @@ both_taken = state 3 2 (write_a ∷ write_b ∷ []) []
 
 pub record TakenWithItsCause : Type 0 where
   -- b waits for a, which its sender had
-  pub kept : receiving 4 (start 3 2) write_b ≡ accepts [] early_b
-  pub same_again : receiving 4 early_b write_b ≡ again
+  pub kept : receive_rule 4 write_b (start 3 2) ≡ (receive.Kept, early_b)
+  pub same_again : receive_rule 4 write_b early_b ≡ (receive.Again, early_b)
   -- with a both are delivered, a first
-  pub taken : receiving 4 early_b write_a ≡ accepts (step.Took (id 0 1) ∷ step.Took (id 1 1) ∷ []) both_taken
+  pub taken : receive_rule 4 write_a early_b ≡ (receive.Took (step.Took (id 0 1) ∷ step.Took (id 1 1) ∷ []), both_taken)
   -- b was written after a
   pub last : answer mvreg_m (events both_taken.history) ≡ Values (codes "b" ∷ [])
-  pub old_then : receiving 4 both_taken write_a ≡ old
+  pub old_then : receive_rule 4 write_a both_taken ≡ (receive.Old, both_taken)
 
 -- what that leaves in a journal
 pub record JournalReplays : Type 0 where
   -- the message as it is accepted, and then its steps in order
-  pub notes_a : receiving_notes write_a (receiving 4 early_b write_a)
+  pub notes_a : receive_notes write_a (receive_rule 4 write_a early_b).0
       ≡ note.Kept write_a ∷ note.Took (id 0 1) ∷ note.Took (id 1 1) ∷ []
   -- what isn't accepted leaves no note
-  pub notes_old : receiving_notes write_a (receiving 4 both_taken write_a) ≡ []
+  pub notes_old : receive_notes write_a (receive_rule 4 write_a both_taken).0 ≡ []
   -- the replay of both calls' notes is the state that they left
-  pub replayed : replay 3 2 (receiving_notes write_b (receiving 4 (start 3 2) write_b) ++ receiving_notes write_a (receiving 4 early_b write_a))
+  pub replayed : replay 3 2 (receive_notes write_b (receive_rule 4 write_b (start 3 2)).0 ++ receive_notes write_a (receive_rule 4 write_a early_b).0)
       ≡ both_taken
   -- an own message is delivered at once, and one that was dropped is gone
   pub dropped : replay 2 0 (note.Sent first_add ∷ note.Kept remove ∷ note.Crook (id 1 1) ∷ []) ≡ state 2 0 (first_add ∷ []) []
@@ -351,14 +355,14 @@ numbered s = does_to 0 (s ∷ 0 ∷ []) counter_c (Inc 1) yes
 
 pub record KeptUpToTheWindows : Type 0 where
   -- the fourth message is kept, and the fifth is too far ahead
-  pub at_bound : receiving 1 (start 2 1) (numbered 4) ≡ accepts [] (state 2 1 [] (numbered 4 ∷ []))
-  pub past_bound : receiving 1 (start 2 1) (numbered 5) ≡ far
+  pub at_bound : receive_rule 1 (numbered 4) (start 2 1) ≡ (receive.Kept, state 2 1 [] (numbered 4 ∷ []))
+  pub past_bound : receive_rule 1 (numbered 5) (start 2 1) ≡ (receive.Far, start 2 1)
   -- the same message again
-  pub same_again : receiving 1 (state 2 1 [] (numbered 4 ∷ [])) (numbered 4) ≡ again
+  pub same_again : receive_rule 1 (numbered 4) (state 2 1 [] (numbered 4 ∷ [])) ≡ (receive.Again, state 2 1 [] (numbered 4 ∷ []))
   -- a message that has seen one of member 1, which has sent nothing
-  pub seen_unsent : receiving 1 (start 2 1) (does_to 0 (1 ∷ 1 ∷ []) counter_c (Inc 1) yes) ≡ far
+  pub seen_unsent : receive_rule 1 (does_to 0 (1 ∷ 1 ∷ []) counter_c (Inc 1) yes) (start 2 1) ≡ (receive.Far, start 2 1)
   -- a message of member 1 itself
-  pub own : receiving 1 (start 2 1) (does_to 1 (0 ∷ 1 ∷ []) counter_c (Inc 1) yes) ≡ old
+  pub own : receive_rule 1 (does_to 1 (0 ∷ 1 ∷ []) counter_c (Inc 1) yes) (start 2 1) ≡ (receive.Old, start 2 1)
 
 -- Four members. Members 0 and 1 have 2:1 and send; what they send comes to member 3 before it, from member 1 first.
 abbrev pub cause : Message
@@ -372,11 +376,9 @@ after_at_1 = does_to 1 (0 ∷ 1 ∷ 1 ∷ 0 ∷ []) counter_c (Inc 1) yes
 
 pub record LowestMemberFirst : Type 0 where
   -- both wait for their cause
-  pub waiting : receiving 4 (state 4 3 [] (after_at_1 ∷ [])) after_at_0 ≡ accepts [] (state 4 3 [] (after_at_0 ∷ after_at_1 ∷ []))
+  pub waiting : receive_rule 4 after_at_0 (state 4 3 [] (after_at_1 ∷ [])) ≡ (receive.Kept, state 4 3 [] (after_at_0 ∷ after_at_1 ∷ []))
   -- with it both can be delivered, and that of the lower member is first
-  pub taken : receiving 4 (state 4 3 [] (after_at_0 ∷ after_at_1 ∷ [])) cause
-      ≡ accepts (step.Took (id 2 1) ∷ step.Took (id 0 1) ∷ step.Took (id 1 1) ∷ [])
-      (state 4 3 (cause ∷ after_at_0 ∷ after_at_1 ∷ []) [])
+  pub taken : receive_rule 4 cause (state 4 3 [] (after_at_0 ∷ after_at_1 ∷ [])) ≡ (receive.Took (step.Took (id 2 1) ∷ step.Took (id 0 1) ∷ step.Took (id 1 1) ∷ []), state 4 3 (cause ∷ after_at_0 ∷ after_at_1 ∷ []) [])
 
 -- Three members. Member 0 has seen 2:1 and sends 0:1, and member 2 has both. What member 1 then can't have sent:
 abbrev pub seen_both : List Message
@@ -405,8 +407,7 @@ pub record Crooks : Type 0 where
   pub noop_comes : IsTrue (is_deliverable 3 (counts 3 (noops 5)) (noop 0 (6 ∷ 0 ∷ 0 ∷ [])))
   -- it has seen 0:1 and not 2:1, which 0:1 had seen
   pub unclosed : crook_of 3 4 2 seen_both (at_1 (1 ∷ 1 ∷ 0 ∷ [])) ≡ Some (crook.Unclosed 0 2 1 0)
-  pub unclosed_dropped : receiving 4 (state 3 2 seen_both []) (at_1 (1 ∷ 1 ∷ 0 ∷ []))
-      ≡ accepts (step.Crook (id 1 1) (crook.Unclosed 0 2 1 0) ∷ []) (state 3 2 seen_both [])
+  pub unclosed_dropped : receive_rule 4 (at_1 (1 ∷ 1 ∷ 0 ∷ [])) (state 3 2 seen_both []) ≡ (receive.Took (step.Crook (id 1 1) (crook.Unclosed 0 2 1 0) ∷ []), state 3 2 seen_both [])
   -- it has seen both
   pub none : crook_of 3 4 2 seen_both (at_1 (1 ∷ 1 ∷ 1 ∷ [])) ≡ None
   -- it had seen 0:1 before, and now hasn't
@@ -414,11 +415,9 @@ pub record Crooks : Type 0 where
   -- it is both, and over a window of one too: the first cause is told
   pub first_cause : crook_of 3 1 2 seen_three (at_1 (1 ∷ 2 ∷ 0 ∷ [])) ≡ Some (crook.Regress 2 1 0)
   -- a second operation while the first is unstable, with a window of one: it is dropped
-  pub overrun : receiving 1 one_unstable (does_to 0 (2 ∷ 0 ∷ 0 ∷ []) counter_c (Inc 1) yes)
-      ≡ accepts (step.Crook (id 0 2) (crook.Overrun 2) ∷ []) one_unstable
+  pub overrun : receive_rule 1 (does_to 0 (2 ∷ 0 ∷ 0 ∷ []) counter_c (Inc 1) yes) one_unstable ≡ (receive.Took (step.Crook (id 0 2) (crook.Overrun 2) ∷ []), one_unstable)
   -- a no-op in its place is delivered
-  pub noop_taken : receiving 1 one_unstable (noop 0 (2 ∷ 0 ∷ 0 ∷ []))
-      ≡ accepts (step.Took (id 0 2) ∷ []) (state 3 2 (one_unstable.history.present.messages ++ noop 0 (2 ∷ 0 ∷ 0 ∷ []) ∷ []) [])
+  pub noop_taken : receive_rule 1 (noop 0 (2 ∷ 0 ∷ 0 ∷ [])) one_unstable ≡ (receive.Took (step.Took (id 0 2) ∷ []), state 3 2 (one_unstable.history.present.messages ++ noop 0 (2 ∷ 0 ∷ 0 ∷ []) ∷ []) [])
   -- a sixth no-op while five are unstable; a fifth has room
   pub noop_overrun : crook_of 3 1 2 (noops 5) (noop 0 (6 ∷ 0 ∷ 0 ∷ [])) ≡ Some (crook.NoopOverrun 6)
   pub noop_none : crook_of 3 1 2 (noops 4) (noop 0 (5 ∷ 0 ∷ 0 ∷ [])) ≡ None
@@ -431,20 +430,20 @@ inc_1 = record { object = counter_c; act = Inc 1; of_kind = yes }
 
 pub record BusyUntilStable : Type 0 where
   -- there is room for a first operation, and for a second once member 1 has acknowledged the first
-  pub first : sending 2 1 10000 0 [] inc_1 ≡ sends (numbered 1)
-  pub too_soon : sending 2 1 10000 0 (numbered 1 ∷ []) inc_1 ≡ busy
-  pub second : sending 2 1 10000 0 (numbered 1 ∷ noop 1 (1 ∷ 1 ∷ []) ∷ []) inc_1 ≡ sends (does_to 0 (2 ∷ 1 ∷ []) counter_c (Inc 1) yes)
+  pub first : sending 2 1 10000 0 [] inc_1 ≡ local.Sent (numbered 1)
+  pub too_soon : sending 2 1 10000 0 (numbered 1 ∷ []) inc_1 ≡ local.Busy
+  pub second : sending 2 1 10000 0 (numbered 1 ∷ noop 1 (1 ∷ 1 ∷ []) ∷ []) inc_1 ≡ local.Sent (does_to 0 (2 ∷ 1 ∷ []) counter_c (Inc 1) yes)
   -- a member alone that may send one message has sent it
-  pub at_limit : sending 1 1 1 0 (does_to 0 (1 ∷ []) counter_c (Inc 1) yes ∷ []) inc_1 ≡ ended
+  pub at_limit : sending 1 1 1 0 (does_to 0 (1 ∷ []) counter_c (Inc 1) yes ∷ []) inc_1 ≡ local.End
   -- at the limit with no room it is busy
-  pub busy_at_limit : sending 2 1 1 0 (numbered 1 ∷ []) inc_1 ≡ busy
+  pub busy_at_limit : sending 2 1 1 0 (numbered 1 ∷ []) inc_1 ≡ local.Busy
 
 -- Member 0 enables a flag, and member 1 acknowledges that.
 pub record NoOpsDue : Type 0 where
   -- nothing came
-  pub nothing : beating 2 1 10000 0 [] ≡ quiet
+  pub nothing : beating 2 1 10000 0 [] ≡ beat.Quiet
   -- an operation of another member came, and the no-op says so
-  pub due : beating 2 1 10000 1 (enable_e ∷ []) ≡ beats (noop 1 (1 ∷ 1 ∷ []))
+  pub due : beating 2 1 10000 1 (enable_e ∷ []) ≡ beat.Sent (noop 1 (1 ∷ 1 ∷ []))
   -- an own message was sent after it
   pub sent : is_noop_due 1 (enable_e ∷ noop 1 (1 ∷ 1 ∷ []) ∷ []) ≡ false
   -- an own operation and another member's no-op ask for none
@@ -452,9 +451,9 @@ pub record NoOpsDue : Type 0 where
   -- another member's no-op doesn't answer for this one
   pub still_due : is_noop_due 2 (write_a ∷ noop 1 (1 ∷ 1 ∷ 0 ∷ []) ∷ []) ≡ true
   -- a member that may send one message has sent it
-  pub at_limit : beating 2 1 1 1 (down ∷ up ∷ []) ≡ beat_ended
+  pub at_limit : beating 2 1 1 1 (down ∷ up ∷ []) ≡ beat.End
   -- at the limit with none due it is quiet
-  pub quiet_at_limit : beating 2 1 1 1 (enable_e ∷ noop 1 (1 ∷ 1 ∷ []) ∷ []) ≡ quiet
+  pub quiet_at_limit : beating 2 1 1 1 (enable_e ∷ noop 1 (1 ∷ 1 ∷ []) ∷ []) ≡ beat.Quiet
 
 -- Two members with a window of one. Member 0 never acknowledges; after three no-ops member 1 sends no more.
 abbrev pub answered : ℕ → List Message
@@ -471,12 +470,12 @@ four_sent =
 
 pub record HeldAfterThree : Type 0 where
   pub history : IsTrue (is_chapter 2 1 1 unacknowledged)
-  pub is_held : beating 2 1 10000 1 unacknowledged ≡ held
+  pub is_held : beating 2 1 10000 1 unacknowledged ≡ beat.Held
   -- at the limit with no room it is held
   pub history_at_limit : IsTrue (is_chapter 2 1 1 four_sent)
-  pub held_at_limit : beating 2 1 4 1 four_sent ≡ held
+  pub held_at_limit : beating 2 1 4 1 four_sent ≡ beat.Held
   -- no-ops take no room from operations
-  pub operation : sending 2 1 10000 1 unacknowledged inc_1 ≡ sends (does_to 1 (4 ∷ 4 ∷ []) counter_c (Inc 1) yes)
+  pub operation : sending 2 1 10000 1 unacknowledged inc_1 ≡ local.Sent (does_to 1 (4 ∷ 4 ∷ []) counter_c (Inc 1) yes)
   -- no-ops are sent again too, until they are stable
   pub outbox : map id_of (outbox_of 2 1 unacknowledged) ≡ id 1 1 ∷ id 1 2 ∷ id 1 3 ∷ []
 
@@ -485,10 +484,10 @@ pub record HeldAfterThree : Type 0 where
 -- Member 0 sends an operation, and member 1's no-op answers it.
 pub record LegalJournals : Type 0 where
   -- the note of the send and then those of the receive are legal
-  pub legal : IsLegal 1 10000 2 0 (note.Sent (numbered 1) ∷ note.Kept (noop 1 (1 ∷ 1 ∷ [])) ∷ note.Took (id 1 1) ∷ [])
+  pub legal : IsLegal 2 1 10000 0 (note.Sent (numbered 1) ∷ note.Kept (noop 1 (1 ∷ 1 ∷ [])) ∷ note.Took (id 1 1) ∷ [])
   -- no legal journal begins with a message that is taken or dropped, since none was accepted
-  pub untaken : (w limit n me : ℕ) (first : MessageId) (later : List Note) → IsLegal w limit n me (note.Took first ∷ later) → ⊥
-  pub undropped : (w limit n me : ℕ) (first : MessageId) (later : List Note) → IsLegal w limit n me (note.Crook first ∷ later) → ⊥
+  pub untaken : (n w limit me : ℕ) (first : MessageId) (later : List Note) → IsLegal n w limit me (note.Took first ∷ later) → ⊥
+  pub undropped : (n w limit me : ℕ) (first : MessageId) (later : List Note) → IsLegal n w limit me (note.Crook first ∷ later) → ⊥
 
 -- ---- two epochs
 

@@ -8,6 +8,7 @@
 mod items;
 mod laws;
 mod note;
+mod outcome;
 mod room;
 mod rule;
 mod worked;
@@ -25,6 +26,7 @@ pub use laws::{
     unstable_messages_tell_a_crook, values_are_exactly_those_that_pass, windows_bound_what_is_kept,
 };
 pub use note::Note;
+pub use outcome::{Beat, Local, Receive, Refusal};
 pub use room::{MOST_WINDOW, most_noops, most_unstable};
 pub use rule::TypeRule;
 pub use worked::{

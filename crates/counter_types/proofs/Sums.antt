@@ -16,7 +16,8 @@ use Rattle.causal_model.specs.History.{History, events, is_history, is_limited}
 use Rattle.causal_model.specs.Log.{message_of}
 use Rattle.causal_model.specs.Items.{cell_in}
 use Rattle.causal_model.specs.Parts.{ArePartsOf}
-use Rattle.causal_model.specs.Query.{share_of, total_of, counter_sum, answer_as, answer}
+use Rattle.causal_model.specs.Query.{total_of, counter_sum, answer_as, answer}
+use Rattle.causal_model.specs.Acts.{share_of}
 use Rattle.causal_model.specs.Settled.{is_settled, object_cell}
 use Rattle.causal_model.proofs.EventsOfOneMore.{filter_all}
 use Rattle.causal_model.proofs.ObjectParts.{sum_from_parts}

@@ -7,7 +7,8 @@ ghost use Rattle.causal_model.specs.History.{History, events, is_history};
 ghost use Rattle.causal_model.specs.Items.{cell_in};
 ghost use Rattle.causal_model.specs.Log.{message_of};
 ghost use Rattle.causal_model.specs.Parts.{ArePartsOf};
-ghost use Rattle.causal_model.specs.Query.{share_of, total_of, answer, IsWithin};
+ghost use Rattle.causal_model.specs.Query.{total_of, answer, IsWithin};
+ghost use Rattle.causal_model.specs.Acts.{share_of};
 ghost use Rattle.counter_types.specs.Asked.{has_sum};
 
 use causal_model::ItemView;

@@ -5,10 +5,9 @@ ghost use Rattle.op_base.specs.declared.name.Kind.TheVariants.{MvReg};
 ghost use Rattle.op_base.specs.declared.outcome.Answer.TheVariants.{Values};
 ghost use Rattle.causal_model.specs.History.{History, events, is_history};
 ghost use Rattle.causal_model.specs.Items.{cell_in};
-ghost use Rattle.causal_model.specs.Laws.Answers.{TextsRise};
+ghost use Rattle.causal_model.specs.Query.{TextsRise, answer};
 ghost use Rattle.causal_model.specs.Log.{message_of};
 ghost use Rattle.causal_model.specs.Parts.{has_by_parts, ArePartsOf};
-ghost use Rattle.causal_model.specs.Query.{answer};
 
 use causal_model::ItemView;
 use op_base::{Entry, NoMemory, ObjectId, ValueList};

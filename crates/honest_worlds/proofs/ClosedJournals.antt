@@ -10,30 +10,31 @@ use Rattle.op_base.specs.declared.message.Message.{Message}
 use Rattle.op_base.specs.declared.outcome.Crook.{Crook as Cause}
 use Rattle.op_base.specs.declared.outcome.Step.{Step}
 use Rattle.causal_model.specs.Counts.{is_deliverable, is_carried}
-use Rattle.causal_model.specs.Journal.{with_own, state_noted, state_after, replay, step_note, IsGroup, sent, beaten, received, regrouped_as, AreGroups, notes_of, IsLegal}
-use Rattle.causal_model.specs.Laws.States.{next_of}
-use Rattle.causal_model.specs.Receiving.{State, start, counted, is_old, has_id, crook_after, messages_with, state_with, steps_within, with_early, accepts, receiving}
-use Rattle.causal_model.specs.Sending.{sends, sending, beats, beating}
+use Rattle.causal_model.specs.Journal.{state_noted, state_after, replay, step_note, IsGroup, sent, beaten, received, regrouped_as, AreGroups, notes_of, IsLegal}
+use Rattle.causal_model.specs.State.{with_own, State, start, counted}
+use Rattle.causal_model.specs.Receiving.{next_of, is_old, crook_after, messages_with, state_with, steps_within, steps, with_early, refusal_of, steps_of, receive_by, receive_rule}
+use Rattle.causal_model.specs.Early.{has_id}
+use Rattle.causal_model.specs.Sending.{KeepsRule}
 use Rattle.causal_model.specs.States.{IsState}
 use Rattle.causal_model.specs.declared.note.Note.{Note}
 use Rattle.causal_model.specs.declared.note.Note.TheVariants.{Sent, Kept, Took, Crook, Regroup}
 use Rattle.causal_model.proofs.Early.{All-put_early, IsNew-from_test, fits_member}
 use Rattle.causal_model.proofs.Finds.{found}
-use Rattle.causal_model.proofs.Journals.{group_keeps_state, receiving_replays}
+use Rattle.causal_model.proofs.Journals.{accepting_replays}
+use Rattle.causal_model.proofs.Outcomes.{unrefused, steps_of_accepted}
 use Rattle.causal_model.proofs.States.{start_is_state, step_keeps_state, accept_keeps_state}
 use Rattle.causal_model.proofs.Steps.{steps_by}
-use Rattle.world_model.specs.Honest.{RuleGives, KeepsRule, IsSentMessage, IsHonest}
+use Rattle.world_model.specs.Honest.{IsSentMessage, IsHonest}
 use Rattle.world_model.specs.Journals.{journal_of, world_of_journals, ends_epoch, is_crook, AreJournals, sent_in}
 use Rattle.honest_worlds.specs.Laws.{JournalsAreHonest, JournalsHaveNoCrook, SentNotesAreOwn, OthersWereKept, LegalKeepsRule}
-use Rattle.world_model.specs.Offering.{steps_received}
 use Rattle.world_model.specs.Settling.{is_delivery}
-use Rattle.world_model.specs.World.{PlainWorld, size_of, replica_of, sent_by, state_received}
+use Rattle.world_model.specs.World.{PlainWorld, size_of, replica_of, sent_by}
 use Rattle.world_model.specs.Worlds.{IsReplica, own_of, IsWorld}
-use Rattle.world_model.proofs.Received.{receives, accepted}
+use Rattle.world_model.proofs.Received.{receives}
+use Rattle.world_model.proofs.Sends.{IsGiven, update_is_given, noop_is_given, sent_is_replica}
 use Rattle.world_model.proofs.Sent.{messages_fit}
 use Rattle.honest_worlds.proofs.OnlySent.{keeps_rule-push, HasOnlySent, receives_sent}
-use Rattle.honest_worlds.proofs.Keeping.{no_past, beaten_message}
-use Rattle.honest_worlds.proofs.Commands.{own_update}
+use Rattle.honest_worlds.proofs.Keeping.{no_past}
 use Rattle.causal_model.proofs.Members.{member_of_filter}
 use Rattle.world_model.proofs.Worlds.{own_of_more}
 use Rattle.op_base.specs.declared.outcome.Step.TheVariants as step
@@ -70,7 +71,7 @@ sent_is_in notes m has = from notes has.0 has.1 has.2 where
 
 -- ---- what steps deliver was early
 
-module _ (w limit n me : ℕ) (Is Waits : Message → Type 0) (delivers : (m : Message) → Waits m → Is m) where
+module _ (n w limit me : ℕ) (Is Waits : Message → Type 0) (delivers : (m : Message) → Waits m → Is m) where
   record Has (s : State) : Type 0 where
     is_state : IsState w limit s
     of_member : s.history.present.me ≡ me
@@ -112,38 +113,41 @@ halves (x ∷ a) b all =
 -- ---- what groups leave
 
 -- a state that notes of one epoch left
-pub record IsReplayed (w limit n me : ℕ) (notes : List Note) (s : State) : Type 0 where
+pub record IsReplayed (n w limit me : ℕ) (notes : List Note) (s : State) : Type 0 where
   pub replica : IsReplica n w limit me s
   pub rule : KeepsRule n w limit me s.history.present.messages
   pub own : own_of s ≡ sent_in notes
   pub others : All (λ m. m.origin ≢ me → Contains notes (Kept m)) s.history.present.messages
   pub early : All (λ m. Contains notes (Kept m)) s.early
 
-module _ (w limit n me : ℕ) where
+module _ (n w limit me : ℕ) where
   -- an own message
-  own_is_replayed : (notes : List Note) (s : State) (m : Message) → IsReplayed w limit n me notes s → IsReplica n w limit me (with_own s m) → m.origin ≡ me → RuleGives n w limit me s.history.present.messages m m.op
-      → IsReplayed w limit n me (notes ++ Sent m ∷ []) (with_own s m)
-  own_is_replayed notes s m told replica own gives =
+  own_is_replayed : (notes : List Note) (s : State) (m : Message) → IsReplayed n w limit me notes s → IsReplica n w limit me (with_own s m) → IsGiven n w limit me s.history.present.messages m
+      → IsReplayed n w limit me (notes ++ Sent m ∷ []) (with_own s m)
+  own_is_replayed notes s m told replica given =
       let ms = s.history.present.messages in
       let still : (e : Message) → Contains notes (Kept e) → Contains (notes ++ Sent m ∷ []) (Kept e) = λ e has. Contains-append_left notes (Sent m ∷ []) (Kept e) has in
       record {
         replica = replica;
-        rule = keeps_rule-push n w limit me ms m told.rule (λ _. gives);
-        own = own_of_more s m (own ∙ sym told.replica.of_member) ∙ ap (λ xs. xs ++ m ∷ []) told.own ∙ sym (sent_in-append notes (Sent m ∷ []));
-        others = All-push (λ e. e.origin ≢ me → Contains (notes ++ Sent m ∷ []) (Kept e)) ms m (All-weaker (λ e. e.origin ≢ me → Contains notes (Kept e)) (λ e. e.origin ≢ me → Contains (notes ++ Sent m ∷ []) (Kept e)) (λ e had ne. still e (had ne)) ms told.others) (λ ne. absurd (ne own));
+        rule = keeps_rule-push n w limit me ms m told.rule (λ _. given.by_rule);
+        own = own_of_more s m (given.own ∙ sym told.replica.of_member) ∙ ap (λ xs. xs ++ m ∷ []) told.own ∙ sym (sent_in-append notes (Sent m ∷ []));
+        others = All-push (λ e. e.origin ≢ me → Contains (notes ++ Sent m ∷ []) (Kept e)) ms m (All-weaker (λ e. e.origin ≢ me → Contains notes (Kept e)) (λ e. e.origin ≢ me → Contains (notes ++ Sent m ∷ []) (Kept e)) (λ e had ne. still e (had ne)) ms told.others) (λ ne. absurd (ne given.own));
         early = All-weaker (λ e. Contains notes (Kept e)) (λ e. Contains (notes ++ Sent m ∷ []) (Kept e)) still s.early told.early;
       }
 
-  received_is_replayed : (notes : List Note) (s : State) (m : Message) (made : List Step) (after : State) → IsReplayed w limit n me notes s → IsTrue (fits n m) → IsTrue (is_carried limit m) → receiving w s m ≡ accepts made after
-      → IsReplayed w limit n me (notes ++ Kept m ∷ map step_note made) after
-  received_is_replayed notes s m made after told fit carried e =
+  -- a message that isn't refused, and the steps that it makes
+  received_is_replayed : (notes : List Note) (s : State) (m : Message) → IsReplayed n w limit me notes s → IsTrue (fits n m) → IsTrue (is_carried limit m) → refusal_of w s m ≡ None
+      → IsReplayed n w limit me (notes ++ Kept m ∷ map step_note (steps w (with_early s m)).0) (steps w (with_early s m)).1
+  received_is_replayed notes s m told fit carried e =
+      let g = with_early s m in
+      let made = (steps w g).0 in
       let more = notes ++ Kept m ∷ map step_note made in
-      let parts = accepted w s m made after e in
+      let parts = unrefused w s m e in
       let later = receives n w limit me s told.replica m fit carried in
-      let left : state_received s (receiving w s m) ≡ after = ap (state_received s) e in
+      let left : (receive_rule w m s).1 ≡ (steps w g).1 = ap (λ o. (receive_by w m s o).1) e in
       let still : (x : Message) → Contains notes (Kept x) → Contains more (Kept x) = λ x has. Contains-append_left notes (Kept m ∷ map step_note made) (Kept x) has in
       let here : Contains more (Kept m) = Contains-append_right notes (Kept m ∷ map step_note made) (Kept m) (zero, omega arith, refl) in
-      let has = steps_have w limit n me (λ x. x.origin ≢ me → Contains more (Kept x)) (λ x. Contains more (Kept x)) (λ x kept _. kept) (length (with_early s m).early) (with_early s m) (record {
+      let has = steps_have n w limit me (λ x. x.origin ≢ me → Contains more (Kept x)) (λ x. Contains more (Kept x)) (λ x kept _. kept) (length g.early) g (record {
         is_state = accept_keeps_state w limit s m told.replica.is_state (subst (λ k. IsTrue (fits k m)) (sym told.replica.of_store) fit) carried parts.new parts.apart parts.near;
         of_member = told.replica.of_member;
         rule = told.rule;
@@ -152,44 +156,34 @@ module _ (w limit n me : ℕ) where
       }) in
       record {
         replica = subst (IsReplica n w limit me) left later.is_replica;
-        rule = subst (λ g. KeepsRule n w limit me g.history.present.messages) parts.state has.rule;
+        rule = has.rule;
         own = ap own_of (sym left) ∙ later.own ∙ told.own ∙ sym (append-nil (sent_in notes)) ∙ ap (λ ms. sent_in notes ++ ms) (sym (sent_in-steps made)) ∙ sym (sent_in-append notes (Kept m ∷ map step_note made));
-        others = subst (λ g. All (λ x. x.origin ≢ me → Contains more (Kept x)) g.history.present.messages) parts.state has.messages;
-        early = subst (λ g. All (λ x. Contains more (Kept x)) g.early) parts.state has.early;
+        others = has.messages;
+        early = has.early;
       }
 
-  group_is_replayed : (notes : List Note) (s : State) (group : List Note) → IsReplayed w limit n me notes s → All (λ note. ends_epoch note ≡ false) group → IsGroup w limit s group → IsReplayed w limit n me (notes ++ group) (state_after s group)
+  group_is_replayed : (notes : List Note) (s : State) (group : List Note) → IsReplayed n w limit me notes s → All (λ note. ends_epoch note ≡ false) group → IsGroup w limit s group → IsReplayed n w limit me (notes ++ group) (state_after s group)
   group_is_replayed notes s _ told one (sent update m valid e) =
-      let replica = told.replica in
-      let ms = s.history.present.messages in
-      let kept = group_keeps_state w limit s (Sent m ∷ []) replica.is_state replica.none_is_next (sent update m valid e) in
-      let gives : sending n w limit me ms update ≡ sends m = subst (λ y. sending n w limit y ms update ≡ sends m) replica.of_member (subst (λ u. sending u w limit s.history.present.me ms update ≡ sends m) replica.of_store e) in
-      let made = own_update n w limit me ms update m gives in
-      own_is_replayed notes s m told (record { is_state = kept.0; of_store = replica.of_store; of_member = replica.of_member; past = replica.past; none_is_next = kept.1 }) (ap (λ y. y.origin) made) (subst (λ o. RuleGives n w limit me ms m o) (sym (ap (λ y. y.op) made)) gives)
+      own_is_replayed notes s m told (sent_is_replica n w limit me s m told.replica (sent update m valid e)) (update_is_given n w limit me s m told.replica update e)
   group_is_replayed notes s _ told one (beaten m e) =
+      own_is_replayed notes s m told (sent_is_replica n w limit me s m told.replica (beaten m e)) (noop_is_given n w limit me s m told.replica e)
+  group_is_replayed notes s _ told one (received m fit carried e) =
       let replica = told.replica in
-      let ms = s.history.present.messages in
-      let kept = group_keeps_state w limit s (Sent m ∷ []) replica.is_state replica.none_is_next (beaten m e) in
-      let gives : beating n w limit me ms ≡ beats m = subst (λ y. beating n w limit y ms ≡ beats m) replica.of_member (subst (λ u. beating u w limit s.history.present.me ms ≡ beats m) replica.of_store e) in
-      let made = beaten_message n w limit me ms m gives in
-      own_is_replayed notes s m told (record { is_state = kept.0; of_store = replica.of_store; of_member = replica.of_member; past = replica.past; none_is_next = kept.1 }) (ap (λ y. y.origin) made) (subst (λ o. RuleGives n w limit me ms m o) (sym (ap (λ y. y.op) made)) gives)
-  group_is_replayed notes s _ told one (received m made after fit carried e) =
-      let replica = told.replica in
-      subst (IsReplayed w limit n me (notes ++ Kept m ∷ map step_note made)) (sym (receiving_replays w limit s m made after replica.is_state fit carried e))
-      (received_is_replayed notes s m made after told (subst (λ k. IsTrue (fits k m)) replica.of_store fit) carried e)
+      subst (IsReplayed n w limit me (notes ++ Kept m ∷ map step_note (steps w (with_early s m)).0)) (sym (accepting_replays w limit s m replica.is_state fit carried e))
+      (received_is_replayed notes s m told (subst (λ k. IsTrue (fits k m)) replica.of_store fit) carried e)
   group_is_replayed notes s _ told one (regrouped_as m member few low more stable) = absurd (false≢true (sym (All-head (λ note. ends_epoch note ≡ false) _ [] one)))
 
   -- what each group does, from the state that it meets; P is of groups there
-  groups_are_replayed : (notes : List Note) (s : State) (groups : List (List Note)) → IsReplayed w limit n me notes s → All (λ note. ends_epoch note ≡ false) (notes_of groups) → AreGroups w limit s groups
-      → IsReplayed w limit n me (notes ++ notes_of groups) (state_after s (notes_of groups))
-  groups_are_replayed notes s [] told one are = subst (λ ns. IsReplayed w limit n me ns s) (sym (append-nil notes)) told
+  groups_are_replayed : (notes : List Note) (s : State) (groups : List (List Note)) → IsReplayed n w limit me notes s → All (λ note. ends_epoch note ≡ false) (notes_of groups) → AreGroups w limit s groups
+      → IsReplayed n w limit me (notes ++ notes_of groups) (state_after s (notes_of groups))
+  groups_are_replayed notes s [] told one are = subst (λ ns. IsReplayed n w limit me ns s) (sym (append-nil notes)) told
   groups_are_replayed notes s (group ∷ later) told one are =
       let parts = halves group (notes_of later) one in
       let next = group_is_replayed notes s group told parts.0 are.0 in
       let rest = groups_are_replayed (notes ++ group) (state_after s group) later next parts.1 are.1 in
-      subst (λ ns. IsReplayed w limit n me ns (state_after s (group ++ notes_of later))) (append_assoc notes group (notes_of later)) (subst (IsReplayed w limit n me ((notes ++ group) ++ notes_of later)) (sym (fold-append state_noted s group (notes_of later))) rest)
+      subst (λ ns. IsReplayed n w limit me ns (state_after s (group ++ notes_of later))) (append_assoc notes group (notes_of later)) (subst (IsReplayed n w limit me ((notes ++ group) ++ notes_of later)) (sym (fold-append state_noted s group (notes_of later))) rest)
 
-  start_is_replayed : n ≤ 16 → me < n → IsReplayed w limit n me [] (start n me)
+  start_is_replayed : n ≤ 16 → me < n → IsReplayed n w limit me [] (start n me)
   start_is_replayed few member = record {
     replica = record { is_state = start_is_state n w limit me few member; of_store = refl; of_member = refl; past = refl; none_is_next = refl };
     rule = λ before later m e _. absurd (omega (arith, ap length e, length-append before (m ∷ later)));
@@ -198,18 +192,18 @@ module _ (w limit n me : ℕ) where
     early = All-nil (λ m. Contains [] (Kept m));
   }
 
-  pub legal_is_replayed : (notes : List Note) → n ≤ 16 → me < n → IsLegal w limit n me notes → All (λ note. ends_epoch note ≡ false) notes → IsReplayed w limit n me notes (replay n me notes)
+  pub legal_is_replayed : (notes : List Note) → n ≤ 16 → me < n → IsLegal n w limit me notes → All (λ note. ends_epoch note ≡ false) notes → IsReplayed n w limit me notes (replay n me notes)
   legal_is_replayed notes few member legal one =
-      subst (λ ns. IsReplayed w limit n me ns (replay n me ns)) (sym legal.are_theirs) (groups_are_replayed [] (start n me) legal.groups (start_is_replayed few member) (subst (All (λ note. ends_epoch note ≡ false)) legal.are_theirs one) legal.are_groups)
+      subst (λ ns. IsReplayed n w limit me ns (replay n me ns)) (sym legal.are_theirs) (groups_are_replayed [] (start n me) legal.groups (start_is_replayed few member) (subst (All (λ note. ends_epoch note ≡ false)) legal.are_theirs one) legal.are_groups)
 
 pub sent_notes_are_own : SentNotesAreOwn
-sent_notes_are_own w limit n me notes few member legal one = (legal_is_replayed w limit n me notes few member legal one).own
+sent_notes_are_own n w limit me notes few member legal one = (legal_is_replayed n w limit me notes few member legal one).own
 
 pub others_were_kept : OthersWereKept
-others_were_kept w limit n me notes few member legal one = let told = legal_is_replayed w limit n me notes few member legal one in (told.others, told.early)
+others_were_kept n w limit me notes few member legal one = let told = legal_is_replayed n w limit me notes few member legal one in (told.others, told.early)
 
 pub legal_keeps_rule : LegalKeepsRule
-legal_keeps_rule w limit n me notes few member legal one = (legal_is_replayed w limit n me notes few member legal one).rule
+legal_keeps_rule n w limit me notes few member legal one = (legal_is_replayed n w limit me notes few member legal one).rule
 
 -- ---- the world of journals
 module _ (n w limit : ℕ) (journals : List (List Note)) (some : 1 ≤ n) (few : n ≤ 16) (wide : 1 ≤ w) (most : limit ≤ 1000000) (are : AreJournals n w limit journals) where
@@ -228,8 +222,8 @@ module _ (n w limit : ℕ) (journals : List (List Note)) (some : 1 ≤ n) (few :
   sent_here : (r : ℕ) → r < n → sent_by world r ≡ own_of (state r)
   sent_here r l = get_or-map-range_with_len (λ r. own_of (replay n r (journal_of journals r))) 0 n r r [] l (omega arith)
 
-  told : (r : ℕ) → r < n → IsReplayed w limit n r (journal_of journals r) (state r)
-  told r l = legal_is_replayed w limit n r (journal_of journals r) few l (are.legal r l) (are.one_epoch r l)
+  told : (r : ℕ) → r < n → IsReplayed n w limit r (journal_of journals r) (state r)
+  told r l = legal_is_replayed n w limit r (journal_of journals r) few l (are.legal r l) (are.one_epoch r l)
 
   -- what a journal sent was sent, and what one kept too
   sent_was_sent : (r : ℕ) (m : Message) → r < n → m.origin ≡ r → Contains (sent_in (journal_of journals r)) m → IsSentMessage world m
@@ -239,7 +233,7 @@ module _ (n w limit : ℕ) (journals : List (List Note)) (some : 1 ≤ n) (few :
   kept_was_sent r m l k has = sent_was_sent m.origin m k refl (sent_is_in (journal_of journals m.origin) m (are.kept r m l has))
 
   -- the state that a front of a journal left has sent messages alone
-  front_was_sent : (r : ℕ) (front rest : List Note) (s : State) → r < n → journal_of journals r ≡ front ++ rest → IsReplayed w limit n r front s → All (IsSentMessage world) s.history.present.messages × All (IsSentMessage world) s.early
+  front_was_sent : (r : ℕ) (front rest : List Note) (s : State) → r < n → journal_of journals r ≡ front ++ rest → IsReplayed n w limit r front s → All (IsSentMessage world) s.history.present.messages × All (IsSentMessage world) s.early
   front_was_sent r front rest s l whole is =
       let inside : (note : Note) → Contains front note → Contains (journal_of journals r) note = λ note has. subst (λ ns. Contains ns note) (sym whole) (Contains-append_left front rest note has) in
       let fit = messages_fit n w limit r s is.replica in
@@ -285,11 +279,12 @@ module _ (n w limit : ℕ) (journals : List (List Note)) (some : 1 ≤ n) (few :
   steps_are_straight (step.Took id ∷ made) all = All-cons (λ note. is_crook note ≡ false) (Took id) (map step_note made) refl (steps_are_straight made (All-tail (λ step. is_delivery step ≡ true) (step.Took id) made all))
   steps_are_straight (step.Crook id cause ∷ made) all = absurd (false≢true (All-head (λ step. is_delivery step ≡ true) (step.Crook id cause) made all))
 
-  group_is_straight : (r : ℕ) (front rest : List Note) (s : State) (group : List Note) → r < n → journal_of journals r ≡ front ++ (group ++ rest) → IsReplayed w limit n r front s → IsGroup w limit s group → All (λ note. is_crook note ≡ false) group
+  group_is_straight : (r : ℕ) (front rest : List Note) (s : State) (group : List Note) → r < n → journal_of journals r ≡ front ++ (group ++ rest) → IsReplayed n w limit r front s → IsGroup w limit s group → All (λ note. is_crook note ≡ false) group
   group_is_straight r front rest s _ l whole is (sent update m valid e) = All-cons (λ note. is_crook note ≡ false) (Sent m) [] refl (All-nil (λ note. is_crook note ≡ false))
   group_is_straight r front rest s _ l whole is (beaten m e) = All-cons (λ note. is_crook note ≡ false) (Sent m) [] refl (All-nil (λ note. is_crook note ≡ false))
   group_is_straight r front rest s _ l whole is (regrouped_as m member a b c stable) = All-cons (λ note. is_crook note ≡ false) _ [] refl (All-nil (λ note. is_crook note ≡ false))
-  group_is_straight r front rest s _ l whole is (received m made after fit carried e) =
+  group_is_straight r front rest s _ l whole is (received m fit carried e) =
+      let made = (steps w (with_early s m)).0 in
       let here : r < size_of world = omega (arith, l, size) in
       let sents = front_was_sent r front (Kept m ∷ map step_note made ++ rest) s l whole is in
       let fit_n : IsTrue (fits n m) = subst (λ k. IsTrue (fits k m)) is.replica.of_store fit in
@@ -304,21 +299,21 @@ module _ (n w limit : ℕ) (journals : List (List Note)) (some : 1 ≤ n) (few :
         early = sents.1;
       } in
       let got = receives_sent world world_is_honest r here s m fed is.replica.none_is_next was_sent (subst (λ u. IsTrue (fits u m)) (sym size) fit_n) carried in
-      All-cons (λ note. is_crook note ≡ false) (Kept m) (map step_note made) refl (steps_are_straight made (subst (All (λ step. is_delivery step ≡ true)) (ap steps_received e) got.deliver))
+      All-cons (λ note. is_crook note ≡ false) (Kept m) (map step_note made) refl (steps_are_straight made (subst (All (λ step. is_delivery step ≡ true)) (ap (λ o. steps_of (receive_by w m s o).0) e ∙ steps_of_accepted made) got.deliver))
 
-  groups_are_straight : (r : ℕ) (front : List Note) (s : State) (groups : List (List Note)) → r < n → journal_of journals r ≡ front ++ notes_of groups → IsReplayed w limit n r front s → All (λ note. ends_epoch note ≡ false) (notes_of groups) → AreGroups w limit s groups
+  groups_are_straight : (r : ℕ) (front : List Note) (s : State) (groups : List (List Note)) → r < n → journal_of journals r ≡ front ++ notes_of groups → IsReplayed n w limit r front s → All (λ note. ends_epoch note ≡ false) (notes_of groups) → AreGroups w limit s groups
       → All (λ note. is_crook note ≡ false) (notes_of groups)
   groups_are_straight r front s [] l whole is one groups = All-nil (λ note. is_crook note ≡ false)
   groups_are_straight r front s (group ∷ later) l whole is one groups =
       let parts = halves group (notes_of later) one in
       All-append (λ note. is_crook note ≡ false) group (notes_of later) (group_is_straight r front (notes_of later) s group l whole is groups.0)
-      (groups_are_straight r (front ++ group) (state_after s group) later l (whole ∙ sym (append_assoc front group (notes_of later))) (group_is_replayed w limit n r front s group is parts.0 groups.0) parts.1 groups.1)
+      (groups_are_straight r (front ++ group) (state_after s group) later l (whole ∙ sym (append_assoc front group (notes_of later))) (group_is_replayed n w limit r front s group is parts.0 groups.0) parts.1 groups.1)
 
   pub none_is_crook : (r : ℕ) → r < n → All (λ note. is_crook note ≡ false) (journal_of journals r)
   none_is_crook r l =
       let legal = are.legal r l in
       subst (All (λ note. is_crook note ≡ false)) (sym legal.are_theirs)
-      (groups_are_straight r [] (start n r) legal.groups l legal.are_theirs (start_is_replayed w limit n r few l) (subst (All (λ note. ends_epoch note ≡ false)) legal.are_theirs (are.one_epoch r l)) legal.are_groups)
+      (groups_are_straight r [] (start n r) legal.groups l legal.are_theirs (start_is_replayed n w limit r few l) (subst (All (λ note. ends_epoch note ≡ false)) legal.are_theirs (are.one_epoch r l)) legal.are_groups)
 
 pub journals_are_honest : JournalsAreHonest
 journals_are_honest n w limit journals some few wide most are = world_is_honest n w limit journals some few wide most are

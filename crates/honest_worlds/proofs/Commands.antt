@@ -1,22 +1,24 @@
 -- Every command but one of bytes keeps a world honest.
-use Rattle.std.proofs.Common.{◌≡◌, ℕ, ◌<◌, All, Bool, true, false, ◌==◌, Contains, IsTrue, List, ◌∷◌, length, refl, sym, ap, subst, ◌∙◌, if◌then◌else◌, Option, Some, None, arith, length-append}
+use Rattle.std.proofs.Common.{◌≡◌, ℕ, ◌<◌, All, ◌==◌, Contains, IsTrue, ◌∷◌, length, refl, sym, ap, subst, ◌∙◌, Option, Some, None, arith, length-append}
 use Rattle.std.proofs.lemmas.Bool.{and_parts, eqb-true, false≢true}
 use Rattle.std.proofs.lemmas.List.FromFn.{get_or-map-range_with_len}
 use Rattle.std.proofs.lemmas.List.Elements.{All-nil}
 use Rattle.op_base.specs.Message.{number}
 use Rattle.op_base.specs.declared.message.Message.{Message}
 use Rattle.op_base.specs.declared.operation.Update.{Update}
-use Rattle.causal_model.specs.Counts.{count_of}
-use Rattle.causal_model.specs.Receiving.{start, has_id}
-use Rattle.causal_model.specs.Sending.{own_message, Sending, sends, busy, ended, sending, Beating, beats, quiet, held, beat_ended}
-use Rattle.causal_model.specs.Stability.{unstable_operations}
+use Rattle.causal_model.specs.State.{start}
+use Rattle.causal_model.specs.Early.{has_id}
+use Rattle.causal_model.specs.Sending.{local_messages, beat_messages}
+use Rattle.causal_model.specs.declared.outcome.Beat.{Beat}
+use Rattle.causal_model.specs.declared.outcome.Beat.TheVariants as beat
+use Rattle.causal_model.specs.declared.outcome.Local.{Local}
+use Rattle.causal_model.specs.declared.outcome.Local.TheVariants as local
 use Rattle.causal_model.proofs.Finds.{found}
-use Rattle.world_model.specs.Offering.{steps_received}
-use Rattle.world_model.specs.Settling.{is_delivery}
-use Rattle.world_model.specs.World.{PlainWorld, size_of, opening, replica_of, sent_by, sending_at, world_sending, beating_at, world_beating, sent_message, world_given_of}
+use Rattle.world_model.specs.World.{PlainWorld, size_of, opening, replica_of, sent_by, with_all_sent, local_at, beat_at, sent_message, give_of, give_at}
 use Rattle.world_model.specs.Worlds.{KeepsWorld}
 use Rattle.world_model.proofs.Commands.{sending_keeps_world}
-use Rattle.world_model.specs.Honest.{delivered_by, RuleGives, IsSentMessage, IsHonest, KeepsHonest}
+use Rattle.world_model.proofs.Sends.{update_is_given}
+use Rattle.world_model.specs.Honest.{IsSentMessage, IsHonest, KeepsHonest}
 use Rattle.world_model.proofs.Worlds.{world_keeps_itself, opening_is_world, opening_has_size}
 use Rattle.honest_worlds.proofs.SentMessages.{sent_fits}
 use Rattle.honest_worlds.proofs.OnlySent.{replica_has_only_sent, receives_sent}
@@ -24,7 +26,6 @@ use Rattle.honest_worlds.proofs.Keeping.{no_past, sent_keeps_honest, offering_se
 use Rattle.honest_worlds.proofs.Settling.{settled_is_honest}
 use Rattle.honest_worlds.specs.Laws.{OpeningIsHonest, CommandsKeepHonest, OfferingSentKeepsHonest, StepsDeliver, ResentStepsDeliver}
 use Rattle.op_base.specs.Valid.{is_valid_update}
-use Rattle.op_base.specs.declared.operation.Op.TheVariants as op
 use Rattle.world_model.specs.Commands as world_command
 
 -- ---- commands
@@ -51,36 +52,26 @@ sent_message_was_sent world k seq m honest e =
     let both = and_parts (k == m.origin) (seq == number m) there.1 in
     subst (λ x. Contains (sent_by world x) m) (eqb-true k m.origin both.0) there.0
 
-pub own_update : (n w limit me : ℕ) (ms : List Message) (update : Update) (m : Message) → sending n w limit me ms update ≡ sends m → m ≡ own_message n me ms (op.Update update)
-own_update n w limit me ms update m e = by (unstable_operations n me ms me == w) (count_of ms me == limit) e where
-  by : (a b : Bool) → (if a then busy else if b then ended else sends (own_message n me ms (op.Update update))) ≡ sends m → m ≡ own_message n me ms (op.Update update)
-  by true b f = cc
-  by false true f = cc
-  by false false f = let same : own_message n me ms (op.Update update) ≡ m = cc in sym same
+sending_keeps_honest : (world : PlainWorld) (r : ℕ) (update : Update) → IsHonest world → r < size_of world → IsTrue (is_valid_update update) → KeepsHonest world (local_at r update world).1
+sending_keeps_honest world r update honest l valid = by (local_at r update world).0 refl (sending_keeps_world world r update honest.is_world l valid) where
+  by : (answer : Local) → (local_at r update world).0 ≡ answer → KeepsWorld world (with_all_sent r world (local_messages answer)) → KeepsHonest world (with_all_sent r world (local_messages answer))
+  by (local.Sent m) e kept = sent_keeps_honest world r honest l m (update_is_given (size_of world) world.w world.limit r (replica_of world r) m (honest.is_world.replicas r l) update e) kept
+  by local.Busy e kept = (honest, kept)
+  by local.End e kept = (honest, kept)
+  by local.NoMemory e kept = (honest, kept)
 
-sending_keeps_honest : (world : PlainWorld) (r : ℕ) (update : Update) → IsHonest world → r < size_of world → IsTrue (is_valid_update update) → KeepsHonest world (world_sending world r (sending_at world r update))
-sending_keeps_honest world r update honest l valid = by (sending_at world r update) refl (sending_keeps_world world r update honest.is_world l valid) where
-  by : (made : Sending) → sending_at world r update ≡ made → KeepsWorld world (world_sending world r made) → KeepsHonest world (world_sending world r made)
-  by busy e kept = (honest, kept)
-  by ended e kept = (honest, kept)
-  by (sends m) e kept =
-      let replica = honest.is_world.replicas r l in
-      let gives : sending (size_of world) world.w world.limit r (delivered_by world r) update ≡ sends m =
-      subst (λ me. sending (size_of world) world.w world.limit me (delivered_by world r) update ≡ sends m) replica.of_member (subst (λ u. sending u world.w world.limit (replica_of world r).history.present.me (delivered_by world r) update ≡ sends m) replica.of_store e) in
-      let made = own_update (size_of world) world.w world.limit r (delivered_by world r) update m gives in
-      sent_keeps_honest world r honest l m (ap (λ y. y.origin) made) (subst (λ o. RuleGives (size_of world) world.w world.limit r (delivered_by world r) m o) (sym (ap (λ y. y.op) made)) gives) kept
+beating_keeps_honest : (world : PlainWorld) (r : ℕ) → IsHonest world → r < size_of world → KeepsHonest world (beat_at r world).1
+beating_keeps_honest world r honest l = by (beat_at r world).0 refl where
+  by : (answer : Beat) → (beat_at r world).0 ≡ answer → KeepsHonest world (with_all_sent r world (beat_messages answer))
+  by (beat.Sent m) e = beat_keeps_honest world r honest l m e
+  by beat.Quiet e = (honest, world_keeps_itself world honest.is_world)
+  by beat.Held e = (honest, world_keeps_itself world honest.is_world)
+  by beat.End e = (honest, world_keeps_itself world honest.is_world)
+  by beat.NoMemory e = (honest, world_keeps_itself world honest.is_world)
 
-beating_keeps_honest : (world : PlainWorld) (r : ℕ) → IsHonest world → r < size_of world → KeepsHonest world (world_beating world r (beating_at world r))
-beating_keeps_honest world r honest l = by (beating_at world r) refl where
-  by : (made : Beating) → beating_at world r ≡ made → KeepsHonest world (world_beating world r made)
-  by quiet e = (honest, world_keeps_itself world honest.is_world)
-  by held e = (honest, world_keeps_itself world honest.is_world)
-  by beat_ended e = (honest, world_keeps_itself world honest.is_world)
-  by (beats m) e = beat_keeps_honest world r honest l m e
-
-giving_keeps_honest : (world : PlainWorld) (r k seq : ℕ) → IsHonest world → r < size_of world → KeepsHonest world (world_given_of world r (sent_message world k seq))
+giving_keeps_honest : (world : PlainWorld) (r k seq : ℕ) → IsHonest world → r < size_of world → KeepsHonest world (give_at r k seq world).1
 giving_keeps_honest world r k seq honest l = by (sent_message world k seq) refl where
-  by : (found : Option Message) → sent_message world k seq ≡ found → KeepsHonest world (world_given_of world r found)
+  by : (found : Option Message) → sent_message world k seq ≡ found → KeepsHonest world (give_of r world found).1
   by None e = (honest, world_keeps_itself world honest.is_world)
   by (Some m) e = offering_sent_keeps_honest world r honest l m (sent_message_was_sent world k seq m honest e)
 
@@ -95,10 +86,9 @@ commands_keep_honest world world_command.settles honest can plain = settled_is_h
 -- ---- steps
 
 pub steps_deliver : StepsDeliver
-steps_deliver world r m made left honest l sent e =
+steps_deliver world r m honest l sent =
     let fit = sent_fits world m honest sent in
-    let got = receives_sent world honest r l (replica_of world r) m (replica_has_only_sent world r honest l) (honest.is_world.replicas r l).none_is_next sent fit.0 fit.1 in
-    subst (All (λ step. is_delivery step ≡ true)) (ap steps_received e) got.deliver
+    (receives_sent world honest r l (replica_of world r) m (replica_has_only_sent world r honest l) (honest.is_world.replicas r l).none_is_next sent fit.0 fit.1).deliver
 
 pub resent_steps_deliver : ResentStepsDeliver
 resent_steps_deliver world r k honest l = (outbox_is_received world r honest l k).deliver

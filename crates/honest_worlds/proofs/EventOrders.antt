@@ -75,19 +75,6 @@ module _ (world : PlainWorld) (honest : IsHonest world) where
       (chapters_agree u world.w (delivered_by world) (are_shared world honest) r b.origin l p.member) in
       is_there_too u world.w b.origin (delivered_by world r) p.before parts.0 agree a has fit.1 low
 
-  stands_before_is_seen : (a b : Message) → (sent : IsSentMessage world b) → Contains (placed b sent).before a → IsTrue (happened_before a b)
-  stands_before_is_seen a b sent has =
-      let u = size_of world in
-      let p = placed b sent in
-      let parts = last_is_next u world.w b.origin p.before b p.chapter in
-      let low = All-contains (λ z. number z ≤ count_of p.before z.origin) p.before a (numbers_are_counted u world.w b.origin p.before parts.0) has in
-      let fit = All-contains (λ z. (z.origin < u) × (0 < number z)) p.before a (each_fits u world.w b.origin p.before parts.0) has in
-      let sees : count_of p.before a.origin ≤ entry b.tag a.origin = subst (λ tag. count_of p.before a.origin ≤ entry tag a.origin) (sym (parts.1.own refl)) (next_tag_has_counts u b.origin p.before a.origin p.member fit.0) in
-      and_from _ _ (not_from_false (same_id a b) (false_from_ne_true (same_id a b) (λ same.
-      let both = and_parts (a.origin == b.origin) (number a == number b) same in
-      omega (arith, low, parts.1.counted, ap (count_of p.before) (eqb-true a.origin b.origin both.0), eqb-true (number a) (number b) both.1))))
-      (le-leb (number a) (entry b.tag a.origin) (omega (arith, low, sees)))
-
   -- ---- what can be delivered after a front
 
   own_is_straight : (r : ℕ) (before later : List Message) (m : Message) → r < size_of world → delivered_by world r ≡ before ++ later → (sent : IsSentMessage world m) → m.origin ≡ r

@@ -6,11 +6,12 @@ use Rattle.std.proofs.lemmas.List.Elements.{All-contains, All-nil, All-push, Con
 use Rattle.op_base.specs.Timestamp.{entry}
 use Rattle.op_base.specs.Message.{number}
 use Rattle.op_base.specs.declared.message.Message.{Message}
-use Rattle.op_base.specs.declared.operation.Op.{Op}
+use Rattle.op_base.specs.declared.operation.Op.TheVariants as op
 use Rattle.causal_model.specs.Chapter.{is_chapter}
 use Rattle.causal_model.specs.Counts.{members, count_of, counts}
-use Rattle.causal_model.specs.Sending.{is_noop_due, beats, quiet, held, beat_ended, beating, own_message}
+use Rattle.causal_model.specs.Sending.{is_noop_due, beating, own_message}
 use Rattle.causal_model.specs.Stability.{last_tag, known_vector, stable_vector, is_stable, carries_operation, unstable_noops, noop_window}
+use Rattle.causal_model.specs.declared.outcome.Beat.TheVariants as beat
 use Rattle.causal_model.proofs.Chapters.{chapter_induction}
 use Rattle.causal_model.proofs.Counts.{entry-counts}
 use Rattle.causal_model.proofs.Limits.{numbers_are_counted}
@@ -97,14 +98,14 @@ all_are_everywhere world honest still r q l k m has =
 
 -- a beat that is due moves, where no member has sent all that it may
 module _ (world : PlainWorld) (honest : IsHonest world) (below : AreBelowLimit world) (r : ℕ) (l : r < size_of world) where
-  beats_if_due : (u w limit me : ℕ) (ms : List Message) → is_noop_due me ms ≡ true → beating u w limit me ms ≢ held → count_of ms me ≢ limit → (round : Round) → HasMoved (with_beat round r (beating u w limit me ms))
-  beats_if_due u w limit me ms due free less round = by (is_noop_due me ms) (unstable_noops u me ms me == noop_window u w) (count_of ms me == limit) refl refl refl where
-    by : (a b c : Bool) → is_noop_due me ms ≡ a → (unstable_noops u me ms me == noop_window u w) ≡ b → (count_of ms me == limit) ≡ c
-        → HasMoved (with_beat round r (if not a then quiet else if b then held else if c then beat_ended else beats (own_message u me ms Rattle.op_base.specs.declared.operation.Op.TheVariants.NoOp)))
-    by false b c is_a is_b is_c = absurd (both_ways (is_noop_due me ms) is_a due)
-    by true true c is_a is_b is_c = absurd (free (ap (λ x. if not x then quiet else if unstable_noops u me ms me == noop_window u w then held else if count_of ms me == limit then beat_ended else beats (own_message u me ms Rattle.op_base.specs.declared.operation.Op.TheVariants.NoOp)) is_a ∙ ap (λ x. if x then held else if count_of ms me == limit then beat_ended else beats (own_message u me ms Rattle.op_base.specs.declared.operation.Op.TheVariants.NoOp)) is_b))
-    by true false true is_a is_b is_c = absurd (less (eqb-true (count_of ms me) limit is_c))
-    by true false false is_a is_b is_c = refl
+  beats_if_due : (u w limit me : ℕ) (ms : List Message) → is_noop_due me ms ≡ true → beating u w limit me ms ≢ beat.Held → count_of ms me ≢ limit → (round : Round) → HasMoved (with_beat round r (beating u w limit me ms))
+  beats_if_due u w limit me ms due free less round = by (is_noop_due me ms) (unstable_noops u me ms me == noop_window u w) (count_of ms me == limit) due refl free where
+    by : (a b c : Bool) → a ≡ true → (count_of ms me == limit) ≡ c → (if not a then beat.Quiet else if b then beat.Held else if c then beat.End else beat.Sent (own_message u me ms op.NoOp)) ≢ beat.Held
+        → HasMoved (with_beat round r (if not a then beat.Quiet else if b then beat.Held else if c then beat.End else beat.Sent (own_message u me ms op.NoOp)))
+    by false b c is_due is_c free = absurd (false≢true is_due)
+    by true true c is_due is_c free = absurd (free refl)
+    by true false true is_due is_c free = absurd (less (eqb-true (count_of ms me) limit is_c))
+    by true false false is_due is_c free = refl
 
   due_moves : is_noop_due r (delivered_by world r) ≡ true → HasMoved (round_of world)
   due_moves due =

@@ -5,20 +5,22 @@ use Rattle.std.proofs.lemmas.Bool.{cases_eq}
 use Rattle.op_base.specs.declared.message.Message.{Message}
 use Rattle.op_base.specs.declared.outcome.Crook.{Crook}
 use Rattle.causal_model.specs.Counts.{members}
-use Rattle.causal_model.specs.Laws.States.{next_of}
-use Rattle.causal_model.specs.Receiving.{State, counted, is_old, is_again, is_far, crook_after, messages_with, state_with, steps_within, steps, with_early, old, again, far, accepts, receiving}
-use Rattle.causal_model.specs.Sending.{Sending, sends, busy, ended, Beating, beats, quiet, held, beat_ended}
+use Rattle.causal_model.specs.Receiving.{next_of, crook_after, messages_with, state_with, steps_within, with_early, refusal_of, receive_by, receive_rule}
+use Rattle.causal_model.specs.Sending.{local_messages, beat_messages}
+use Rattle.causal_model.specs.State.{State, with_own}
+use Rattle.causal_model.specs.declared.outcome.Beat.{Beat}
+use Rattle.causal_model.specs.declared.outcome.Beat.TheVariants as beat
+use Rattle.causal_model.specs.declared.outcome.Refusal.{Refusal}
 use Rattle.causal_model.proofs.Lists.{fold_has}
 use Rattle.causal_model.proofs.Steps.{steps_by}
 use Rattle.world_model.specs.Offering.{Offered, none_offered, offered_more, outbox_in, offered_between}
-use Rattle.world_model.specs.Raw.{read_at, world_rawed_of}
+use Rattle.world_model.specs.Raw.{read_at, raw_of}
 use Rattle.world_model.specs.Settling.{Round, with_offered, after_offer, after_offers, with_beat, after_beat, offers_made, round_of, rounds_within, most_rounds}
-use Rattle.world_model.specs.World.{PlainWorld, size_of, replica_of, with_state, with_sent, state_received, sending_at, world_sending, beating_at, world_beating, receiving_at, world_offered, sent_message, world_given_of}
+use Rattle.world_model.specs.World.{PlainWorld, size_of, replica_of, with_state, with_sent, with_all_sent, local_at, beat_at, offer_at, sent_message, give_of}
 use Rattle.world_model.specs.Honest.{delivered_by}
 use Rattle.world_model.proofs.Worlds.{replica_here, replica_there}
 use Rattle.world_model.specs.Commands.{WorldCommand, CanRun, after_command}
 use Rattle.std.proofs.lemmas.List.FromFn.{get_or-range_with_len, length-range_with_len}
-use Rattle.causal_model.specs.Journal.{with_own}
 use Rattle.world_model.specs.Commands as world_command
 
 -- ---- what is delivered comes at the end
@@ -44,13 +46,12 @@ steps_grow w (suc most) s = by (steps_grow w most) (next_of s) where
   by later None = grows_not s.history.present.messages
   by later (Some m) = grows_twice s.history.present.messages (state_with w s m).history.present.messages (steps_within w most (state_with w s m)).1.history.present.messages (messages_grow s.history.present.messages m (crook_after w s.history m)) (later (state_with w s m))
 
-received_grows : (w : ℕ) (s : State) (m : Message) → Grows s.history.present.messages (state_received s (receiving w s m)).history.present.messages
-received_grows w s m = by (is_old s.history.present.me (counted s.history) m) (is_again s.early m) (is_far s.history.present.n w s.history.present.me (counted s.history) m) where
-  by : (a b c : Bool) → Grows s.history.present.messages (state_received s (if a then old else if b then again else if c then far else accepts (steps w (with_early s m)).0 (steps w (with_early s m)).1)).history.present.messages
-  by true b c = grows_not s.history.present.messages
-  by false true c = grows_not s.history.present.messages
-  by false false true = grows_not s.history.present.messages
-  by false false false = steps_grow w (length (with_early s m).early) (with_early s m)
+-- what was delivered before a message is received stays the front
+received_grows : (w : ℕ) (s : State) (m : Message) → Grows s.history.present.messages (receive_rule w m s).1.history.present.messages
+received_grows w s m = by (refusal_of w s m) where
+  by : (o : Option Refusal) → Grows s.history.present.messages (receive_by w m s o).1.history.present.messages
+  by (Some why) = grows_not s.history.present.messages
+  by None = steps_grow w (length (with_early s m).early) (with_early s m)
 
 offered_grows : (w : ℕ) (o : Offered) (ms : List Message) → Grows o.state.history.present.messages (fold (offered_more w) o ms).state.history.present.messages
 offered_grows w o [] = grows_not o.state.history.present.messages
@@ -78,11 +79,13 @@ module _ (r : ℕ) where
   offered_between_grows : (world : PlainWorld) (q k : ℕ) → q < size_of world → GrowsAt world (with_state world q (offered_between world q k).state)
   offered_between_grows world q k l = state_grows world q (offered_between world q k).state l (offered_grows world.w (none_offered (replica_of world q)) (outbox_in (replica_of world k)))
 
-  beaten_grows : (world : PlainWorld) (q : ℕ) (made : Beating) → q < size_of world → GrowsAt world (world_beating world q made)
-  beaten_grows world q (beats m) l = sent_grows world q m l
-  beaten_grows world q quiet l = grows_not (delivered_by world r)
-  beaten_grows world q held l = grows_not (delivered_by world r)
-  beaten_grows world q beat_ended l = grows_not (delivered_by world r)
+  -- where replica q sends messages
+  all_sent_grows : (world : PlainWorld) (q : ℕ) (messages : List Message) → q < size_of world → GrowsAt world (with_all_sent q world messages)
+  all_sent_grows world q [] l = grows_not (delivered_by world r)
+  all_sent_grows world q (m ∷ messages) l =
+      let next = with_sent world q m in
+      let size = length-set world.replicas q (with_own (replica_of world q) m) in
+      at_twice world next (with_all_sent q next messages) (sent_grows world q m l) (all_sent_grows next q messages (omega (arith, l, size)))
 
   -- rounds
   module _ (world : PlainWorld) where
@@ -103,12 +106,13 @@ module _ (r : ℕ) where
     ]
 
     beat_grows : (q : ℕ) → q < size_of world → (round : Round) → IsGrown round → IsGrown (after_beat round q)
-    beat_grows q l round is = by (beating_at round.world q) where
-      by : (made : Beating) → IsGrown (with_beat round q made)
-      by quiet = is
-      by held = is
-      by beat_ended = is
-      by (beats m) = record {
+    beat_grows q l round is = by (beat_at q round.world).0 where
+      by : (answer : Beat) → IsGrown (with_beat round q answer)
+      by beat.Quiet = is
+      by beat.Held = is
+      by beat.End = is
+      by beat.NoMemory = is
+      by (beat.Sent m) = record {
         size = length-set round.world.replicas q (with_own (replica_of round.world q) m) ∙ is.size;
         grown = at_twice world round.world (with_sent round.world q m) is.grown (sent_grows round.world q m (omega (arith, l, is.size)));
       }
@@ -125,23 +129,19 @@ module _ (r : ℕ) where
     by true later = at_twice world (round_of world).world (rounds_within most (round_of world).world) (round_grows world).grown later
     by false later = (round_grows world).grown
 
-  offering_grows : (world : PlainWorld) (q : ℕ) (m : Message) → q < size_of world → GrowsAt world (world_offered world q m)
-  offering_grows world q m l = state_grows world q (state_received (replica_of world q) (receiving_at world q m)) l (received_grows world.w (replica_of world q) m)
+  offering_grows : (world : PlainWorld) (q : ℕ) (m : Message) → q < size_of world → GrowsAt world (offer_at q m world).1
+  offering_grows world q m l = state_grows world q (receive_rule world.w m (replica_of world q)).1 l (received_grows world.w (replica_of world q) m)
 
   pub command_grows : (world : PlainWorld) (command : WorldCommand) → CanRun world command → GrowsAt world (after_command world command)
-  command_grows world (world_command.sends_at q update) can = by (sending_at world q update) where
-    by : (made : Sending) → GrowsAt world (world_sending world q made)
-    by (sends m) = sent_grows world q m can.0
-    by busy = grows_not (delivered_by world r)
-    by ended = grows_not (delivered_by world r)
-  command_grows world (world_command.beats_at q) can = beaten_grows world q (beating_at world q) can
+  command_grows world (world_command.sends_at q update) can = all_sent_grows world q (local_messages (local_at q update world).0) can.0
+  command_grows world (world_command.beats_at q) can = all_sent_grows world q (beat_messages (beat_at q world).0) can
   command_grows world (world_command.gives q k seq) can = by (sent_message world k seq) where
-    by : (found : Option Message) → GrowsAt world (world_given_of world q found)
+    by : (found : Option Message) → GrowsAt world (give_of q world found).1
     by None = grows_not (delivered_by world r)
     by (Some m) = offering_grows world q m can
   command_grows world (world_command.resends q k) can = offered_between_grows world q k can
   command_grows world (world_command.raws q bytes) can = by (read_at world q bytes) where
-    by : (read : Result Message _) → GrowsAt world (world_rawed_of world q read)
+    by : (read : Result Message _) → GrowsAt world (raw_of q world read).1
     by (Ok m) = offering_grows world q m can.0
     by (Err fault) = grows_not (delivered_by world r)
   command_grows world world_command.settles can = rounds_grow (most_rounds world) world

@@ -1,27 +1,26 @@
 -- One replica of an honest world changes: it stays honest where the replica receives what was sent, or sends by the rule.
-use Rattle.std.proofs.Common.{◌≡◌, ◌≢◌, ℕ, ◌<◌, ◌↔◌, All, Bool, true, false, not, ◌==◌, Contains, List, [], ◌∷◌, ◌++◌, length, refl, sym, ap, subst, ◌∙◌, inl, inr, if◌then◌else◌, arith}
+use Rattle.std.proofs.Common.{◌≡◌, ◌≢◌, ℕ, ◌<◌, ◌↔◌, All, true, Contains, List, [], ◌∷◌, ◌++◌, length, refl, sym, ap, subst, ◌∙◌, inl, inr, arith}
 use Rattle.std.specs.List.{fold}
 use Rattle.std.proofs.lemmas.Bool.{cases_eq}
 use Rattle.std.proofs.lemmas.List.Elements.{All-head, All-tail, All-nil, All-push, All-weaker, All-append, Contains-append_left, Contains-push}
 use Rattle.op_base.specs.declared.message.Message.{Message}
 use Rattle.op_base.specs.declared.outcome.Step.{Step}
-use Rattle.causal_model.specs.Counts.{count_of}
 use Rattle.causal_model.specs.History.{Event, events_from}
-use Rattle.causal_model.specs.Journal.{with_own}
-use Rattle.causal_model.specs.Receiving.{State, receiving}
-use Rattle.causal_model.specs.Sending.{own_message, is_noop_due, beats, quiet, held, beat_ended, beating}
-use Rattle.causal_model.specs.Stability.{unstable_noops, noop_window}
-use Rattle.world_model.specs.Honest.{RuleGives, KeepsRule, IsSentMessage, past_events, IsHonest, KeepsHonest, history_of, delivered_by}
-use Rattle.world_model.specs.Offering.{Offered, none_offered, offered_more, steps_received, outbox_in, offered_between, world_resent}
-use Rattle.world_model.specs.World.{PlainWorld, size_of, replica_of, sent_by, with_state, with_sent, state_received, beating_at, world_offered}
+use Rattle.causal_model.specs.State.{with_own, State}
+use Rattle.causal_model.specs.Receiving.{steps_of, receive_rule}
+use Rattle.causal_model.specs.Sending.{KeepsRule}
+use Rattle.causal_model.specs.declared.outcome.Beat.TheVariants as beat
+use Rattle.world_model.specs.Honest.{IsSentMessage, past_events, IsHonest, KeepsHonest, history_of, delivered_by}
+use Rattle.world_model.specs.Offering.{Offered, none_offered, offered_more, outbox_in, offered_between, resend_at}
+use Rattle.world_model.specs.World.{PlainWorld, size_of, replica_of, sent_by, with_state, with_sent, beat_at, offer_at}
 use Rattle.world_model.specs.Worlds.{IsWorld, KeepsWorld}
 use Rattle.world_model.proofs.Commands.{outbox_is_offered, beat_is_sent}
 use Rattle.world_model.proofs.Received.{receives}
+use Rattle.world_model.proofs.Sends.{IsGiven, noop_is_given}
 use Rattle.world_model.proofs.Worlds.{replica_here, replica_there, sent_here, sent_there, state_changes}
 use Rattle.honest_worlds.proofs.SentMessages.{sent_fits, outbox_was_sent}
 use Rattle.honest_worlds.proofs.OnlySent.{keeps_rule-push, HasOnlySent, replica_has_only_sent, IsReceived, receives_sent}
 use Rattle.world_model.specs.Settling.{is_delivery}
-use Rattle.op_base.specs.declared.operation.Op.TheVariants as op
 
 -- ---- the past
 
@@ -32,16 +31,6 @@ no_past world is r q l k e =
     let none : (x : ℕ) → x < size_of world → past_events (history_of world x) ≡ [] = λ x m. ap (events_from 0) (is.replicas x m).past in
     let same : past_events (history_of world r) ≡ past_events (history_of world q) = none r l ∙ sym (none q k) in
     (λ has. subst (λ es. Contains es e) same has, λ has. subst (λ es. Contains es e) (sym same) has)
-
--- ---- what a beat sends
-
-pub beaten_message : (u w limit me : ℕ) (ms : List Message) (m : Message) → beating u w limit me ms ≡ beats m → m ≡ own_message u me ms op.NoOp
-beaten_message u w limit me ms m f = by (is_noop_due me ms) (unstable_noops u me ms me == noop_window u w) (count_of ms me == limit) f where
-  by : (due full end : Bool) → (if not due then quiet else if full then held else if end then beat_ended else beats (own_message u me ms op.NoOp)) ≡ beats m → m ≡ own_message u me ms op.NoOp
-  by false full end g = cc
-  by true true end g = cc
-  by true false true g = cc
-  by true false false g = let same : own_message u me ms op.NoOp ≡ m = cc in sym same
 
 -- ---- one replica is changed
 
@@ -73,8 +62,8 @@ module _ (world : PlainWorld) (r : ℕ) (honest : IsHonest world) (l : r < size_
       )
 
   -- a replica sends what the rule gives
-  pub sent_keeps_honest : (m : Message) → m.origin ≡ r → RuleGives (size_of world) world.w world.limit r (delivered_by world r) m m.op → KeepsWorld world (with_sent world r m) → KeepsHonest world (with_sent world r m)
-  sent_keeps_honest m own gives kept =
+  pub sent_keeps_honest : (m : Message) → IsGiven (size_of world) world.w world.limit r (delivered_by world r) m → KeepsWorld world (with_sent world r m) → KeepsHonest world (with_sent world r m)
+  sent_keeps_honest m given kept =
       let after = with_sent world r m in
       let s = with_own (replica_of world r) m in
       let here : replica_of after r ≡ s = replica_here world r l s in
@@ -85,12 +74,12 @@ module _ (world : PlainWorld) (r : ℕ) (honest : IsHonest world) (l : r < size_
         | inl o ↦ subst (λ k. Contains (sent_by after k) e) (sym o) (subst (λ ms. Contains ms e) (sym (sent_here world r l m inside)) (Contains-append_left (sent_by world r) (m ∷ []) e (subst (λ k. Contains (sent_by world k) e) o sent)))
         | inr ne ↦ subst (λ ms. Contains ms e) (sym (sent_there world r l m e.origin ne)) sent
       ] in
-      let now : IsSentMessage after m = subst (λ k. Contains (sent_by after k) m) (sym own) (subst (λ ms. Contains ms m) (sym (sent_here world r l m inside)) (Contains-push (sent_by world r) m)) in
+      let now : IsSentMessage after m = subst (λ k. Contains (sent_by after k) m) (sym given.own) (subst (λ ms. Contains ms m) (sym (sent_here world r l m inside)) (Contains-push (sent_by world r) m)) in
       let all : (ms : List Message) → All (IsSentMessage world) ms → All (IsSentMessage after) ms = λ ms each. All-weaker (IsSentMessage world) (IsSentMessage after) still ms each in (
         record {
           is_world = kept.is_world;
           by_rule = λ q k. subst (λ u. KeepsRule u world.w world.limit q (replica_of after q).history.present.messages) (sym kept.size) (elim (cases_eq q r) [
-            | inl e ↦ subst (λ y. KeepsRule (size_of world) world.w world.limit y (replica_of after y).history.present.messages) (sym e) (subst (λ g. KeepsRule (size_of world) world.w world.limit r g.history.present.messages) (sym here) (keeps_rule-push (size_of world) world.w world.limit r (delivered_by world r) m (honest.by_rule r l) (λ _. gives)))
+            | inl e ↦ subst (λ y. KeepsRule (size_of world) world.w world.limit y (replica_of after y).history.present.messages) (sym e) (subst (λ g. KeepsRule (size_of world) world.w world.limit r g.history.present.messages) (sym here) (keeps_rule-push (size_of world) world.w world.limit r (delivered_by world r) m (honest.by_rule r l) (λ _. given.by_rule)))
             | inr ne ↦ subst (λ g. KeepsRule (size_of world) world.w world.limit q g.history.present.messages) (sym (there q ne)) (honest.by_rule q (back q k))
           ]);
           delivered = λ q k. elim (cases_eq q r) [
@@ -108,14 +97,14 @@ module _ (world : PlainWorld) (r : ℕ) (honest : IsHonest world) (l : r < size_
 
   -- ---- offers
 
-  pub offering_sent_keeps_honest : (m : Message) → IsSentMessage world m → KeepsHonest world (world_offered world r m)
+  pub offering_sent_keeps_honest : (m : Message) → IsSentMessage world m → KeepsHonest world (offer_at r m world).1
   offering_sent_keeps_honest m sent =
       let s = replica_of world r in
       let replica = honest.is_world.replicas r l in
       let fit = sent_fits world m honest sent in
       let got = receives_sent world honest r l s m (replica_has_only_sent world r honest l) replica.none_is_next sent fit.0 fit.1 in
       let later = receives (size_of world) world.w world.limit r s replica m fit.0 fit.1 in
-      sent_state_keeps_honest (state_received s (receiving world.w s m)) got.fed (state_changes world r _ honest.is_world l later.is_replica later.own)
+      sent_state_keeps_honest (receive_rule world.w m s).1 got.fed (state_changes world r _ honest.is_world l later.is_replica later.own)
 
   both_none : (xs ys : List Step) → xs ++ ys ≡ [] → (xs ≡ []) × (ys ≡ [])
   both_none [] ys e = (refl, e)
@@ -128,7 +117,7 @@ module _ (world : PlainWorld) (r : ℕ) (honest : IsHonest world) (l : r < size_
       let here = All-head (IsSentMessage world) m ms sent in
       let fit = sent_fits world m honest here in
       let got = receives_sent world honest r l o.state m is.fed is.none here fit.0 fit.1 in
-      let made = steps_received (receiving world.w o.state m) in
+      let made = steps_of (receive_rule world.w m o.state).0 in
       offers_are_received s (offered_more world.w o m) ms (All-tail (IsSentMessage world) m ms sent) (record {
         fed = got.fed;
         none = got.none;
@@ -141,17 +130,13 @@ module _ (world : PlainWorld) (r : ℕ) (honest : IsHonest world) (l : r < size_
       offers_are_received (replica_of world r) (none_offered (replica_of world r)) (outbox_in (replica_of world k)) (outbox_was_sent world k honest)
       (record { fed = replica_has_only_sent world r honest l; none = (honest.is_world.replicas r l).none_is_next; deliver = All-nil (λ (step : Step). is_delivery step ≡ true); still = λ _. refl })
 
-  pub resending_keeps_honest : (k : ℕ) → KeepsHonest world (world_resent world r k)
+  pub resending_keeps_honest : (k : ℕ) → KeepsHonest world (resend_at r k world).1
   resending_keeps_honest k =
       let later = outbox_is_offered world r k honest.is_world l in
       sent_state_keeps_honest (offered_between world r k).state (outbox_is_received k).fed (state_changes world r _ honest.is_world l later.is_replica later.own)
 
   -- ---- sends
 
-  pub beat_keeps_honest : (m : Message) → beating_at world r ≡ beats m → KeepsHonest world (with_sent world r m)
+  pub beat_keeps_honest : (m : Message) → (beat_at r world).0 ≡ beat.Sent m → KeepsHonest world (with_sent world r m)
   beat_keeps_honest m e =
-      let replica = honest.is_world.replicas r l in
-      let gives : beating (size_of world) world.w world.limit r (delivered_by world r) ≡ beats m =
-      subst (λ me. beating (size_of world) world.w world.limit me (delivered_by world r) ≡ beats m) replica.of_member (subst (λ u. beating u world.w world.limit (replica_of world r).history.present.me (delivered_by world r) ≡ beats m) replica.of_store e) in
-      let made = beaten_message (size_of world) world.w world.limit r (delivered_by world r) m gives in
-      sent_keeps_honest m (ap (λ y. y.origin) made) (subst (λ o. RuleGives (size_of world) world.w world.limit r (delivered_by world r) m o) (sym (ap (λ y. y.op) made)) gives) (beat_is_sent world r m honest.is_world l e)
+      sent_keeps_honest m (noop_is_given (size_of world) world.w world.limit r (replica_of world r) m (honest.is_world.replicas r l) e) (beat_is_sent world r m honest.is_world l e)

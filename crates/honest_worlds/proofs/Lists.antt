@@ -1,5 +1,5 @@
 -- Facts on lists, counts and least numbers that speak of no store.
-use Rattle.std.proofs.Common.{◌≡◌, ℕ, zero, suc, ◌+◌, ◌*◌, ◌<◌, ◌≤◌, All, Bool, true, false, ◌&&◌, ◌||◌, ◌==◌, cond, Contains, List, [], ◌∷◌, ◌++◌, length, map, get_or, refl, sym, ap, subst, ◌∙◌, inl, inr, ◌⊎◌, arith, Some, zero-add}
+use Rattle.std.proofs.Common.{◌≡◌, ℕ, zero, suc, ◌+◌, ◌*◌, ◌<◌, ◌≤◌, All, Bool, true, false, ◌&&◌, ◌==◌, cond, Contains, List, [], ◌∷◌, ◌++◌, length, map, get_or, refl, sym, ap, subst, ◌∙◌, inl, inr, ◌⊎◌, arith, Some, zero-add}
 use Rattle.std.specs.List.{list_any, sum_by, count_by, range_with_len, slice_get, fold}
 use Rattle.std.proofs.lemmas.Bool.{and_parts, and_from, or_left, or_right, or_cases, cases_Bool, cases_eq, cond-true, cond-false}
 use Rattle.std.proofs.lemmas.List.Elements.{All-head, All-tail}
@@ -8,6 +8,7 @@ use Rattle.causal_model.specs.Counts.{members}
 use Rattle.causal_model.specs.Stability.{minimum}
 use Rattle.causal_model.proofs.Lists.{cond-le-cond, fold_has}
 use Rattle.causal_model.proofs.Finds.{Contains-cons, found}
+use Rattle.causal_model.proofs.Logs.{count_by-either}
 use Rattle.std.proofs.lemmas.List.FromFn.{length-range_with_len, get_or-range_with_len}
 
 -- ---- places and counts
@@ -53,14 +54,6 @@ pub count_by-le-on : {X : Type 0} (p q : X → Bool) (xs : List X) → All (λ x
 count_by-le-on p q [] each = omega arith
 count_by-le-on p q (x ∷ xs) each =
     omega (arith, sum_by-cons (λ y. cond (p y) 1 0) x xs, sum_by-cons (λ y. cond (q y) 1 0) x xs, cond-le-cond (p x) (q x) (All-head (λ y. p y ≡ true → q y ≡ true) x xs each), count_by-le-on p q xs (All-tail (λ y. p y ≡ true → q y ≡ true) x xs each))
-
-count_by-either : {X : Type 0} (p q r : X → Bool) (xs : List X) → ((x : X) → p x ≡ true → (q x || r x) ≡ true) → count_by p xs ≤ count_by q xs + count_by r xs
-count_by-either p q r [] h = omega arith
-count_by-either p q r (x ∷ xs) h =
-    omega (arith, sum_by-cons (λ y. cond (p y) 1 0) x xs, sum_by-cons (λ y. cond (q y) 1 0) x xs, sum_by-cons (λ y. cond (r y) 1 0) x xs, one (p x) (q x) (r x) (h x), count_by-either p q r xs h) where
-      one : (a b c : Bool) → (a ≡ true → (b || c) ≡ true) → cond a 1 0 ≤ cond b 1 0 + cond c 1 0
-      one false b c f = omega arith
-      one true b c f = elim (or_cases b c (f refl)) [ inl e ↦ omega (arith, cond-true {A = ℕ} b 1 0 e) | inr e ↦ omega (arith, cond-true {A = ℕ} c 1 0 e) ]
 
 pub count_by_none : {X : Type 0} (xs : List X) → count_by (λ x. false) xs ≡ 0
 count_by_none [] = refl

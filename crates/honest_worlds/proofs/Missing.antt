@@ -1,5 +1,5 @@
 -- A message that was sent and that a replica has not delivered: it stands in its sender's outbox, and to offer that delivers.
-use Rattle.std.proofs.Common.{◌≡◌, ◌≢◌, ℕ, zero, suc, ◌<◌, All, Bool, true, false, not, ◌||◌, ◌==◌, Contains, List, [], ◌∷◌, get_or, refl, sym, ap, subst, ◌∙◌, inl, inr, ◌⊎◌, if◌then◌else◌, Option, Some, None, arith}
+use Rattle.std.proofs.Common.{◌≡◌, ◌≢◌, ℕ, zero, suc, ◌<◌, All, true, false, not, ◌||◌, ◌==◌, Contains, List, [], ◌∷◌, get_or, refl, sym, ap, subst, ◌∙◌, inl, inr, ◌⊎◌, if◌then◌else◌, Option, Some, None, arith}
 use Rattle.std.specs.List.{filter, list_any}
 use Rattle.std.proofs.lemmas.Bool.{and_parts, cases_Bool, cond-false, eq-eqb, eqb-true, ne_eqb, leb-true, or_left, or_right, both_ways, not_from_false, false_from_ne_true}
 use Rattle.std.proofs.lemmas.List.Elements.{All-contains, All-head}
@@ -9,19 +9,22 @@ use Rattle.op_base.specs.Message.{number}
 use Rattle.op_base.specs.declared.message.Message.{Message}
 use Rattle.op_base.specs.declared.outcome.Step.{Step}
 use Rattle.causal_model.specs.Counts.{count_of, counts, is_deliverable}
-use Rattle.causal_model.specs.Laws.States.{next_of}
+use Rattle.causal_model.specs.Receiving.{next_of, is_old, is_far, steps, with_early, step_of, refusal_of, steps_of, receive_by, receive_rule}
 use Rattle.causal_model.specs.Order.{same_id}
-use Rattle.causal_model.specs.Receiving.{State, counted, is_old, is_again, is_far, put_early, steps, with_early, old, again, far, accepts, receiving, step_of, stands_before}
+use Rattle.causal_model.specs.State.{State, counted}
+use Rattle.causal_model.specs.Early.{is_again, put_early, stands_before}
 use Rattle.causal_model.specs.Stability.{last_tag, stable_vector, is_stable}
+use Rattle.causal_model.specs.declared.outcome.Refusal.TheVariants as refusal
 use Rattle.causal_model.proofs.Counts.{entry-counts}
 use Rattle.causal_model.proofs.Early.{IsDeliverable, test-from_IsDeliverable, test-from_IsNew}
 use Rattle.causal_model.proofs.Elements.{item_from_list_any}
 use Rattle.causal_model.proofs.Finds.{none_passes}
+use Rattle.causal_model.proofs.Outcomes.{IsUnrefused, steps_of_accepted}
 use Rattle.causal_model.proofs.Settling.{stable_count-le-known}
 use Rattle.causal_model.proofs.Stability.{entry-stable}
 use Rattle.causal_model.proofs.Steps.{steps_of_one_more}
 use Rattle.world_model.specs.Honest.{IsSentMessage, IsHonest, delivered_by}
-use Rattle.world_model.specs.Offering.{Offered, none_offered, offered_more, steps_received, outbox_in, offered_between}
+use Rattle.world_model.specs.Offering.{Offered, none_offered, offered_more, outbox_in, offered_between}
 use Rattle.world_model.specs.Settling.{is_delivery}
 use Rattle.world_model.specs.World.{PlainWorld, size_of, replica_of}
 use Rattle.honest_worlds.proofs.Lists.{fold_reaches}
@@ -37,6 +40,10 @@ put_is_there e [] = (zero, omega arith, refl)
 put_is_there e (y ∷ early) =
     let rest = put_is_there e early in
     elim (stands_before e y) as (λ b. Contains (if b then e ∷ y ∷ early else y ∷ put_early e early) e) [ true ↦ (zero, omega arith, refl) | false ↦ (suc rest.0, omega (arith, rest.1), rest.2) ]
+
+-- what is neither old nor early already nor far isn't refused
+none-from_IsUnrefused : (w : ℕ) (s : State) (m : Message) → IsUnrefused w s m → refusal_of w s m ≡ None
+none-from_IsUnrefused w s m is = λ i. if is.new i then Some refusal.Old else if is.apart i then Some refusal.Again else if is.near i then Some refusal.Far else None
 
 -- ---- what was sent and is not everywhere is unstable at its sender
 
@@ -79,12 +86,10 @@ module _ (world : PlainWorld) (honest : IsHonest world) where
       none : next_of s ≡ None
       same : s.history.present.messages ≡ delivered_by world r
 
-    delivers_at : (s : State) (m : Message) → IsStill s → IsMissing r m → list_any is_delivery (steps_received (receiving world.w s m)) ≡ true
+    delivers_at : (s : State) (m : Message) → IsStill s → IsMissing r m → list_any is_delivery (steps_of (receive_rule world.w m s).0) ≡ true
     delivers_at s m is missing =
-        by (is_old s.history.present.me (counted s.history) m) (is_again s.early m) (is_far s.history.present.n world.w s.history.present.me (counted s.history) m) refl refl refl where
-          u : ℕ
-          u = size_of world
-
+        ap (λ o. list_any is_delivery (steps_of (receive_by world.w m s o).0)) (none-from_IsUnrefused world.w s m (record { new = new; apart = apart; near = near }))
+        ∙ ap (list_any is_delivery) (steps_of_accepted made.0) ∙ some_is_next (next_of (with_early s m)) refl where
           counts_here : counted s.history ≡ counts (size_of world) (delivered_by world r)
           counts_here = ap (λ k. counts k s.history.present.messages) is.fed.of_store ∙ ap (counts (size_of world)) is.same
 
@@ -122,17 +127,10 @@ module _ (world : PlainWorld) (honest : IsHonest world) where
               absurd (both_ways (is_deliverable s.history.present.n (counted s.history) m) (All-contains (λ y. is_deliverable s.history.present.n (counted s.history) y ≡ false) (put_early m s.early) m fails (put_is_there m s.early)) can)
           some_is_next (Some e) next =
               let fit = sent_fits world m honest missing.sent in
-              let fed = accept_has_only_sent world honest r l s m is.fed missing.sent fit.0 fit.1 new apart near in
+              let fed = accept_has_only_sent world honest r l s m is.fed missing.sent fit.0 fit.1 (record { new = new; apart = apart; near = near }) in
               let first = steps_of_one_more world.w (with_early s m) e next in
               let straight = (taken world honest r l (with_early s m) e fed next).straight in
               ap (λ made. list_any is_delivery made.0) first ∙ or_left _ _ (ap (λ o. is_delivery (step_of e o)) straight)
-
-          by : (a b c : Bool) → is_old s.history.present.me (counted s.history) m ≡ a → is_again s.early m ≡ b → is_far s.history.present.n world.w s.history.present.me (counted s.history) m ≡ c
-              → list_any is_delivery (steps_received (if a then old else if b then again else if c then far else accepts made.0 made.1)) ≡ true
-          by true b c is_a is_b is_c = absurd (both_ways (is_old s.history.present.me (counted s.history) m) new is_a)
-          by false true c is_a is_b is_c = absurd (both_ways (is_again s.early m) apart is_b)
-          by false false true is_a is_b is_c = absurd (both_ways (is_far s.history.present.n world.w s.history.present.me (counted s.history) m) near is_c)
-          by false false false is_a is_b is_c = some_is_next (next_of (with_early s m)) refl
 
 -- ---- an outbox with such a message delivers
 
@@ -149,17 +147,17 @@ module _ (world : PlainWorld) (honest : IsHonest world) (r : ℕ) (l : r < size_
 
   goes_on : (o : Offered) (y : Message) → Goes o → Goes (offered_more world.w o y)
   unfolding Goes
-  goes_on o y t = list_any-append is_delivery o.steps (steps_received (receiving world.w o.state y)) ∙ or_left _ _ t
+  goes_on o y t = list_any-append is_delivery o.steps (steps_of (receive_rule world.w y o.state).0) ∙ or_left _ _ t
 
-  more_goes : (o : Offered) (y : Message) → list_any is_delivery (steps_received (receiving world.w o.state y)) ≡ true → Goes (offered_more world.w o y)
+  more_goes : (o : Offered) (y : Message) → list_any is_delivery (steps_of (receive_rule world.w y o.state).0) ≡ true → Goes (offered_more world.w o y)
   unfolding Goes
-  more_goes o y t = list_any-append is_delivery o.steps (steps_received (receiving world.w o.state y)) ∙ or_right _ _ t
+  more_goes o y t = list_any-append is_delivery o.steps (steps_of (receive_rule world.w y o.state).0) ∙ or_right _ _ t
 
   waits_on : (o : Offered) (y : Message) → IsSentMessage world y → Waits o → Waits (offered_more world.w o y)
   unfolding Goes Waits
   waits_on o y sent (inl t) = inl (goes_on o y t)
   waits_on o y sent (inr still) =
-      let made = steps_received (receiving world.w o.state y) in
+      let made = steps_of (receive_rule world.w y o.state).0 in
       let fit = sent_fits world y honest sent in
       let got = receives_sent world honest r l o.state y still.fed still.none sent fit.0 fit.1 in
       elim (cases_Bool (list_any is_delivery made)) [

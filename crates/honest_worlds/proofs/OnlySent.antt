@@ -1,5 +1,5 @@
 -- What a replica of an honest world becomes by messages that were sent: each step delivers, and it has only such messages.
-use Rattle.std.proofs.Common.{◌≡◌, ◌≢◌, ℕ, zero, suc, ◌<◌, All, Bool, true, false, not, Contains, IsTrue, List, [], ◌∷◌, ◌++◌, length, length-append, refl, sym, ap, subst, ◌∙◌, inl, inr, ◌⊎◌, if◌then◌else◌, Option, Some, None, arith}
+use Rattle.std.proofs.Common.{◌≡◌, ◌≢◌, ℕ, zero, suc, ◌<◌, All, true, false, not, Contains, IsTrue, List, [], ◌∷◌, ◌++◌, length, length-append, refl, sym, ap, subst, ◌∙◌, inl, inr, ◌⊎◌, Option, Some, None, arith}
 use Rattle.std.specs.Prelude.{is_none}
 use Rattle.std.proofs.lemmas.Bool.{false≢true}
 use Rattle.std.proofs.lemmas.List.Elements.{All-contains, All-filter, All-nil, All-cons, All-push}
@@ -9,19 +9,22 @@ use Rattle.op_base.specs.declared.outcome.Step.{Step}
 use Rattle.causal_model.specs.Chapter.{is_chapter}
 use Rattle.causal_model.specs.Counts.{counts, is_deliverable, is_carried}
 use Rattle.causal_model.specs.Crook.{crook_of}
-use Rattle.causal_model.specs.Laws.States.{next_of}
-use Rattle.causal_model.specs.Receiving.{State, counted, is_old, is_again, is_far, has_id, crook_after, messages_with, state_with, step_of, steps_within, steps, with_early, old, again, far, accepts, receiving}
+use Rattle.causal_model.specs.Receiving.{next_of, is_old, crook_after, messages_with, state_with, step_of, steps_within, steps, with_early, refusal_of, steps_of, receive_by, receive_rule}
+use Rattle.causal_model.specs.Sending.{RuleGives, KeepsRule}
+use Rattle.causal_model.specs.State.{State, counted}
+use Rattle.causal_model.specs.Early.{has_id}
 use Rattle.causal_model.specs.States.{IsState}
+use Rattle.causal_model.specs.declared.outcome.Refusal.{Refusal}
 use Rattle.causal_model.proofs.Crooks.{none-from_IsStraight}
 use Rattle.causal_model.proofs.Early.{IsDeliverable-from_test, IsNew-from_test, All-put_early}
 use Rattle.causal_model.proofs.Finds.{found}
 use Rattle.causal_model.proofs.Histories.{IsHistory-from_test}
+use Rattle.causal_model.proofs.Outcomes.{IsUnrefused, unrefused, steps_of_accepted, steps_of_refused}
 use Rattle.causal_model.proofs.States.{accept_keeps_state, step_keeps_state}
 use Rattle.causal_model.proofs.Steps.{steps_by, none_is_next_after_steps}
-use Rattle.world_model.specs.Honest.{RuleGives, KeepsRule, IsSentMessage, IsHonest}
-use Rattle.world_model.specs.Offering.{steps_received}
+use Rattle.world_model.specs.Honest.{IsSentMessage, IsHonest}
 use Rattle.world_model.specs.Settling.{is_delivery}
-use Rattle.world_model.specs.World.{PlainWorld, size_of, replica_of, state_received}
+use Rattle.world_model.specs.World.{PlainWorld, size_of, replica_of}
 use Rattle.honest_worlds.proofs.SentMessages.{sent_is_next}
 
 -- ---- the rule, with one message more
@@ -129,9 +132,9 @@ module _ (world : PlainWorld) (honest : IsHonest world) (r : ℕ) (l : r < size_
   -- ---- receiving a message that was sent
 
   pub accept_has_only_sent : (s : State) (m : Message) → HasOnlySent world r s → IsSentMessage world m → IsTrue (fits (size_of world) m) → IsTrue (is_carried world.limit m)
-      → is_old s.history.present.me (counted s.history) m ≡ false → is_again s.early m ≡ false → is_far s.history.present.n world.w s.history.present.me (counted s.history) m ≡ false → HasOnlySent world r (with_early s m)
-  accept_has_only_sent s m fed sent fit carried new apart near = record {
-    is_state = accept_keeps_state world.w world.limit s m fed.is_state (subst (λ k. IsTrue (fits k m)) (sym fed.of_store) fit) carried new apart near;
+      → IsUnrefused world.w s m → HasOnlySent world r (with_early s m)
+  accept_has_only_sent s m fed sent fit carried parts = record {
+    is_state = accept_keeps_state world.w world.limit s m fed.is_state (subst (λ k. IsTrue (fits k m)) (sym fed.of_store) fit) carried parts.new parts.apart parts.near;
     of_store = fed.of_store;
     of_member = fed.of_member;
     rule = fed.rule;
@@ -147,20 +150,11 @@ module _ (world : PlainWorld) (honest : IsHonest world) (r : ℕ) (l : r < size_
     pub still : made ≡ [] → after.history.present.messages ≡ s.history.present.messages
 
   pub receives_sent : (s : State) (m : Message) → HasOnlySent world r s → next_of s ≡ None → IsSentMessage world m → IsTrue (fits (size_of world) m) → IsTrue (is_carried world.limit m)
-      → IsReceived s (steps_received (receiving world.w s m)) (state_received s (receiving world.w s m))
-  receives_sent s m fed none sent fit carried =
-      by (is_old s.history.present.me (counted s.history) m) (is_again s.early m) (is_far s.history.present.n world.w s.history.present.me (counted s.history) m) refl refl refl where
-        same : IsReceived s [] s
-        same = record { fed = fed; none = none; deliver = All-nil (λ step. is_delivery step ≡ true); still = λ _. refl }
-
-        made : List Step × State
-        made = steps world.w (with_early s m)
-
-        by : (a b c : Bool) → is_old s.history.present.me (counted s.history) m ≡ a → is_again s.early m ≡ b → is_far s.history.present.n world.w s.history.present.me (counted s.history) m ≡ c
-            → IsReceived s (steps_received (if a then old else if b then again else if c then far else accepts made.0 made.1)) (state_received s (if a then old else if b then again else if c then far else accepts made.0 made.1))
-        by true b c is_a is_b is_c = same
-        by false true c is_a is_b is_c = same
-        by false false true is_a is_b is_c = same
-        by false false false is_a is_b is_c =
-            let moved = steps_move (length (with_early s m).early) (with_early s m) (accept_has_only_sent s m fed sent fit carried is_a is_b is_c) in
-            record { fed = moved.fed; none = none_is_next_after_steps world.w (with_early s m); deliver = moved.deliver; still = moved.still }
+      → IsReceived s (steps_of (receive_rule world.w m s).0) (receive_rule world.w m s).1
+  receives_sent s m fed none sent fit carried = by (refusal_of world.w s m) refl where
+    by : (o : Option Refusal) → refusal_of world.w s m ≡ o → IsReceived s (steps_of (receive_by world.w m s o).0) (receive_by world.w m s o).1
+    by (Some why) e = subst (λ made. IsReceived s made s) (sym (steps_of_refused why)) (record { fed = fed; none = none; deliver = All-nil (λ step. is_delivery step ≡ true); still = λ _. refl })
+    by None e =
+        let g = with_early s m in
+        let moved = steps_move (length g.early) g (accept_has_only_sent s m fed sent fit carried (unrefused world.w s m e)) in
+        subst (λ made. IsReceived s made (steps world.w g).1) (sym (steps_of_accepted (steps world.w g).0)) (record { fed = moved.fed; none = none_is_next_after_steps world.w g; deliver = moved.deliver; still = moved.still })

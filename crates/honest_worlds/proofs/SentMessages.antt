@@ -1,5 +1,5 @@
 -- What the members of an honest world share: a message that was sent is its origin's, and is neither crooked nor far.
-use Rattle.std.proofs.Common.{if◌then◌else◌, true, Bool, ◌≡◌, ◌≢◌, ℕ, suc, ◌+◌, ◌-◌, ◌<◌, ◌≤◌, All, Bool, true, false, not, ◌==◌, cond, Contains, IsTrue, List, [], ◌∷◌, ◌++◌, length, get_or, refl, sym, ap, subst, ◌∙◌, inl, inr, append_assoc, arith}
+use Rattle.std.proofs.Common.{if◌then◌else◌, Some, None, ◌≡◌, ◌≢◌, ℕ, suc, ◌+◌, ◌-◌, ◌<◌, ◌≤◌, All, Bool, true, false, not, ◌==◌, cond, Contains, IsTrue, List, [], ◌∷◌, ◌++◌, length, get_or, refl, sym, ap, subst, ◌∙◌, inl, inr, append_assoc, arith}
 use Rattle.std.specs.List.{filter}
 use Rattle.std.proofs.lemmas.Bool.{both_ways, cases_eq, cases_lt, cond-false, ne_eqb}
 use Rattle.std.proofs.lemmas.List.{get_or_past, length-map}
@@ -10,12 +10,17 @@ use Rattle.op_base.specs.Message.{number, fits}
 use Rattle.op_base.specs.declared.message.Message.{Message}
 use Rattle.causal_model.specs.Chapter.{is_chapter}
 use Rattle.causal_model.specs.Counts.{count_of, counts, is_carried}
-use Rattle.causal_model.specs.Receiving.{State, counted, is_old, is_again, old, again, far, accepts, receiving, steps, with_early, is_far, start}
+use Rattle.causal_model.specs.Receiving.{is_old, is_far, steps, with_early, accepted, is_accepted, receive_by, receive_rule}
+use Rattle.causal_model.specs.State.{State, counted, start}
+use Rattle.causal_model.specs.Early.{is_again}
 use Rattle.causal_model.specs.Stability.{last_tag, stable_count, carries_operation, unstable_of, noop_window, stable_vector, is_stable}
+use Rattle.causal_model.specs.declared.outcome.Receive.TheVariants as receive
+use Rattle.causal_model.specs.declared.outcome.Refusal.TheVariants as refusal
 use Rattle.causal_model.proofs.Chapters.{IsNext}
 use Rattle.causal_model.proofs.Counts.{entry-counts}
 use Rattle.causal_model.proofs.Early.{IsDeliverable, test-from_IsNear}
 use Rattle.causal_model.proofs.Limits.{numbers_are_counted}
+use Rattle.causal_model.proofs.Outcomes.{accepted_is_accepted}
 use Rattle.causal_model.proofs.Settling.{stable_count-le-known}
 use Rattle.causal_model.proofs.Numbered.{unstable_are_numbered}
 use Rattle.causal_model.proofs.Timestamps.{tags_are_counted, entry-zero_tag}
@@ -141,14 +146,14 @@ module _ (world : PlainWorld) (honest : IsHonest world) where
       All-contains (λ z. (v : ℕ) → entry z.tag v ≤ count_of (delivered_by world y) v) (delivered_by world y) e (tags_are_counted u world.w y (delivered_by world y) (chapter_of y ly)) (subst (λ z. Contains (delivered_by world z) e) o (at_origin u world.w (delivered_by world) are_shared k e l has)) x)
 
 -- what is refused as far is far
-far_is_far : (w : ℕ) (s : State) (m : Message) → receiving w s m ≡ far → is_far s.history.present.n w s.history.present.me (counted s.history) m ≡ true
+far_is_far : (w : ℕ) (s : State) (m : Message) → (receive_rule w m s).0 ≡ receive.Far → is_far s.history.present.n w s.history.present.me (counted s.history) m ≡ true
 far_is_far w s m e = by (is_old s.history.present.me (counted s.history) m) (is_again s.early m) (is_far s.history.present.n w s.history.present.me (counted s.history) m) refl e where
   by : (a b c : Bool) → is_far s.history.present.n w s.history.present.me (counted s.history) m ≡ c
-      → (if a then old else if b then again else if c then far else accepts (steps w (with_early s m)).0 (steps w (with_early s m)).1) ≡ far → is_far s.history.present.n w s.history.present.me (counted s.history) m ≡ true
+      → (receive_by w m s (if a then Some refusal.Old else if b then Some refusal.Again else if c then Some refusal.Far else None)).0 ≡ receive.Far → is_far s.history.present.n w s.history.present.me (counted s.history) m ≡ true
   by true b c is f = cc
   by false true c is f = cc
   by false false true is f = is
-  by false false false is f = cc
+  by false false false is f = absurd (both_ways (is_accepted (accepted (steps w (with_early s m)).0)) (ap is_accepted f) (accepted_is_accepted (steps w (with_early s m)).0))
 
 pub sent_messages_are_near : SentIsNear
 sent_messages_are_near world r m honest l sent refused =

@@ -9,13 +9,13 @@ use Rattle.op_base.specs.Message.{number}
 use Rattle.op_base.specs.declared.message.Message.{Message}
 use Rattle.causal_model.specs.Counts.{count_of, counts}
 use Rattle.causal_model.specs.History.{Event, epoch_of, events, events_from, events_in, is_all_stable}
-use Rattle.causal_model.specs.Receiving.{start, counted}
+use Rattle.causal_model.specs.State.{start, counted}
 use Rattle.causal_model.specs.Stability.{stable_vector, is_stable, carries_operation}
 use Rattle.causal_model.proofs.Counts.{length-counts, entry-counts}
 use Rattle.causal_model.proofs.Elements.{Contains-map}
 use Rattle.causal_model.proofs.Limits.{numbers_are_counted}
 use Rattle.causal_model.proofs.Regrouping.{regroup_keeps_items}
-use Rattle.world_model.specs.Settling.{round_of, rounds_within, most_rounds, world_settled, is_settled}
+use Rattle.world_model.specs.Settling.{round_of, rounds_within, most_rounds, world_settled, is_quiescent}
 use Rattle.world_model.specs.World.{PlainWorld, size_of, replica_of}
 use Rattle.world_model.specs.Worlds.{IsWorld, KeepsWorld}
 use Rattle.world_model.specs.Honest.{delivered_by, history_of, IsHonest, KeepsHonest}
@@ -66,7 +66,7 @@ module _ (world : PlainWorld) (honest : IsHonest world) (still : (round_of world
       let lq : q < size_of world = omega (arith, k, after.kept.size) in
       (same_events (round_of world).world after.honest.is_world r q l k (everywhere q r lq lr) e, same_events (round_of world).world after.honest.is_world q r k l (everywhere r q lr lq) e)
 
-  pub counts_are_equal : is_settled (round_of world).world ≡ true
+  pub counts_are_equal : is_quiescent (round_of world).world ≡ true
   counts_are_equal = (settled_is_equal_counts (round_of world).world).1 (λ r l.
       let round = (round_of world).world in
       let u = size_of world in
@@ -125,7 +125,7 @@ settles world honest = rounds_settle (most_rounds world) world honest (omega ari
 pub settling_settles : SettlingSettles
 settling_settles world honest =
     let s = settles world honest in
-    (subst HaveSameEvents s.last (have_same_events s.before s.honest s.still), subst (λ after. is_settled after ≡ true) s.last (counts_are_equal s.before s.honest s.still))
+    (subst HaveSameEvents s.last (have_same_events s.before s.honest s.still), subst (λ after. is_quiescent after ≡ true) s.last (counts_are_equal s.before s.honest s.still))
 
 pub settled_is_stable : (world : PlainWorld) (r : ℕ) → IsHonest world → AreBelowLimit (world_settled world) → r < size_of world → is_all_stable (history_of (world_settled world) r).present ≡ true
 settled_is_stable world r honest below l =
@@ -150,7 +150,7 @@ regrouping_is_possible world honest below =
     let after = world_settled world in
     let s = settles world honest in
     let kept = settled_is_honest world honest in
-    and_from (is_settled after) _ (settling_settles world honest).1 (list_all-from_AllPass (λ g. is_all_stable g.history.present) after.replicas (All-from_get_or (λ g. is_all_stable g.history.present ≡ true) after.replicas (start 0 0) (λ r l. settled_is_stable world r honest below (omega (arith, l, kept.1.size)))))
+    and_from (is_quiescent after) _ (settling_settles world honest).1 (list_all-from_AllPass (λ g. is_all_stable g.history.present) after.replicas (All-from_get_or (λ g. is_all_stable g.history.present ≡ true) after.replicas (start 0 0) (λ r l. settled_is_stable world r honest below (omega (arith, l, kept.1.size)))))
 
 -- ---- equal counts
 

@@ -6,13 +6,14 @@ use Rattle.std.proofs.lemmas.List.Elements.{All-contains}
 use Rattle.std.proofs.lemmas.List.FromFn.{length-range_with_len, get_or-range_with_len}
 use Rattle.op_base.specs.declared.message.Message.{Message}
 use Rattle.causal_model.specs.Counts.{members, count_of, counts}
-use Rattle.causal_model.specs.Sending.{Beating, beats, quiet, held, beat_ended}
+use Rattle.causal_model.specs.declared.outcome.Beat.{Beat}
+use Rattle.causal_model.specs.declared.outcome.Beat.TheVariants as beat
 use Rattle.causal_model.proofs.Early.{IsDeliverable}
 use Rattle.causal_model.proofs.Lists.{fold_has}
 use Rattle.world_model.specs.Honest.{IsSentMessage, IsHonest, delivered_by}
 use Rattle.world_model.specs.Offering.{offered_between}
 use Rattle.world_model.specs.Settling.{Round, is_delivery, with_offered, after_offer, after_offers, with_beat, after_beat, offers_made, round_of}
-use Rattle.world_model.specs.World.{PlainWorld, size_of, with_state, with_sent, beating_at}
+use Rattle.world_model.specs.World.{PlainWorld, size_of, with_state, with_sent, beat_at}
 use Rattle.world_model.specs.Worlds.{KeepsWorld}
 use Rattle.world_model.proofs.Commands.{outbox_is_offered}
 use Rattle.world_model.proofs.Worlds.{replica_here, replica_there, world_keeps_itself, kept_twice, state_changes}
@@ -73,22 +74,24 @@ module _ (world : PlainWorld) where
   offers_stay_moved round r moved = fold_has HasMoved (after_offer r) round (members (size_of round.world)) moved (λ i d low c h. offer_stays_moved r c (get_or (members (size_of round.world)) i d) h)
 
   pub beat_keeps : (r : ℕ) → r < size_of world → (round : Round) → IsHonestRound world round → IsHonestRound world (after_beat round r)
-  beat_keeps r l round is = by (beating_at round.world r) refl where
-    by : (made : Beating) → beating_at round.world r ≡ made → IsHonestRound world (with_beat round r made)
-    by quiet e = is
-    by held e = is
-    by beat_ended e = is
-    by (beats m) e =
+  beat_keeps r l round is = by (beat_at r round.world).0 refl where
+    by : (answer : Beat) → (beat_at r round.world).0 ≡ answer → IsHonestRound world (with_beat round r answer)
+    by beat.Quiet e = is
+    by beat.Held e = is
+    by beat.End e = is
+    by beat.NoMemory e = is
+    by (beat.Sent m) e =
         let kept = beat_keeps_honest round.world r is.honest (omega (arith, l, is.kept.size)) m e in
         record { honest = kept.0; kept = kept_twice world round.world (with_sent round.world r m) is.kept kept.1; same = λ still. absurd (false≢true (sym still)) }
 
   pub beat_stays_moved : (round : Round) (r : ℕ) → HasMoved round → HasMoved (after_beat round r)
-  beat_stays_moved round r moved = by (beating_at round.world r) where
-    by : (made : Beating) → HasMoved (with_beat round r made)
-    by quiet = moved
-    by held = moved
-    by beat_ended = moved
-    by (beats m) = refl
+  beat_stays_moved round r moved = by (beat_at r round.world).0 where
+    by : (answer : Beat) → HasMoved (with_beat round r answer)
+    by beat.Quiet = moved
+    by beat.Held = moved
+    by beat.End = moved
+    by beat.NoMemory = moved
+    by (beat.Sent m) = refl
 
   pub begin_is_round : IsHonest world → IsHonestRound world (record { world = world; moved = false })
   begin_is_round honest = record { honest = honest; kept = world_keeps_itself world honest.is_world; same = λ _ q _. refl }

@@ -2,15 +2,15 @@
 use Rattle.std.specs.Prelude.{◌≡◌, ◌≢◌, ◌↔◌, ℕ, ◌-◌, ◌*◌, ◌<◌, ◌≤◌, Bool, true, false, ◌&&◌, List, [], ◌++◌, IsTrue, All, Contains}
 use Rattle.std.specs.List.{list_all}
 use Rattle.op_base.specs.declared.message.Message.{Message}
-use Rattle.op_base.specs.declared.outcome.Step.{Step}
-use Rattle.causal_model.specs.CellSteps.{log_of}
+use Rattle.causal_model.specs.Log.{log_of}
 use Rattle.causal_model.specs.Chapter.{is_admissible}
 use Rattle.causal_model.specs.Counts.{count_of, counts, is_deliverable}
-use Rattle.causal_model.specs.History.{Event, events, is_before, is_all_stable}
+use Rattle.causal_model.specs.History.{Event, events, is_before, is_all_stable, SameEvents}
 use Rattle.causal_model.specs.Journal.{replay, IsLegal}
-use Rattle.causal_model.specs.Laws.Events.{SameEvents}
-use Rattle.causal_model.specs.Receiving.{State, far, accepts}
-use Rattle.causal_model.specs.Sending.{held}
+use Rattle.causal_model.specs.Receiving.{steps_of}
+use Rattle.causal_model.specs.declared.outcome.Beat.TheVariants as beat
+use Rattle.causal_model.specs.declared.outcome.Receive.TheVariants as receive
+use Rattle.causal_model.specs.Sending.{KeepsRule}
 use Rattle.causal_model.specs.Settled.{is_stable_event}
 use Rattle.causal_model.specs.Stability.{unstable_noops, noop_window}
 use Rattle.causal_model.specs.declared.note.Note.{Note}
@@ -18,11 +18,11 @@ use Rattle.causal_model.specs.declared.note.Note.TheVariants.{Kept}
 use Rattle.world_model.specs.CausallyStable.{IsCausallyStable}
 use Rattle.world_model.specs.Commands.{WorldCommand, CanRun, is_raw, after_command}
 use Rattle.world_model.specs.EventOrder.{IsEvent, IsSentEvent, EventOrder}
-use Rattle.world_model.specs.Honest.{KeepsRule, IsSentMessage, history_of, delivered_by, IsHonest, KeepsHonest}
+use Rattle.world_model.specs.Honest.{IsSentMessage, history_of, delivered_by, IsHonest, KeepsHonest}
 use Rattle.world_model.specs.Journals.{journal_of, world_of_journals, ends_epoch, is_crook, sent_in, AreJournals}
 use Rattle.world_model.specs.Offering.{offered_between}
-use Rattle.world_model.specs.Settling.{is_delivery, round_of, world_settled, is_settled}
-use Rattle.world_model.specs.World.{PlainWorld, size_of, opening, beating_at, receiving_at, world_offered}
+use Rattle.world_model.specs.Settling.{is_delivery, round_of, world_settled, is_quiescent}
+use Rattle.world_model.specs.World.{PlainWorld, size_of, opening, beat_at, offer_at}
 use Rattle.world_model.specs.Worlds.{IsWorld, own_of}
 
 -- ---- worlds stay honest
@@ -39,13 +39,13 @@ CommandsKeepHonest = (world : PlainWorld) (command : WorldCommand) → IsHonest 
 -- and so does offering any message that was sent
 abbrev pub OfferingSentKeepsHonest : Type 0
 OfferingSentKeepsHonest = (world : PlainWorld) (r : ℕ) (m : Message) → IsHonest world → r < size_of world → IsSentMessage world m
-    → KeepsHonest world (world_offered world r m)
+    → KeepsHonest world (offer_at r m world).1
 
 -- ---- what was sent is delivered
 
 -- no message that was sent is refused as far
 abbrev pub SentIsNear : Type 0
-SentIsNear = (world : PlainWorld) (r : ℕ) (m : Message) → IsHonest world → r < size_of world → IsSentMessage world m → receiving_at world r m ≢ far
+SentIsNear = (world : PlainWorld) (r : ℕ) (m : Message) → IsHonest world → r < size_of world → IsSentMessage world m → (offer_at r m world).0 ≢ receive.Far
 
 -- after each front of a history a message that was sent and can be delivered is not crooked
 abbrev pub DeliverableIsAdmissible : Type 0
@@ -55,8 +55,8 @@ DeliverableIsAdmissible = (world : PlainWorld) (r : ℕ) (before later : List Me
 
 -- so each step that a message which was sent makes delivers
 abbrev pub StepsDeliver : Type 0
-StepsDeliver = (world : PlainWorld) (r : ℕ) (m : Message) (steps : List Step) (after : State) → IsHonest world → r < size_of world → IsSentMessage world m
-    → receiving_at world r m ≡ accepts steps after → All (λ step. IsTrue (is_delivery step)) steps
+StepsDeliver = (world : PlainWorld) (r : ℕ) (m : Message) → IsHonest world → r < size_of world → IsSentMessage world m
+    → All (λ step. IsTrue (is_delivery step)) (steps_of (offer_at r m world).0)
 
 -- and each step that an outbox makes
 abbrev pub ResentStepsDeliver : Type 0
@@ -96,12 +96,12 @@ AreBelowLimit world = (r : ℕ) → r < size_of world → count_of (delivered_by
 -- operation is stable
 abbrev pub StillRoundSettles : Type 0
 StillRoundSettles = (world : PlainWorld) → IsHonest world → (round_of world).moved ≡ false
-    → HaveSameEvents (round_of world).world × (is_settled (round_of world).world ≡ true)
+    → HaveSameEvents (round_of world).world × (is_quiescent (round_of world).world ≡ true)
     × (AreBelowLimit (round_of world).world → (r : ℕ) → r < size_of world → IsTrue (is_all_stable (history_of (round_of world).world r).present))
 
 -- so it is once a world has settled
 abbrev pub SettlingSettles : Type 0
-SettlingSettles = (world : PlainWorld) → IsHonest world → HaveSameEvents (world_settled world) × (is_settled (world_settled world) ≡ true)
+SettlingSettles = (world : PlainWorld) → IsHonest world → HaveSameEvents (world_settled world) × (is_quiescent (world_settled world) ≡ true)
 
 -- and where no member has reached the limit, every log is empty
 abbrev pub SettledLogsAreEmpty : Type 0
@@ -110,14 +110,14 @@ SettledLogsAreEmpty = (world : PlainWorld) (r : ℕ) → IsHonest world → AreB
 
 -- whether members can change: all counts are equal, and every operation is stable
 abbrev pub can_regroup : PlainWorld → Bool
-can_regroup world = is_settled world && list_all (λ s. is_all_stable s.history.present) world.replicas
+can_regroup world = is_quiescent world && list_all (λ s. is_all_stable s.history.present) world.replicas
 
 abbrev pub RegroupingIsPossible : Type 0
 RegroupingIsPossible = (world : PlainWorld) → IsHonest world → AreBelowLimit (world_settled world) → can_regroup (world_settled world) ≡ true
 
 -- equal counts are equal events
 abbrev pub EqualCountsAreEqualEvents : Type 0
-EqualCountsAreEqualEvents = (world : PlainWorld) → IsHonest world → is_settled world ≡ true → HaveSameEvents world
+EqualCountsAreEqualEvents = (world : PlainWorld) → IsHonest world → is_quiescent world ≡ true → HaveSameEvents world
 
 -- ---- no-ops
 
@@ -125,7 +125,7 @@ EqualCountsAreEqualEvents = (world : PlainWorld) → IsHonest world → is_settl
 abbrev pub honest_noops : ℕ → ℕ → ℕ
 honest_noops n w = (2 * n - 3) * w
 
--- No more are, fewer than the no-op window. In some honest stores as many are: so no smaller window would do.
+-- No more are, fewer than the no-op window. A test of scripts reaches as many with three members and a window of one.
 abbrev pub NoopsAreFew : Type 0
 NoopsAreFew = (world : PlainWorld) (r : ℕ) → IsHonest world → r < size_of world
     → (unstable_noops (size_of world) r (delivered_by world r) r ≤ honest_noops (size_of world) world.w)
@@ -133,24 +133,24 @@ NoopsAreFew = (world : PlainWorld) (r : ℕ) → IsHonest world → r < size_of 
 
 -- so no beat is held
 abbrev pub NoBeatIsHeld : Type 0
-NoBeatIsHeld = (world : PlainWorld) (r : ℕ) → IsHonest world → r < size_of world → beating_at world r ≢ held
+NoBeatIsHeld = (world : PlainWorld) (r : ℕ) → IsHonest world → r < size_of world → (beat_at r world).0 ≢ beat.Held
 
 -- ---- journals
 
 -- the own messages of a replay are those that its notes sent, in order
 abbrev pub SentNotesAreOwn : Type 0
-SentNotesAreOwn = (w limit n me : ℕ) (notes : List Note) → n ≤ 16 → me < n → IsLegal w limit n me notes → All (λ note. ends_epoch note ≡ false) notes
+SentNotesAreOwn = (n w limit me : ℕ) (notes : List Note) → n ≤ 16 → me < n → IsLegal n w limit me notes → All (λ note. ends_epoch note ≡ false) notes
     → own_of (replay n me notes) ≡ sent_in notes
 
 -- each other message, and each early one, was kept by a note
 abbrev pub OthersWereKept : Type 0
-OthersWereKept = (w limit n me : ℕ) (notes : List Note) → n ≤ 16 → me < n → IsLegal w limit n me notes → All (λ note. ends_epoch note ≡ false) notes
+OthersWereKept = (n w limit me : ℕ) (notes : List Note) → n ≤ 16 → me < n → IsLegal n w limit me notes → All (λ note. ends_epoch note ≡ false) notes
     → All (λ m. m.origin ≢ me → Contains notes (Kept m)) (replay n me notes).history.present.messages
     × All (λ m. Contains notes (Kept m)) (replay n me notes).early
 
 -- each own message is what the rule gives
 abbrev pub LegalKeepsRule : Type 0
-LegalKeepsRule = (w limit n me : ℕ) (notes : List Note) → n ≤ 16 → me < n → IsLegal w limit n me notes → All (λ note. ends_epoch note ≡ false) notes
+LegalKeepsRule = (n w limit me : ℕ) (notes : List Note) → n ≤ 16 → me < n → IsLegal n w limit me notes → All (λ note. ends_epoch note ≡ false) notes
     → KeepsRule n w limit me (replay n me notes).history.present.messages
 
 -- journals whose kept messages stand as sent in those of their origins give an honest world

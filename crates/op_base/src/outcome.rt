@@ -29,7 +29,7 @@ pub struct Item {
     pub cell: Cell,
 }
 
-/// Why a deliverable message is refused: what its sender can't have sent.
+/// Why a deliverable message is dropped: how it doesn't fit what was delivered.
 #[derive(Clone, Copy, Debug, PartialEq, Eq)]
 pub enum Crook {
     /// The sender's last timestamp has `had` at `x`, this one has the smaller `got`.

@@ -18,9 +18,8 @@ use Rattle.op_base.specs.declared.message.Message.{Message}
 use Rattle.op_base.specs.declared.outcome.Item.{Item}
 use Rattle.causal_model.specs.History.{History, events, is_history}
 use Rattle.causal_model.specs.Items.{cell_in}
-use Rattle.causal_model.specs.Laws.Answers.{TextsRise}
+use Rattle.causal_model.specs.Query.{TextsRise, values_that}
 use Rattle.causal_model.specs.Parts.{has, has_by_parts, is_in, ArePartsOf}
-use Rattle.causal_model.specs.Query.{values_that}
 use Rattle.causal_model.proofs.Elements.{AllPairs-map, Contains-map, item_from_list_any, list_any-from_item}
 use Rattle.causal_model.proofs.Members.{no_member, member_here, member_later, member_cases, member_of_filter, member_from_filter, pairs_head, pairs_tail}
 use Rattle.causal_model.proofs.ObjectParts.{has_from_parts}

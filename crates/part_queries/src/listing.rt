@@ -4,10 +4,9 @@ ghost use Rattle.std.specs.Prelude.{◌≡◌, ◌↔◌, ℕ, ◌||◌, List, m
 ghost use Rattle.std.specs.List.{list_any};
 ghost use Rattle.causal_model.specs.History.{History, events, is_history};
 ghost use Rattle.causal_model.specs.Items.{cell_in};
-ghost use Rattle.causal_model.specs.Laws.Answers.{TextsRise};
+ghost use Rattle.causal_model.specs.Query.{TextsRise, values_that};
 ghost use Rattle.causal_model.specs.Log.{message_of};
 ghost use Rattle.causal_model.specs.Parts.{has, has_by_parts, is_in, ArePartsOf};
-ghost use Rattle.causal_model.specs.Query.{values_that};
 ghost use Rattle.part_queries.specs.Asked.{has_values};
 ghost use Rattle.part_queries.specs.Finds.{puts_in, takes_out, AreRising};
 

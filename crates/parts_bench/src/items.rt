@@ -4,7 +4,7 @@
 ghost use Rattle.std.specs.Prelude.{◌≡◌, ◌≤◌, ℕ, List, Option, pos};
 ghost use Rattle.op_base.specs.declared.name.ObjectId.{ObjectId as AnObject};
 ghost use Rattle.causal_model.specs.Items.{cell_in};
-ghost use Rattle.causal_model.specs.Query.{amount_of};
+ghost use Rattle.causal_model.specs.Acts.{amount_of};
 
 use crate::log::{Receiver, place_of};
 use crate::updates::{add, remove, set, value};

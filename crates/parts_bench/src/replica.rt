@@ -5,7 +5,6 @@
 ghost use Rattle.std.specs.Prelude.{◌≡◌, ◌≤◌, IsTrue};
 ghost use Rattle.op_base.specs.Message.{fits};
 ghost use Rattle.causal_model.specs.Counts.{is_carried};
-ghost use Rattle.parts_bench.specs.declared.replica.TheConstants.{LIMIT};
 
 use crate::updates::{add, inc};
 use anyhow::{Result, bail, ensure};
@@ -88,29 +87,29 @@ impl Coming {
     }
 }
 
-/// A message that was sent in a store of so many members.
+/// A message that was sent in a store of so many members and with such a limit.
 #[derive(Drop)]
 struct Sent {
     n: u8,
+    limit: u32,
     message: Message,
     ghost fits: { IsTrue (fits n message) },
-    ghost carried: { IsTrue (is_carried LIMIT message) },
+    ghost carried: { IsTrue (is_carried limit message) },
 }
 
 /// Has a replica send an update.
 fn send(replica: &mut Replica, alloc: Global, update: &Update) -> Result<Sent> {
-    ensure!(replica.limit == LIMIT, "another limit");
-    let n = replica.n;
+    let (n, limit) = (replica.n, replica.limit);
     let Local::Sent(message) = replica.local(alloc, update) else {
         bail!("nothing was sent");
     };
-    Ok(Sent { n, message })
+    Ok(Sent { n, limit, message })
 }
 
 /// Has a replica receive a copy of a message. How many were delivered.
 fn give(replica: &mut Replica, alloc: Global, sent: &Sent) -> Result<u64> {
     ensure!(
-        replica.limit == LIMIT && replica.n == sent.n,
+        replica.n == sent.n && replica.limit == sent.limit,
         "another store"
     );
     match replica.receive(alloc, sent.message.copy(alloc)?) {

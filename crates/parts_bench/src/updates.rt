@@ -1,7 +1,7 @@
 //! Adds and removes of numbers as values of sets, and increments of counters.
 
 ghost use Rattle.std.specs.Prelude.{◌≡◌, pos, IfOk};
-ghost use Rattle.causal_model.specs.Query.{amount_of};
+ghost use Rattle.causal_model.specs.Acts.{amount_of};
 
 use anyhow::{Result, bail};
 use op_base::{Act, Key, Kind, ObjectId, Update, Value};

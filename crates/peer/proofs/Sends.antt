@@ -1,5 +1,5 @@
--- What a peer sends is the frame of what its replica sends.
-use Rattle.std.proofs.Common.{◌≡◌, ℕ, ◌&&◌, ◌==◌, Bool, not, nat_lt, IsTrue, List, All, length, sym, ap, subst, ◌∙◌, arith, eq-eqb, lt-ltb}
+-- What a peer sends is the frame of what its replica sends, and what it sends again are messages of the store.
+use Rattle.std.proofs.Common.{◌≡◌, ℕ, Bool, false, not, ◌&&◌, ◌==◌, nat_lt, IsTrue, List, [], All, fold, length, refl, sym, ap, subst, ◌∙◌, inl, inr, arith, eq-eqb, lt-ltb}
 use denote.Struct.Props.{props}
 use Rattle.std.proofs.Math.Logic.{∥∥₁_elim}
 use Rattle.std.specs.List.{filter}
@@ -7,53 +7,47 @@ use Rattle.std.proofs.lemmas.Bool.{and_from}
 use Rattle.std.proofs.lemmas.List.Elements.{All-nil, All-push, All-filter}
 use Rattle.op_base.specs.Message.{number, fits}
 use Rattle.op_base.specs.declared.message.Message.{Message}
-use Rattle.op_base.specs.declared.operation.Op.TheVariants as op
 use Rattle.op_base.specs.declared.operation.Update.{Update}
 use Rattle.causal_model.specs.Chapter.{is_chapter}
-use Rattle.causal_model.specs.Receiving.{State}
-use Rattle.causal_model.specs.Sending.{own_message, Sending, sends, Beating, beats}
+use Rattle.causal_model.specs.Follows.{Follows}
+use Rattle.causal_model.specs.Sending.{is_sent, local_messages, local_rule}
 use Rattle.causal_model.specs.Stability.{stable_vector, is_stable}
+use Rattle.causal_model.specs.State.{State, with_own}
+use Rattle.causal_model.specs.declared.outcome.Local.{Local}
+use Rattle.causal_model.specs.declared.outcome.Local.TheVariants as local
 use Rattle.causal_model.proofs.Chapters.{chapter_induction}
 use Rattle.replica_core.specs.Standing.{Fields, Standing}
-use Rattle.replica_core.specs.Rules.{fields_of, AnswersLocal, AnswersBeat as ReplicaAnswersBeat, OnLocalRefusal, OnBeatRefusal as OnReplicaBeatRefusal, sending_of, beating_of}
-use Rattle.replica_core.specs.declared.answers.Local.{Local}
-use Rattle.replica_core.specs.declared.answers.Local.TheVariants as local
-use Rattle.replica_core.specs.declared.answers.Beat.{Beat as ReplicaBeat}
-use Rattle.replica_core.specs.declared.answers.Beat.TheVariants as replica_beat
+use Rattle.replica_core.specs.Rules.{fields_of, StandsFor}
 use Rattle.replica_core.specs.declared.replica.Replica.{Replica}
-use Rattle.replica_core.proofs.Stands.{chapter_of}
-use Rattle.peer.specs.Calls.{updated_of, beat_of}
-use Rattle.peer.specs.Rules.{AnswersUpdate, AnswersBeat, OnUpdateRefusal, OnBeatRefusal, frame_at}
+use Rattle.peer.specs.Calls.{updated_of, is_framed}
+use Rattle.peer.specs.Rules.{update_rule}
+use Rattle.peer.specs.declared.answers.Updated.TheVariants as updated
+use Rattle.peer.proofs.Stands.{chapter_of}
 
--- a rule that sends one message sends no other
-one_is_sent : (rule : Sending) (m own : Message) → rule ≡ sends m → rule ≡ sends own → own ≡ m
-one_is_sent rule m own is so = cc
+-- ---- what isn't sent
 
-one_is_beaten : (rule : Beating) (m own : Message) → rule ≡ beats m → rule ≡ beats own → own ≡ m
-one_is_beaten rule m own is so = cc
+unsent_has_none : (answer : Local) → is_sent answer ≡ false → local_messages answer ≡ []
+unsent_has_none (local.Sent m) e = cc
+unsent_has_none local.Busy e = refl
+unsent_has_none local.End e = refl
+unsent_has_none local.NoMemory e = refl
 
-module _ (before : Replica) (s : State) (new : Replica) (frame : List ℕ) where
-  -- where the frame is that of the next own message, and the rule sends that
-  pub answers_update : (update : Update) (answer : Local)
-      → sending_of before s update ≡ sends (own_message before.n before.me s.history.present.messages (op.Update update))
-      → frame ≡ frame_at before (own_message before.n before.me s.history.present.messages (op.Update update))
-      → AnswersLocal before s update answer new → AnswersUpdate before s update (updated_of answer frame) new
-  answers_update update (local.Sent m) rule is given =
-      (m, given.0, is ∙ ap (frame_at before) (one_is_sent (sending_of before s update) m (own_message before.n before.me s.history.present.messages (op.Update update)) given.0 rule), given.1)
-  answers_update update local.Busy rule is given = given
-  answers_update update local.End rule is given = given
-  answers_update update local.NoMemory rule is given = given
+-- a frame is what is sent
+framed_is_sent : (n : ℕ) (answer : Local) → is_framed (updated_of n answer) ≡ is_sent answer
+framed_is_sent n (local.Sent m) = refl
+framed_is_sent n local.Busy = refl
+framed_is_sent n local.End = refl
+framed_is_sent n local.NoMemory = refl
 
-  pub answers_beat : (answer : ReplicaBeat)
-      → beating_of before s ≡ beats (own_message before.n before.me s.history.present.messages op.NoOp)
-      → frame ≡ frame_at before (own_message before.n before.me s.history.present.messages op.NoOp)
-      → ReplicaAnswersBeat before s answer new → AnswersBeat before s (beat_of answer frame) new
-  answers_beat (replica_beat.Sent m) rule is given =
-      (m, given.0, is ∙ ap (frame_at before) (one_is_beaten (beating_of before s) m (own_message before.n before.me s.history.present.messages op.NoOp) given.0 rule), given.1)
-  answers_beat replica_beat.Quiet rule is given = given
-  answers_beat replica_beat.Held rule is given = given
-  answers_beat replica_beat.End rule is given = given
-  answers_beat replica_beat.NoMemory rule is given = given
+-- where a replica drafts nothing of an update, it follows the rule of updates that nothing is sent
+pub unsent_follows : (r : Replica) (u : Update) (answer : Local) → is_sent answer ≡ false → Follows StandsFor local.NoMemory is_sent (λ s. ((local_rule r.w r.limit u s).0, s)) r answer r
+    → Follows StandsFor updated.NoMemory is_framed (update_rule r.n r.w r.limit u) r (updated_of r.n answer) r
+unsent_follows r u answer unsent told s stands = elim (told s stands) [
+  | inl is ↦ inl (ap (updated_of r.n) is.0, subst (λ sent. StandsFor r (fold with_own s sent)) (sym (unsent_has_none answer unsent) ∙ ap local_messages is.0) is.1)
+  | inr lacks ↦ inr (ap (updated_of r.n) lacks.0, framed_is_sent r.n (local_rule r.w r.limit u s).0 ∙ lacks.1, lacks.2)
+]
+
+-- ---- what is sent again
 
 -- each message of a chapter is one of the store
 chapter_fits : (n w me : ℕ) (ms : List Message) → IsTrue (is_chapter n w me ms) → All (λ m. IsTrue (fits n m)) ms
@@ -72,17 +66,3 @@ outbox_fits f s stands =
 
 pub outbox_fits_in : (r : Replica) → All (λ m. IsTrue (fits r.n m)) r.outbox.messages
 outbox_fits_in r = λ k d l. ∥∥₁_elim r.stands (search props) (λ x. outbox_fits (fields_of r) x.0 x.1 k d l)
-
--- what nothing sent leaves
-pub update_refused : (answer : Local) (frame : List ℕ) (P : Type 0) → OnLocalRefusal answer P → OnUpdateRefusal (updated_of answer frame) P
-update_refused (local.Sent m) frame P h = tt
-update_refused local.Busy frame P h = h
-update_refused local.End frame P h = h
-update_refused local.NoMemory frame P h = h
-
-pub beat_refused : (answer : ReplicaBeat) (frame : List ℕ) (P : Type 0) → OnReplicaBeatRefusal answer P → OnBeatRefusal (beat_of answer frame) P
-beat_refused (replica_beat.Sent m) frame P h = tt
-beat_refused replica_beat.Quiet frame P h = h
-beat_refused replica_beat.Held frame P h = h
-beat_refused replica_beat.End frame P h = h
-beat_refused replica_beat.NoMemory frame P h = h

@@ -1,26 +1,27 @@
 //! Hearing what comes.
 
-ghost use Rattle.std.specs.Prelude.{◌≡◌};
-ghost use Rattle.causal_model.specs.Receiving.{State};
+ghost use Rattle.std.specs.Prelude.{◌≡◌, false};
+ghost use Rattle.causal_model.specs.Follows.{Follows};
 ghost use Rattle.replica_core.specs.Rules.{StandsFor, SameSettings, Unchanged, IsBounded};
-ghost use Rattle.peer.specs.Calls.{heard_of};
-ghost use Rattle.peer.specs.Rules.{AnswersHear, OnHearRefusal};
+ghost use Rattle.peer.specs.Calls.{heard_of, is_read, is_taken};
+ghost use Rattle.peer.specs.Rules.{hear_rule};
 
 use crate::answers::Heard;
 use crate::peer::Peer;
+use causal_model::Receive;
 use frame_codec::{DecodeFault, decode};
 use op_base::operations_are_valid;
-use replica_core::Receive;
 use std::alloc::Global;
 
 impl Peer {
     /// Takes in bytes, which may come from anywhere. Where they are the frame of a message that is neither old nor too far
     /// ahead, nor early already, the message becomes early; then early messages are delivered, or dropped where they don't
-    /// fit what was delivered before, until none can be delivered. Every refusal leaves the peer as it was.
+    /// fit what was delivered before, until none can be delivered. Every refusal leaves the peer as it was, and memory is
+    /// wanted only where they are a frame.
     pub fn hear(&mut self, alloc: Global, bytes: &[u8]) -> Heard
-        ensures answer { (s : State) → StandsFor self.old s → AnswersHear self.old s bytes.now result self.new }
+        ensures answer { Follows StandsFor Heard.NoMemory is_read (hear_rule self.old.n self.old.w self.old.limit bytes.now) self.old result self.new }
         ensures settings { SameSettings self.old self.new }
-        ensures refused { OnHearRefusal result (Unchanged self.old self.new) }
+        ensures refused { is_taken result ≡ false → Unchanged self.old self.new }
         ensures bounded { IsBounded self.new }
     {
         let message = match decode(alloc, bytes, self.replica.n, 0, self.replica.limit) {

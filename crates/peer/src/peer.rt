@@ -3,7 +3,7 @@
 ghost use Rattle.std.specs.Prelude.{◌≡◌, ◌↔◌, length, IfOk, IsErrOf, false};
 ghost use Rattle.causal_model.specs.History.{events};
 ghost use Rattle.causal_model.specs.Query.{answer};
-ghost use Rattle.causal_model.specs.Receiving.{State, start, counted};
+ghost use Rattle.causal_model.specs.State.{State, start, counted};
 ghost use Rattle.causal_model.specs.Stability.{stable_vector};
 ghost use Rattle.replica_core.specs.Numbers.{are_numbers};
 ghost use Rattle.replica_core.specs.Rules.{StandsFor};

@@ -1,66 +1,58 @@
 //! Sending, and sending again.
 
-ghost use Rattle.std.specs.Prelude.{◌≡◌, ◌<◌, IsTrue, IfOk, All, map};
+ghost use Rattle.std.specs.Prelude.{◌≡◌, IsTrue, IfOk, OnErr, All, map, false, ℕ};
 ghost use Rattle.op_base.specs.Message.{fits};
-ghost use Rattle.causal_model.specs.Counts.{count_of};
-ghost use Rattle.causal_model.specs.Receiving.{State};
-ghost use Rattle.causal_model.specs.Sending.{own_message};
+ghost use Rattle.causal_model.specs.Follows.{Follows};
+ghost use Rattle.causal_model.specs.Sending.{is_sent, is_beat};
+ghost use Rattle.causal_model.specs.State.{State, with_own};
 ghost use Rattle.frame_codec.specs.Grammar.{frame_of};
-ghost use Rattle.replica_core.specs.Rules.{StandsFor, SameSettings, Unchanged, IsBounded};
-ghost use Rattle.peer.specs.Calls.{updated_of, beat_of};
-ghost use Rattle.peer.specs.Rules.{AnswersUpdate, AnswersBeat, OnUpdateRefusal, OnBeatRefusal, frame_at, frames_again};
+ghost use Rattle.replica_core.specs.Rules.{StandsFor, SameSettings, Unchanged, IsBounded, IsDraft};
+ghost use Rattle.peer.specs.Calls.{updated_of, beaten_of, is_framed, is_beat_framed};
+ghost use Rattle.peer.specs.Rules.{update_rule, peer_beat_rule, frame_at, frames_again};
 
 use crate::answers::{Beat, Updated};
 use crate::peer::Peer;
+use causal_model::Local;
 use frame_codec::{Version, encode};
-use op_base::{ByteList, ListOf, Message, NoMemory, Op, Update};
-use replica_core::{Local, Replica};
+use op_base::{ByteList, ListOf, Message, NoMemory, Update};
+use replica_core::Replica;
 use std::alloc::Global;
 
 impl Peer {
-    /// Sends an update: the frame goes to all other members. Every refusal leaves the peer as it was.
+    /// Sends an update: the frame goes to all other members. Every refusal leaves the peer as it was, and memory is wanted only
+    /// where it would send.
     pub fn update(&mut self, alloc: Global, update: &Update) -> Updated
-        ensures answer { (s : State) → StandsFor self.old s → AnswersUpdate self.old s update.now result self.new }
+        ensures answer { Follows StandsFor Updated.NoMemory is_framed (update_rule self.old.n self.old.w self.old.limit update.now) self.old result self.new }
         ensures settings { SameSettings self.old self.new }
-        ensures refused { OnUpdateRefusal result (Unchanged self.old self.new) }
+        ensures refused { is_framed result ≡ false → Unchanged self.old self.new }
         ensures bounded { IsBounded self.new }
     {
-        if self.replica.is_busy() {
-            return Updated::Busy;
-        }
-        if self.replica.has_ended() {
-            return Updated::End;
-        }
-        let Ok(copy) = update.copy(alloc) else {
-            return Updated::NoMemory;
+        let message = match self.replica.draft(alloc, update) {
+            Ok(message) => message,
+            Err(answer) => return unsent(answer),
         };
-        let Ok(frame) = next_frame(alloc, &self.replica, Op::Update(copy)) else {
-            return Updated::NoMemory;
-        };
-        updated_of(self.replica.local(alloc, update), frame)
+        match send(alloc, &mut self.replica, message) {
+            Ok(frame) => Updated::Frame(frame),
+            Err(NoMemory) => Updated::NoMemory,
+        }
     }
 
     /// Sends a no-op where one is due: it tells the others what was delivered here, and the frame goes to all of them. Every
-    /// refusal leaves the peer as it was.
+    /// refusal leaves the peer as it was, and memory is wanted only where it would send.
     pub fn beat(&mut self, alloc: Global) -> Beat
-        ensures answer { (s : State) → StandsFor self.old s → AnswersBeat self.old s result self.new }
+        ensures answer { Follows StandsFor Beat.NoMemory is_beat_framed (peer_beat_rule self.old.n self.old.w self.old.limit) self.old result self.new }
         ensures settings { SameSettings self.old self.new }
-        ensures refused { OnBeatRefusal result (Unchanged self.old self.new) }
+        ensures refused { is_beat_framed result ≡ false → Unchanged self.old self.new }
         ensures bounded { IsBounded self.new }
     {
-        if !self.replica.due {
-            return Beat::Quiet;
-        }
-        if self.replica.is_held() {
-            return Beat::Held;
-        }
-        if self.replica.has_ended() {
-            return Beat::End;
-        }
-        let Ok(frame) = next_frame(alloc, &self.replica, Op::NoOp) else {
-            return Beat::NoMemory;
+        let message = match self.replica.draft_noop() {
+            Ok(message) => message,
+            Err(answer) => return unbeaten(answer),
         };
-        beat_of(self.replica.beat(alloc), frame)
+        match send(alloc, &mut self.replica, message) {
+            Ok(frame) => Beat::Frame(frame),
+            Err(NoMemory) => Beat::NoMemory,
+        }
     }
 
     /// The frames of the own messages that aren't known to be everywhere, oldest first: what to send again.
@@ -71,39 +63,45 @@ impl Peer {
     }
 }
 
-/// What an update answers, where this is the frame of the message that is sent.
-fn updated_of(answer: Local, frame: ByteList) -> Updated
-    ensures { result ≡ updated_of answer frame }
+/// What an update answers where nothing is sent.
+fn unsent(answer: Local) -> Updated
+    requires { is_sent answer ≡ false }
+    ensures { (n : ℕ) → result ≡ updated_of n answer }
 {
     match answer {
-        Local::Sent(_) => Updated::Frame(frame),
+        Local::Sent(_) => unreachable!(),
         Local::Busy => Updated::Busy,
         Local::End => Updated::End,
         Local::NoMemory => Updated::NoMemory,
     }
 }
 
-/// What a beat answers, where this is the frame of the no-op that is sent.
-fn beat_of(answer: replica_core::Beat, frame: ByteList) -> Beat
-    ensures { result ≡ beat_of answer frame }
+/// What a beat answers where nothing is sent.
+fn unbeaten(answer: causal_model::Beat) -> Beat
+    requires { is_beat answer ≡ false }
+    ensures { (n : ℕ) → result ≡ beaten_of n answer }
 {
     match answer {
-        replica_core::Beat::Sent(_) => Beat::Frame(frame),
-        replica_core::Beat::Quiet => Beat::Quiet,
-        replica_core::Beat::Held => Beat::Held,
-        replica_core::Beat::End => Beat::End,
-        replica_core::Beat::NoMemory => Beat::NoMemory,
+        causal_model::Beat::Sent(_) => unreachable!(),
+        causal_model::Beat::Quiet => Beat::Quiet,
+        causal_model::Beat::Held => Beat::Held,
+        causal_model::Beat::End => Beat::End,
+        causal_model::Beat::NoMemory => Beat::NoMemory,
     }
 }
 
-/// The frame of the message by which an operation would be sent next. It is made before the message is sent, so that nothing
-/// is sent where there is no memory for it.
-fn next_frame(alloc: Global, replica: &Replica, op: Op) -> Result<ByteList, NoMemory>
-    requires { (s : State) → StandsFor replica.now s → count_of s.history.present.messages replica.now.me < replica.now.limit }
-    ensures { IfOk result (λ frame. (s : State) → StandsFor replica.now s → frame ≡ frame_at replica.now (own_message replica.now.n replica.now.me s.history.present.messages op)) }
+/// Sends a message that was drafted, as its frame. That is made before the message is sent, so that nothing is sent where there
+/// is no memory for it.
+fn send(alloc: Global, replica: &mut Replica, message: Message) -> Result<ByteList, NoMemory>
+    requires fits { IsTrue (fits replica.old.n message) }
+    requires draft { (s : State) → StandsFor replica.old s → IsDraft replica.old message s }
+    ensures frame { IfOk result (λ frame. frame ≡ frame_at replica.old message) }
+    ensures stands { IfOk result (λ frame. (s : State) → StandsFor replica.old s → StandsFor replica.new (with_own s message)) }
+    ensures settings { SameSettings replica.old replica.new }
+    ensures refused { OnErr result (Unchanged replica.old replica.new) }
 {
-    let message = replica.next_message(op);
     let frame = encode(alloc, &message, replica.n, 0)?;
+    replica.commit(alloc, message)?;
     Ok(ByteList::from_vec(frame))
 }
 

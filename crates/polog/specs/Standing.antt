@@ -5,9 +5,8 @@ use Rattle.op_base.specs.declared.message.Entry.{Entry}
 use Rattle.op_base.specs.declared.message.Message.{Message}
 use Rattle.op_base.specs.declared.name.ObjectId.{ObjectId}
 use Rattle.op_base.specs.declared.operation.Update.{Update}
-use Rattle.causal_model.specs.CellSteps.{pruned_log, stripped_log}
+use Rattle.causal_model.specs.Log.{pruned_log, stripped_log, is_kept, is_covered_by, message_of, kept_log}
 use Rattle.causal_model.specs.Chapter.{is_chapter}
-use Rattle.causal_model.specs.Log.{is_kept, is_covered_by, message_of, kept_log}
 use Rattle.causal_model.specs.Order.{happened_before}
 use Rattle.causal_model.specs.Parts.{is_on}
 use Rattle.causal_model.specs.Stability.{stable_vector, is_stable}

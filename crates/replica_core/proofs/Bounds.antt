@@ -9,7 +9,7 @@ use Rattle.op_base.specs.declared.message.Message.{Message}
 use Rattle.causal_model.specs.Chapter.{is_chapter}
 use Rattle.causal_model.specs.Covering.{store_keeps, store_covers}
 use Rattle.causal_model.specs.Log.{message_of}
-use Rattle.causal_model.specs.Receiving.{State}
+use Rattle.causal_model.specs.State.{State}
 use Rattle.causal_model.specs.Stability.{carries_operation, unstable_of, noop_window}
 use Rattle.causal_model.proofs.Early.{all_early_is_bounded}
 use Rattle.causal_model.proofs.Logs.{log_is_bounded}

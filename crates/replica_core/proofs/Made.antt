@@ -1,11 +1,10 @@
 -- The steps of receiving, some of which were made.
-use Rattle.std.proofs.Common.{◌≡◌, ℕ, ◌+◌, ◌≤◌, length, List, [], ◌∷◌, ◌++◌, sym, ap, ◌∙◌, append_assoc, None}
+use Rattle.std.proofs.Common.{◌≡◌, ℕ, ◌+◌, ◌≤◌, length, List, [], ◌∷◌, ◌++◌, sym, ap, subst, ◌∙◌, append_assoc, None}
 use Rattle.std.proofs.lemmas.List.{append-nil}
 use Rattle.op_base.specs.declared.outcome.Step.{Step}
-use Rattle.causal_model.specs.Laws.States.{next_of}
-use Rattle.causal_model.specs.Receiving.{State, state_with, steps}
+use Rattle.causal_model.specs.Receiving.{next_of, state_with, steps}
+use Rattle.causal_model.specs.State.{State}
 use Rattle.causal_model.proofs.Steps.{steps_of_none, steps_of_one_more}
-use Rattle.stable_state.specs.Shown.{shown}
 use Rattle.replica_core.specs.Rules.{StandsFor, SameSettings}
 use Rattle.replica_core.specs.Steps.{HasStepped, IsStepOf}
 use Rattle.replica_core.specs.declared.replica.Replica.{Replica}
@@ -15,10 +14,6 @@ pub record HasMade (w : ℕ) (s : State) (made : List Step) (now : Replica) : Ty
   pub after : State
   pub stands : StandsFor now after
   pub is : steps w s ≡ (made ++ (steps w after).0, (steps w after).1)
-
--- before the first step
-pub none_is_made : (w : ℕ) (s : State) (made : List Step) (now : Replica) → made ≡ [] → StandsFor now s → HasMade w s made now
-none_is_made w s made now none stands = record { after = s; stands = stands; is = ap (λ (xs : List Step). (xs ++ (steps w s).0, (steps w s).1)) (sym none) }
 
 -- after one more
 pub one_more_is_made : (w : ℕ) (s : State) (made : List Step) (now new : Replica) (step : Step) (has : HasMade w s made now) → IsStepOf w has.after step new → HasMade w s (made ++ step ∷ []) new
@@ -34,11 +29,13 @@ one_more_is_made w s made now new step has next =
 
 -- where no early message can be delivered, all are made
 pub all_are_made : (w : ℕ) (s : State) (made : List Step) (now : Replica) (has : HasMade w s made now) (new : Replica) → next_of has.after ≡ None → StandsFor new has.after → HasStepped w s made new
-all_are_made w s made now has new none stands = record {
-  after = has.after;
-  is = has.is ∙ ap (λ (some : List Step × State). (made ++ some.0, some.1)) (steps_of_none w has.after none) ∙ ap (λ (all : List Step). (all, has.after)) (append-nil made);
-  stands = stands;
-}
+all_are_made w s made now has new none stands =
+    let all : steps w s ≡ (made, has.after)
+    = has.is ∙ ap (λ (some : List Step × State). (made ++ some.0, some.1)) (steps_of_none w has.after none) ∙ ap (λ (all : List Step). (all, has.after)) (append-nil made) in
+    record {
+      are = sym (ap (λ (some : List Step × State). some.0) all);
+      stands = subst (StandsFor new) (sym (ap (λ (some : List Step × State). some.1) all)) stands;
+    }
 
 -- two replicas are of the same settings where each is of those of one between them
 pub same_settings_after : (old now new : Replica) → SameSettings old now → SameSettings now new → SameSettings old new
@@ -50,9 +47,8 @@ same_settings_after old now new first next = record {
   epoch = next.epoch ∙ first.epoch;
 }
 
--- a replica makes the steps that can be made from what it was, and there is room for them
+-- a replica makes the steps that can be made from what it was, and there is room for those of the early messages
 pub record IsMaking (old now : Replica) (made : List Step) (capacity : ℕ) : Type 0 where
   pub settings : SameSettings old now
-  pub spare : length now.log.entries + length now.buffer.early ≤ (shown now.items).spare
   pub room : length made + length now.buffer.early ≤ capacity
   pub are_made : (s : State) → StandsFor old s → HasMade old.w s made now

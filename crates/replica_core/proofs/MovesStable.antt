@@ -10,11 +10,10 @@ use Rattle.std.proofs.lemmas.List.Filters.{length-filter_both}
 use Rattle.op_base.specs.Timestamp.{covers}
 use Rattle.op_base.specs.declared.message.Message.{Message}
 use Rattle.op_base.specs.declared.tag.MessageId.{MessageId}
-use Rattle.causal_model.specs.CellSteps.{pruned_log, stripped_log, stripped_of}
+use Rattle.causal_model.specs.Log.{pruned_log, stripped_log, stripped_of, is_kept, is_covered_by, is_uncovered, kept_log}
 use Rattle.causal_model.specs.Chapter.{is_chapter}
 use Rattle.causal_model.specs.Covering.{store_keeps, store_covers}
 use Rattle.causal_model.specs.History.{History, with_message}
-use Rattle.causal_model.specs.Log.{is_kept, is_covered_by, is_uncovered, kept_log}
 use Rattle.causal_model.specs.Order.{happened_before}
 use Rattle.causal_model.specs.Stability.{stable_count, stable_vector, is_stable}
 use Rattle.causal_model.proofs.Histories.{IsHistory-from_test}

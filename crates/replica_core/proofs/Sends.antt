@@ -1,45 +1,24 @@
--- What the rules of sending give, told from the tests that a replica makes.
-use Rattle.std.proofs.Common.{◌≡◌, ℕ, ◌<◌, ◌==◌, true, false, not, List, ap, ap₂, ◌∙◌, if◌then◌else◌, arith}
+-- What the rules of sending answer, told from the tests that a replica makes.
+use Rattle.std.proofs.Common.{◌≡◌, ℕ, ◌<◌, ◌==◌, Bool, false, not, IsTrue, List, sym, ap, ap₂, subst, ◌∙◌, if◌then◌else◌, arith}
 use Rattle.std.proofs.lemmas.Bool.{eqb-false}
+use Rattle.op_base.specs.Valid.{is_valid}
 use Rattle.op_base.specs.declared.message.Message.{Message}
+use Rattle.op_base.specs.declared.operation.Op.{Op}
 use Rattle.op_base.specs.declared.operation.Op.TheVariants as op
 use Rattle.op_base.specs.declared.operation.Update.{Update}
 use Rattle.causal_model.specs.Counts.{count_of}
-use Rattle.causal_model.specs.Receiving.{State}
-use Rattle.causal_model.specs.Sending.{own_message, sends, busy, ended, sending, beats, quiet, held, beat_ended, beating, is_noop_due}
+use Rattle.causal_model.specs.State.{State}
+use Rattle.causal_model.specs.Sending.{own_message, RuleGives, sending, beating, is_noop_due, local_rule, beat_rule}
 use Rattle.causal_model.specs.Stability.{unstable_operations, unstable_noops, noop_window}
+use Rattle.causal_model.specs.declared.outcome.Beat.TheVariants as beat
+use Rattle.causal_model.specs.declared.outcome.Local.TheVariants as local
 use Rattle.causal_model.proofs.Limits.{counts_are_within}
-use Rattle.causal_model.proofs.Settling.{few_are_unstable}
+use Rattle.replica_core.specs.Rules.{IsDraft}
 use Rattle.replica_core.specs.Standing.{Fields, Standing}
+use Rattle.replica_core.specs.declared.replica.Replica.{Replica}
 use Rattle.replica_core.proofs.Stands.{chapter_of, carried_of}
 
--- where the window isn't full
-module _ (n w limit me : ℕ) (messages : List Message) (u : Update) (room : (unstable_operations n me messages me == w) ≡ false) where
-  pub sending_has_ended : (count_of messages me == limit) ≡ true → sending n w limit me messages u ≡ ended
-  sending_has_ended all =
-      ap₂ (λ full all. if full then busy else if all then ended else sends (own_message n me messages (op.Update u))) room all
-
-  pub sending_sends : (count_of messages me == limit) ≡ false → sending n w limit me messages u ≡ sends (own_message n me messages (op.Update u))
-  sending_sends more =
-      ap₂ (λ full all. if full then busy else if all then ended else sends (own_message n me messages (op.Update u))) room more
-
-module _ (n w limit me : ℕ) (messages : List Message) (due : is_noop_due me messages ≡ true) where
-  pub beating_is_held : (unstable_noops n me messages me == noop_window n w) ≡ true → beating n w limit me messages ≡ held
-  beating_is_held full =
-      ap₂ (λ due full. if not due then quiet else if full then held else if count_of messages me == limit then beat_ended else beats (own_message n me messages op.NoOp)) due full
-
-  -- where the no-op window isn't full
-  module _ (room : (unstable_noops n me messages me == noop_window n w) ≡ false) where
-    not_held : (all : _) → (count_of messages me == limit) ≡ all → beating n w limit me messages ≡ (if all then beat_ended else beats (own_message n me messages op.NoOp))
-    not_held all is =
-        ap₂ (λ due full. if not due then quiet else if full then held else if count_of messages me == limit then beat_ended else beats (own_message n me messages op.NoOp)) due room
-        ∙ ap (λ all. if all then beat_ended else beats (own_message n me messages op.NoOp)) is
-
-    pub beating_has_ended : (count_of messages me == limit) ≡ true → beating n w limit me messages ≡ beat_ended
-    beating_has_ended all = not_held true all
-
-    pub beating_beats : (count_of messages me == limit) ≡ false → beating n w limit me messages ≡ beats (own_message n me messages op.NoOp)
-    beating_beats more = not_held false more
+-- ---- the tests
 
 module _ (f : Fields) (s : State) (stands : Standing f s) where
   -- a member that hasn't sent all that it may has sent fewer
@@ -49,9 +28,28 @@ module _ (f : Fields) (s : State) (stands : Standing f s) where
       let other = eqb-false (count_of s.history.present.messages f.me) f.limit more in
       omega (arith, within, other)
 
-  -- a window that isn't full has room
-  pub window_has_room : (unstable_operations f.n f.me s.history.present.messages f.me == f.w) ≡ false → unstable_operations f.n f.me s.history.present.messages f.me < f.w
-  window_has_room other = omega (arith, eqb-false _ _ other, (few_are_unstable f.n f.w f.me f.me s.history.present.messages (chapter_of f s stands)).0)
+  -- the rules' answers are those by the fields
+  pub sends_in_state : (u : Update) → sending f.n f.w f.limit f.me s.history.present.messages u ≡ (local_rule f.w f.limit u s).0
+  sends_in_state u = ap₂ (λ n me. sending n f.w f.limit me s.history.present.messages u) (sym stands.of_store) (sym stands.of_member)
 
-  pub noop_window_has_room : (unstable_noops f.n f.me s.history.present.messages f.me == noop_window f.n f.w) ≡ false → unstable_noops f.n f.me s.history.present.messages f.me < noop_window f.n f.w
-  noop_window_has_room other = omega (arith, eqb-false _ _ other, (few_are_unstable f.n f.w f.me f.me s.history.present.messages (chapter_of f s stands)).1)
+  pub beats_in_state : beating f.n f.w f.limit f.me s.history.present.messages ≡ (beat_rule f.w f.limit s).0
+  beats_in_state = ap₂ (λ n me. beating n f.w f.limit me s.history.present.messages) (sym stands.of_store) (sym stands.of_member)
+
+-- and these are told by the tests in their order: whether the window is full, and whether all was sent
+module _ (n w limit me : ℕ) (messages : List Message) (full all : Bool) (is_all : all ≡ (count_of messages me == limit)) where
+  pub sends_by_tests : (u : Update) → full ≡ (unstable_operations n me messages me == w)
+      → (if full then local.Busy else if all then local.End else local.Sent (own_message n me messages (op.Update u))) ≡ sending n w limit me messages u
+  sends_by_tests u is_full = ap₂ (λ full all. if full then local.Busy else if all then local.End else local.Sent (own_message n me messages (op.Update u))) is_full is_all
+
+  pub beats_by_tests : (due : Bool) → due ≡ is_noop_due me messages → full ≡ (unstable_noops n me messages me == noop_window n w)
+      → (if not due then beat.Quiet else if full then beat.Held else if all then beat.End else beat.Sent (own_message n me messages op.NoOp)) ≡ beating n w limit me messages
+  beats_by_tests due is_due is_full =
+      ap (λ due. if not due then beat.Quiet else if full then beat.Held else if all then beat.End else beat.Sent (own_message n me messages op.NoOp)) is_due
+      ∙ ap₂ (λ full all. if not (is_noop_due me messages) then beat.Quiet else if full then beat.Held else if all then beat.End else beat.Sent (own_message n me messages op.NoOp)) is_full is_all
+
+-- what the rule gives with a valid operation can be sent next
+pub is_draft : (r : Replica) (s : State) (o : Op) (m : Message) → m.op ≡ o → RuleGives r.n r.w r.limit r.me s.history.present.messages m o → IsTrue (is_valid o) → IsDraft r m s
+is_draft r s o m same gives valid = record {
+  given = subst (RuleGives r.n r.w r.limit r.me s.history.present.messages m) (sym same) gives;
+  valid = subst (λ (o : Op). IsTrue (is_valid o)) (sym same) valid;
+}

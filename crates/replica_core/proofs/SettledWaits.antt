@@ -4,10 +4,10 @@ use Rattle.std.specs.Prelude.{slice_get}
 use Rattle.op_base.specs.declared.message.Entry.{Entry}
 use Rattle.op_base.specs.declared.message.Message.{Message}
 use Rattle.causal_model.specs.Acts.{value_of}
-use Rattle.causal_model.specs.CellSteps.{cell_absorbed, stripped_of}
+use Rattle.causal_model.specs.CellSteps.{cell_absorbed}
+use Rattle.causal_model.specs.Log.{stripped_of, message_of}
 use Rattle.causal_model.specs.Covering.{store_keeps, store_covers}
 use Rattle.causal_model.specs.History.{History, with_message}
-use Rattle.causal_model.specs.Log.{message_of}
 use Rattle.causal_model.proofs.MovedSums.{moved_sums_are_bounded}
 use Rattle.polog.specs.Standing.{IsLogOf, HandsOut, KeepsHandingOut}
 use Rattle.polog.specs.Value.{Log, with_stripped}

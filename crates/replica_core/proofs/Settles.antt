@@ -14,12 +14,12 @@ use Rattle.op_base.specs.declared.operation.Op.TheVariants as op
 use Rattle.op_base.specs.declared.operation.Update.{Update}
 use Rattle.op_base.specs.declared.tag.MessageId.{MessageId}
 use Rattle.causal_model.specs.Acts.{value_of}
-use Rattle.causal_model.specs.CellSteps.{is_counter, cell_uncovered, cell_absorbed, cell_moved, stripped_of}
+use Rattle.causal_model.specs.CellSteps.{is_counter, cell_uncovered, cell_absorbed, cell_moved}
+use Rattle.causal_model.specs.Log.{stripped_of, is_kept, is_covered_by, kept_log}
 use Rattle.causal_model.specs.Chapter.{is_chapter}
 use Rattle.causal_model.specs.Covering.{store_keeps, store_covers}
 use Rattle.causal_model.specs.History.{History, with_message}
 use Rattle.causal_model.specs.Items.{cell_in}
-use Rattle.causal_model.specs.Log.{is_kept, is_covered_by, kept_log}
 use Rattle.causal_model.specs.Order.{happened_before}
 use Rattle.causal_model.proofs.Histories.{IsHistory-from_test, IsLimited-from_test}
 use Rattle.causal_model.proofs.Lengths.{chapter_is_bounded}

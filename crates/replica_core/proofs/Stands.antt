@@ -1,5 +1,5 @@
 -- What is true of fields that stand for a state.
-use Rattle.std.proofs.Common.{◌≡◌, ◌<◌, ◌≤◌, IsTrue, List, length, refl, ap, subst, ◌∙◌, arith}
+use Rattle.std.proofs.Common.{◌≡◌, ◌+◌, ◌<◌, ◌≤◌, IsTrue, List, length, refl, sym, ap, subst, ◌∙◌, arith}
 use Rattle.std.proofs.lemmas.List.FromFn.{length-map-range_with_len}
 use denote.Struct.Props.{props}
 use Rattle.std.proofs.Math.Logic.{∥∥₁_elim, ∥∥₁_map}
@@ -7,7 +7,7 @@ use Rattle.op_base.specs.Timestamp.{entry}
 use Rattle.op_base.specs.declared.message.Message.{Message}
 use Rattle.causal_model.specs.Chapter.{is_chapter}
 use Rattle.causal_model.specs.Counts.{count_of, counts, are_carried}
-use Rattle.causal_model.specs.Receiving.{State}
+use Rattle.causal_model.specs.State.{State}
 use Rattle.causal_model.specs.Stability.{known_vector}
 use Rattle.causal_model.proofs.Counts.{length-counts, entry-counts}
 use Rattle.causal_model.proofs.Histories.{IsHistory-from_test, IsLimited-from_test}
@@ -16,14 +16,14 @@ use Rattle.causal_model.specs.States.{IsState}
 use Rattle.causal_buffer.specs.Buffer.{Buffer, AreAhead, AreNear}
 use Rattle.causal_buffer.specs.Standing.{IsBufferOf}
 use Rattle.causal_buffer.proofs.Standing.{early_are_ahead, early_are_near}
+use Rattle.stable_state.specs.Shown.{shown}
 use Rattle.replica_core.specs.Standing.{Fields, Standing, StandsForSome}
+use Rattle.replica_core.specs.Rules.{fields_of, StandsFor, Unchanged}
+use Rattle.replica_core.specs.declared.replica.Replica.{Replica}
 
 module _ (f : Fields) (s : State) (stands : Standing f s) where
   pub member_of : f.me < f.n
   member_of = omega (arith, (IsHistory-from_test f.w s.history stands.is_state.is_history).member, stands.of_member, stands.of_store)
-
-  pub few_of : f.n ≤ 16
-  few_of = omega (arith, (IsHistory-from_test f.w s.history stands.is_state.is_history).few, stands.of_store)
 
   -- the messages are a chapter of the member, and each can be carried
   pub chapter_of : IsTrue (is_chapter f.n f.w f.me s.history.present.messages)
@@ -51,10 +51,11 @@ module _ (f : Fields) (s : State) (stands : Standing f s) where
   pub buffer_n_of : f.buffer.n ≡ f.n
   buffer_n_of = stands.buffer.members ∙ stands.of_store
 
-  -- with a buffer of other early messages, and other items that are the same, they stand for the state with those
+  -- with a buffer of other early messages, and other items that are the same, they stand for the state with those, where the
+  -- items have room for what then is early
   with_parts : (early : List Message) (buffer : Buffer) (items : Shelved) → IsState f.w f.limit (record { history = s.history; early = early }) → IsBufferOf f.w (record { history = s.history; early = early }) buffer
-      → items.items ≡ f.items.items → Standing (record f { buffer = buffer; items = items }) (record { history = s.history; early = early })
-  with_parts early buffer items is of same = record {
+      → items.items ≡ f.items.items → length f.log.entries + length buffer.early ≤ items.spare → Standing (record f { buffer = buffer; items = items }) (record { history = s.history; early = early })
+  with_parts early buffer items is of same room = record {
     is_state = is;
     of_member = stands.of_member;
     of_store = stands.of_store;
@@ -66,15 +67,16 @@ module _ (f : Fields) (s : State) (stands : Standing f s) where
     log = stands.log;
     log_room = stands.log_room;
     items = same ∙ stands.items;
+    items_room = room;
     outbox = stands.outbox;
     due = stands.due;
   }
 
-  pub with_items : (items : Shelved) → items.items ≡ f.items.items → Standing (record f { items = items }) s
-  with_items items = with_parts s.early f.buffer items stands.is_state stands.buffer
+  pub with_items : (items : Shelved) → items.items ≡ f.items.items → f.items.spare ≤ items.spare → Standing (record f { items = items }) s
+  with_items items same more = with_parts s.early f.buffer items stands.is_state stands.buffer same (omega (arith, more, stands.items_room))
 
   pub with_buffer : (early : List Message) (buffer : Buffer) → IsState f.w f.limit (record { history = s.history; early = early }) → IsBufferOf f.w (record { history = s.history; early = early }) buffer
-      → Standing (record f { buffer = buffer }) (record { history = s.history; early = early })
+      → length f.log.entries + length buffer.early ≤ f.items.spare → Standing (record f { buffer = buffer }) (record { history = s.history; early = early })
   with_buffer early buffer is of = with_parts early buffer f.items is of refl
 
 -- what is true of fields that stand for some state, where it is a proposition
@@ -97,14 +99,22 @@ module _ (f : Fields) (some : ∥ StandsForSome f ∥₁) where
   pub buffer_n_in : f.buffer.n ≡ f.n
   buffer_n_in = ∥∥₁_elim some (search props) (λ x. buffer_n_of f x.0 x.1)
 
-  pub buffer_w_in : f.buffer.w ≡ f.w
-  buffer_w_in = ∥∥₁_elim some (search props) (λ x. x.1.buffer.window)
-
   pub ahead_in : AreAhead f.counts f.buffer.early
   ahead_in = λ k d l. ∥∥₁_elim some (search props) (λ x. early_are_ahead f.w f.limit f.counts x.0 f.buffer x.1.is_state x.1.buffer x.1.counts k d l)
 
   pub near_in : AreNear f.buffer.n f.buffer.w f.counts f.buffer.early
   near_in = λ k d l. ∥∥₁_elim some (search props) (λ x. early_are_near f.w f.limit f.counts x.0 f.buffer x.1.is_state x.1.buffer x.1.counts k d l)
 
-  pub with_items_in : (items : Shelved) → items.items ≡ f.items.items → ∥ StandsForSome (record f { items = items }) ∥₁
-  with_items_in items same = ∥∥₁_map some (λ x. (x.0, with_items f x.0 x.1 items same))
+  pub items_room_in : length f.log.entries + length f.buffer.early ≤ f.items.spare
+  items_room_in = ∥∥₁_elim some (search props) (λ x. x.1.items_room)
+
+  pub with_items_in : (items : Shelved) → items.items ≡ f.items.items → f.items.spare ≤ items.spare → ∥ StandsForSome (record f { items = items }) ∥₁
+  with_items_in items same more = ∥∥₁_map some (λ x. (x.0, with_items f x.0 x.1 items same more))
+
+-- a replica in which nothing changed stands for what it stood for
+pub unchanged_stands : (old new : Replica) (s : State) → Unchanged old new → StandsFor old s → StandsFor new s
+unchanged_stands old new s same stands =
+    let items = shown new.items in
+    let fields : fields_of new ≡ record (fields_of old) { items = items }
+    = λ i. record { me = same.settings.me i; n = same.settings.n i; w = same.settings.w i; limit = same.settings.limit i; epoch = same.settings.epoch i; counts = same.counts i; matrix = same.matrix i; window = same.window i; buffer = same.buffer i; log = same.log i; items = items; outbox = same.outbox i; due = same.due i } in
+    subst (λ f. Standing f s) (sym fields) (with_items (fields_of old) s stands items same.items same.spare)

@@ -1,9 +1,9 @@
 -- The fields of a replica that has no message yet.
-use Rattle.std.proofs.Common.{◌≡◌, ℕ, ◌*◌, ◌<◌, ◌≤◌, false, [], List, refl, sym, ◌∙◌}
+use Rattle.std.proofs.Common.{◌≡◌, ℕ, ◌*◌, ◌<◌, ◌≤◌, false, [], List, length, refl, sym, ap, ◌∙◌, arith}
 use Rattle.op_base.specs.Timestamp.{zero_tag}
 use Rattle.causal_model.specs.Covering.{store_keeps, store_covers}
 use Rattle.causal_model.specs.History.{no_history}
-use Rattle.causal_model.specs.Receiving.{start}
+use Rattle.causal_model.specs.State.{start}
 use Rattle.causal_model.proofs.Begin.{counts-none}
 use Rattle.causal_model.proofs.States.{start_is_state}
 use Rattle.stability_matrix.specs.Rows.{Known}
@@ -25,8 +25,8 @@ module _ (me n w limit : ℕ) (counts : List ℕ) (matrix : Known) (window : Win
   first_fields = record { me = me; n = n; w = w; limit = limit; epoch = 0; counts = counts; matrix = matrix; window = window; buffer = buffer; log = log; items = items; outbox = outbox; due = false }
 
   pub starts : n ≤ 16 → me < n → counts ≡ zero_tag n → IsMatrixOf n me [] matrix → IsWindowOf n w me [] window → IsBufferOf w (start n me) buffer → IsLogOf store_keeps store_covers n me [] log → log.room ≡ n * w
-      → AreSettledOf (no_history n me) items → outbox ≡ record { n = n; w = w; messages = [] } → Standing first_fields (start n me)
-  starts few member zeros of_matrix of_window of_buffer of_log room settled sent = record {
+      → AreSettledOf (no_history n me) items → log.entries ≡ [] → buffer.early ≡ [] → outbox ≡ record { n = n; w = w; messages = [] } → Standing first_fields (start n me)
+  starts few member zeros of_matrix of_window of_buffer of_log room settled nothing none sent = record {
     is_state = start_is_state n w limit me few member;
     of_member = refl;
     of_store = refl;
@@ -38,6 +38,7 @@ module _ (me n w limit : ℕ) (counts : List ℕ) (matrix : Known) (window : Win
     log = of_log;
     log_room = room;
     items = settled;
+    items_room = omega (arith, ap length nothing, ap length none);
     outbox = sent;
     due = refl;
   }

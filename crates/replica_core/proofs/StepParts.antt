@@ -1,17 +1,15 @@
 -- What one message more makes of each part of a replica, each by the part's own clause.
-use Rattle.std.proofs.Common.{◌≡◌, ℕ, ◌+◌, ◌*◌, ◌<◌, ◌≤◌, ◌==◌, Bool, true, false, IsTrue, Option, Some, None, inl, inr, List, [], ◌∷◌, ◌++◌, length, slice_set, All, if◌then◌else◌, sym, ap, ap₂, subst, ◌∙◌}
-use Rattle.std.specs.Option.{IfSome}
+use Rattle.std.proofs.Common.{◌≡◌, ℕ, ◌+◌, ◌*◌, ◌<◌, ◌≤◌, ◌==◌, Bool, true, false, IsTrue, List, [], ◌∷◌, ◌++◌, length, slice_set, All, if◌then◌else◌, sym, ap, ap₂, subst, ◌∙◌, arith}
 use denote.Struct.Props.{props}
 use Rattle.std.proofs.Math.Logic.{∥∥₁_elim}
-use Rattle.std.proofs.lemmas.Bool.{cases_eq, eq-eqb, ne_eqb}
+use Rattle.std.proofs.lemmas.Bool.{eq-eqb, ne_eqb}
 use Rattle.op_base.specs.Message.{fits}
 use Rattle.op_base.specs.Timestamp.{entry}
 use Rattle.op_base.specs.declared.message.Message.{Message}
 use Rattle.causal_model.specs.Chapter.{is_chapter}
 use Rattle.causal_model.specs.Covering.{store_keeps, store_covers}
 use Rattle.causal_model.specs.History.{History, with_message}
-use Rattle.causal_model.specs.Journal.{with_own, messages_and}
-use Rattle.causal_model.specs.Receiving.{State, counted}
+use Rattle.causal_model.specs.State.{with_own, State, counted}
 use Rattle.causal_model.specs.Sending.{outbox_of, is_noop_due}
 use Rattle.causal_model.specs.Stability.{stable_vector, noop_window}
 use Rattle.causal_model.specs.States.{IsState}
@@ -33,7 +31,7 @@ use Rattle.outbox.specs.Standing.{IsBeforeDrop, DropsAfter}
 use Rattle.outbox.proofs.Nexts.{next_is_pushed}
 use Rattle.replica_core.specs.Settling.{AreOf, AreReady}
 use Rattle.replica_core.specs.Standing.{Fields, Standing}
-use Rattle.replica_core.specs.Steps.{KeepsMatrix, is_due_after}
+use Rattle.replica_core.specs.Steps.{KeepsMatrix, is_due_after, with_own_sent}
 use Rattle.replica_core.proofs.Stands.{member_of}
 use Rattle.replica_core.proofs.Steps.{last_fits}
 
@@ -46,13 +44,6 @@ TellsStable matrix stable = (n me : ℕ) (messages : List Message) → IsMatrixO
 abbrev pub DropsHeld : List ℕ → Window → Window → Type 0
 DropsHeld stable old new = (n w me : ℕ) (messages : List Message) (m : Message) → me < n → IsTrue (is_chapter n w me (messages ++ m ∷ [])) → stable ≡ stable_vector n me (messages ++ m ∷ [])
     → IsWindowWith n w me messages m old → IsWindowOf n w me (messages ++ m ∷ []) new
-
--- of a message that is handed on where it is an own one, what holds of an own one
-if_sent : (me : ℕ) (m : Message) (P : Message → Type 0) (sent : Option Message) → sent ≡ (if m.origin == me then Some m else None) → (m.origin ≡ me → P m) → IfSome sent P
-if_sent me m P sent is holds = elim (cases_eq m.origin me) [
-  | inl own ↦ subst (λ o. IfSome o P) (sym (is ∙ ap (λ b. if b then Some m else None) (eq-eqb m.origin me own))) (holds own)
-  | inr other ↦ subst (λ o. IfSome o P) (sym (is ∙ ap (λ b. if b then Some m else None) (ne_eqb m.origin me other))) tt
-]
 
 -- fields stand for a state, and a message is its next
 module _ (f : Fields) (s : State) (m : Message) (stands : Standing f s) (is : IsState f.w f.limit (with_own s m)) where
@@ -114,22 +105,23 @@ module _ (f : Fields) (s : State) (m : Message) (stands : Standing f s) (is : Is
       subst (λ (o : Sent). All (λ e. ComesAfter e m) o.messages) (sym stands.outbox)
       (next_is_pushed f.n f.w f.me s.history.present.messages m (member_of f s stands) wide chapter_with own).1
 
-  outbox_before_drop : (sent : Option Message) → sent ≡ (if m.origin == f.me then Some m else None) → IsBeforeDrop f.n f.me s.history.present.messages m (messages_and f.outbox.messages sent)
-  outbox_before_drop sent given =
-      let pushed : (b : Bool) → (m.origin == f.me) ≡ b → messages_and f.outbox.messages sent ≡ messages_and (outbox_of f.n f.me s.history.present.messages) (if b then Some m else None)
-      = λ b e. ap₂ (λ (o : Sent) more. messages_and o.messages more) stands.outbox (given ∙ ap (λ b. if b then Some m else None) e) in
+  outbox_before_drop : IsBeforeDrop f.n f.me s.history.present.messages m (with_own_sent f.me m f.outbox.messages)
+  outbox_before_drop =
+      let before = outbox_of f.n f.me s.history.present.messages in
+      let pushed : (own : Bool) → (m.origin == f.me) ≡ own → with_own_sent f.me m f.outbox.messages ≡ (if own then before ++ m ∷ [] else before)
+      = λ own e. ap₂ (λ (o : Sent) own. if own then o.messages ++ m ∷ [] else o.messages) stands.outbox e in
       (λ own. pushed true (eq-eqb m.origin f.me own), λ other. pushed false (ne_eqb m.origin f.me other))
 
-  outbox_with : (sent : Option Message) (pushed new : Sent) (stable : List ℕ) → stable ≡ stable_vector f.n f.me (s.history.present.messages ++ m ∷ [])
-      → sent ≡ (if m.origin == f.me then Some m else None) → pushed ≡ record { n = f.outbox.n; w = f.outbox.w; messages = messages_and f.outbox.messages sent }
+  outbox_with : (pushed new : Sent) (stable : List ℕ) → stable ≡ stable_vector f.n f.me (s.history.present.messages ++ m ∷ [])
+      → pushed ≡ record { n = f.outbox.n; w = f.outbox.w; messages = with_own_sent f.matrix.me m f.outbox.messages }
       → new ≡ record { n = pushed.n; w = pushed.w; messages = unstable_in stable pushed.messages } → DropsAfter stable pushed new
       → new ≡ record { n = f.n; w = f.w; messages = outbox_of f.n f.me (s.history.present.messages ++ m ∷ []) }
-  outbox_with sent pushed new stable counts given is_pushed is_new drops =
-      let held : Sent = record { n = f.n; w = f.w; messages = messages_and f.outbox.messages sent } in
-      let is_held : pushed ≡ held = is_pushed ∙ ap (λ (o : Sent). record { n = o.n; w = o.w; messages = messages_and f.outbox.messages sent }) stands.outbox in
+  outbox_with pushed new stable counts is_pushed is_new drops =
+      let held : Sent = record { n = f.n; w = f.w; messages = with_own_sent f.me m f.outbox.messages } in
+      let is_held : pushed ≡ held = is_pushed ∙ ap₂ (λ (o : Sent) me. record { n = o.n; w = o.w; messages = with_own_sent me m f.outbox.messages }) stands.outbox stands.matrix.of_me in
       let dropped : new ≡ record { n = f.n; w = f.w; messages = unstable_in stable held.messages } = is_new ∙ ap (λ (o : Sent). record { n = o.n; w = o.w; messages = unstable_in stable o.messages }) is_held in
       let left : new.messages ≡ outbox_of f.n f.me (s.history.present.messages ++ m ∷ [])
-      = subst (λ o. DropsAfter stable o new) is_held drops f.w f.me s.history.present.messages m (member_of f s stands) chapter_with (outbox_before_drop sent given) counts in
+      = subst (λ o. DropsAfter stable o new) is_held drops f.w f.me s.history.present.messages m (member_of f s stands) chapter_with outbox_before_drop counts in
       dropped ∙ ap (λ messages. record { n = f.n; w = f.w; messages = messages }) (sym (ap (λ (o : Sent). o.messages) dropped) ∙ left)
 
   -- log and items
@@ -154,10 +146,11 @@ module _ (f : Fields) (s : State) (m : Message) (stands : Standing f s) (is : Is
   standing_with : (counts : List ℕ) (matrix : Known) (window : Window) (log : Log) (items : Shelved) (outbox : Sent) (due : Bool)
       → counts ≡ slice_set f.counts m.origin (entry m.tag m.origin) → IsMatrixOf f.n f.me (s.history.present.messages ++ m ∷ []) matrix
       → IsWindowOf f.n f.w f.me (s.history.present.messages ++ m ∷ []) window → AreOf (with_message s.history m) log items → log.room ≡ f.log.room
+      → length log.entries + length f.buffer.early ≤ items.spare
       → outbox ≡ record { n = f.n; w = f.w; messages = outbox_of f.n f.me (s.history.present.messages ++ m ∷ []) }
       → due ≡ is_due_after f.me f.due m
       → Standing (record f { counts = counts; matrix = matrix; window = window; log = log; items = items; outbox = outbox; due = due }) (with_own s m)
-  standing_with counts matrix window log items outbox due is_counts of_matrix of_window of_parts room sent is_due = record {
+  standing_with counts matrix window log items outbox due is_counts of_matrix of_window of_parts room spare sent is_due = record {
     is_state = is;
     of_member = stands.of_member;
     of_store = stands.of_store;
@@ -170,18 +163,20 @@ module _ (f : Fields) (s : State) (m : Message) (stands : Standing f s) (is : Is
         (subst (λ me. IsLogOf store_keeps store_covers s.history.present.n me (s.history.present.messages ++ m ∷ []) log) stands.of_member of_parts.is_log);
     log_room = room ∙ stands.log_room;
     items = of_parts.are_settled;
+    items_room = spare;
     outbox = sent;
     due = is_due ∙ due_with;
   }
 
 -- All parts after the message, by their clauses: the fields stand for the state with it.
-module _ (f : Fields) (m : Message) (wide : 1 ≤ f.w) (few : f.limit ≤ 1000000) (counts before stable : List ℕ) (matrix : Known) (pushed window : Window) (sent : Option Message) (held outbox : Sent) (log : Log) (items : Shelved) (due : Bool)
+module _ (f : Fields) (m : Message) (wide : 1 ≤ f.w) (few : f.limit ≤ 1000000) (counts before stable : List ℕ) (matrix : Known) (pushed window : Window) (held outbox : Sent) (log : Log) (items : Shelved) (due : Bool)
     (is_counts : counts ≡ slice_set f.counts m.origin (entry m.tag m.origin))
     (keeps : KeepsMatrix m f.matrix matrix) (told : TellsStable f.matrix before) (tells : TellsStable matrix stable)
     (pushes : (messages : List Message) → IsWindowOf f.n f.w f.me messages f.window → IsWindowWith f.n f.w f.me messages m pushed) (drops : DropsHeld stable pushed window)
-    (given : sent ≡ (if m.origin == f.me then Some m else None)) (is_held : held ≡ record { n = f.outbox.n; w = f.outbox.w; messages = messages_and f.outbox.messages sent })
+    (is_held : held ≡ record { n = f.outbox.n; w = f.outbox.w; messages = with_own_sent f.matrix.me m f.outbox.messages })
     (is_outbox : outbox ≡ record { n = held.n; w = held.w; messages = unstable_in stable held.messages }) (forgets : DropsAfter stable held outbox)
     (settles : (h : History) → AreReady f.w f.limit h f.log f.items m before stable → AreOf (with_message h m) log items) (room : log.room ≡ f.log.room)
+    (had_room : length f.log.entries + length f.buffer.early + 1 ≤ f.items.spare) (spare : f.items.spare + length log.entries ≤ items.spare + (length f.log.entries + 1))
     (is_due : due ≡ is_due_after f.me f.due m) where
   pub all_stand : (s : State) → Standing f s → IsState f.w f.limit (with_own s m)
       → Standing (record f { counts = counts; matrix = matrix; window = window; log = log; items = items; outbox = outbox; due = due }) (with_own s m)
@@ -189,8 +184,8 @@ module _ (f : Fields) (m : Message) (wide : 1 ≤ f.w) (few : f.limit ≤ 100000
       let messages = s.history.present.messages in
       let after = stable_with f s m stands is matrix stable keeps tells in
       standing_with f s m stands is counts matrix window log items outbox due is_counts (matrix_with f s m stands is matrix keeps)
-      (window_with f s m stands is pushed window stable after (pushes messages) drops) (settles s.history (ready_with f s m stands is wide few before stable told after)) room
-      (outbox_with f s m stands is sent held outbox stable after given is_held is_outbox forgets) is_due
+      (window_with f s m stands is pushed window stable after (pushes messages) drops) (settles s.history (ready_with f s m stands is wide few before stable told after)) room (omega (arith, had_room, spare))
+      (outbox_with f s m stands is held outbox stable after is_held is_outbox forgets) is_due
 
 -- what is true of the next message of fields that stand for some state, where it is a proposition
 module _ (f : Fields) (m : Message) (next : ∥ ((s : State) × Standing f s × IsState f.w f.limit (with_own s m)) ∥₁) where
@@ -209,16 +204,12 @@ module _ (f : Fields) (m : Message) (next : ∥ ((s : State) × Standing f s × 
   pub window_next_in : 1 ≤ f.w → IsNextNumber m.origin (held_of f.window m.origin) m.tag
   window_next_in wide = ∥∥₁_elim next (hlevel props) (λ x. window_next_of f x.0 m x.1 x.2 wide)
 
-  -- of a message that is handed on where it is an own one: the outbox has room for it
-  module _ (sent : Option Message) (given : sent ≡ (if m.origin == f.me then Some m else None)) where
-    pub outbox_room_in : 1 ≤ f.w → IfSome sent (λ e. length f.outbox.messages < room_of f.outbox.n f.outbox.w)
-    outbox_room_in wide = if_sent f.me m (λ e. length f.outbox.messages < room_of f.outbox.n f.outbox.w) sent given
-        (λ own. ∥∥₁_elim next (search props) (λ x. outbox_room_of f x.0 m x.1 x.2 wide own))
+  -- of an own message: the outbox has room for it
+  pub outbox_room_in : 1 ≤ f.w → m.origin ≡ f.matrix.me → length f.outbox.messages < room_of f.outbox.n f.outbox.w
+  outbox_room_in wide own = ∥∥₁_elim next (search props) (λ x. outbox_room_of f x.0 m x.1 x.2 wide (own ∙ x.1.matrix.of_me))
 
-    pub outbox_fits_in : IfSome sent (λ e. IsTrue (fits f.outbox.n e))
-    outbox_fits_in = if_sent f.me m (λ e. IsTrue (fits f.outbox.n e)) sent given
-        (λ own. ∥∥₁_elim next (hlevel props) (λ x. subst (λ (o : Sent). IsTrue (fits o.n m)) (sym x.1.outbox) (fits_of f x.0 m x.1 x.2)))
+  pub outbox_fits_in : IsTrue (fits f.outbox.n m)
+  outbox_fits_in = ∥∥₁_elim next (search props) (λ x. subst (λ (o : Sent). IsTrue (fits o.n m)) (sym x.1.outbox) (fits_of f x.0 m x.1 x.2))
 
-    pub outbox_next_in : 1 ≤ f.w → IfSome sent (λ e. All (λ earlier. ComesAfter earlier e) f.outbox.messages)
-    outbox_next_in wide = if_sent f.me m (λ e. All (λ earlier. ComesAfter earlier e) f.outbox.messages) sent given
-        (λ own. ∥∥₁_elim next (hlevel props) (λ x. outbox_next_of f x.0 m x.1 x.2 wide own))
+  pub outbox_next_in : 1 ≤ f.w → m.origin ≡ f.matrix.me → All (λ e. ComesAfter e m) f.outbox.messages
+  outbox_next_in wide own = ∥∥₁_elim next (hlevel props) (λ x. outbox_next_of f x.0 m x.1 x.2 wide (own ∙ x.1.matrix.of_me))

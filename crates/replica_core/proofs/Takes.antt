@@ -1,9 +1,10 @@
 -- An early message that is taken out of the buffer of fields that stand for a state.
-use Rattle.std.proofs.Common.{◌≡◌, ◌≢◌, ℕ, ◌<◌, false, not, ◌&&◌, ◌==◌, nat_lt, IsTrue, List, [], ◌∷◌, ◌++◌, length, refl, sym, ap, ap₂, subst, ◌∙◌, Option, Some, None, Result, Ok, Err, if◌then◌else◌}
+use Rattle.std.proofs.Common.{◌≡◌, ◌≢◌, ℕ, ◌<◌, false, not, ◌&&◌, ◌==◌, nat_lt, IsTrue, List, [], ◌∷◌, ◌++◌, length, refl, sym, ap, ap₂, subst, ◌∙◌, Option, Some, None, Result, Ok, Err, if◌then◌else◌, arith}
 use Rattle.std.proofs.lemmas.Bool.{and_parts, eqb-true, ne_eqb}
 use Rattle.std.specs.List.{Contains}
 use Rattle.std.proofs.lemmas.List.FromFn.{length-map-range_with_len}
 use Rattle.std.proofs.lemmas.List.Elements.{All-contains, All-filter}
+use Rattle.std.proofs.lemmas.List.Filters.{length-filter_both}
 use Rattle.std.proofs.lemmas.List.Kept.{AllPairs-filter}
 use denote.Struct.Props.{props}
 use Rattle.std.proofs.Math.Logic.{∥∥₁_elim}
@@ -16,9 +17,9 @@ use Rattle.causal_model.specs.Chapter.{is_chapter}
 use Rattle.causal_model.specs.Counts.{counts, is_deliverable, is_carried}
 use Rattle.causal_model.specs.Crook.{crook_of}
 use Rattle.causal_model.specs.History.{with_messages}
-use Rattle.causal_model.specs.Journal.{with_own}
-use Rattle.causal_model.specs.Laws.States.{next_of}
-use Rattle.causal_model.specs.Receiving.{State, counted, is_old, is_far, has_id, without, crook_after, step_of, messages_with, state_with}
+use Rattle.causal_model.specs.State.{with_own, State, counted}
+use Rattle.causal_model.specs.Receiving.{next_of, is_old, is_far, crook_after, step_of, messages_with, state_with}
+use Rattle.causal_model.specs.Early.{has_id, without}
 use Rattle.causal_model.specs.Stability.{last_tag, known_vector, stable_count, stable_vector}
 use Rattle.causal_model.specs.States.{IsState}
 use Rattle.causal_model.proofs.Early.{StandsBefore, IsNew-from_test, fits_member}
@@ -86,6 +87,7 @@ module _ (f : Fields) (s : State) (stands : Standing f s) (id : MessageId) where
         window = ap (λ (b : Buffer). b.w) is ∙ stands.buffer.window;
         early = ap (λ (b : Buffer). b.early) is ∙ ap (without id) stands.buffer.early;
       })
+      (omega (arith, stands.items_room, ap (λ (b : Buffer). length b.early) is, length-filter_both (λ m. not (has_id id m)) (λ m. not (not (has_id id m))) (λ m. refl) f.buffer.early))
 
   -- by the id of what is next the next message is found
   pub next_is_found : (taken : Option Message) → IsNextInState f.counts f.buffer (Some id) → TakesNext id f.buffer taken → (m : Message) × (taken ≡ Some m) × IsTaken s id m

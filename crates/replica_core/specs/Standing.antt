@@ -1,9 +1,9 @@
 -- When the fields of a replica stand for a state: a history, which they need not keep, and the early messages. One set of
 -- fields stands for many histories.
-use Rattle.std.specs.Prelude.{◌≡◌, ℕ, ◌*◌, Bool, List}
+use Rattle.std.specs.Prelude.{◌≡◌, ℕ, ◌+◌, ◌*◌, ◌≤◌, Bool, List, length}
 use Rattle.causal_model.specs.Covering.{store_keeps, store_covers}
 use Rattle.causal_model.specs.History.{epoch_of}
-use Rattle.causal_model.specs.Receiving.{State, counted}
+use Rattle.causal_model.specs.State.{State, counted}
 use Rattle.causal_model.specs.Sending.{outbox_of, is_noop_due}
 use Rattle.causal_model.specs.States.{IsState}
 use Rattle.stability_matrix.specs.Rows.{Known}
@@ -54,6 +54,8 @@ pub record Standing (f : Fields) (s : State) : Type 0 where
   pub log : IsLogOf store_keeps store_covers f.n f.me s.history.present.messages f.log
   pub log_room : f.log.room ≡ f.n * f.w
   pub items : AreSettledOf s.history f.items
+  -- and these have room for what each entry of the log and each early message can make of them
+  pub items_room : length f.log.entries + length f.buffer.early ≤ f.items.spare
   -- the own messages that aren't stable are sent again, oldest first
   pub outbox : f.outbox ≡ record { n = f.n; w = f.w; messages = outbox_of f.n f.me s.history.present.messages }
   -- whether a no-op is due

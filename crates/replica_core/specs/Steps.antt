@@ -1,10 +1,10 @@
 -- What one message more makes of parts of a replica, and what the steps of receiving make of all its fields.
-use Rattle.std.specs.Prelude.{◌≡◌, ◌≢◌, ℕ, Bool, not, ◌&&◌, ◌||◌, ◌==◌, IsTrue, List, [], ◌∷◌, ◌++◌, Some}
+use Rattle.std.specs.Prelude.{◌≡◌, ◌≢◌, ℕ, Bool, not, ◌&&◌, ◌||◌, ◌==◌, IsTrue, List, [], ◌∷◌, ◌++◌, Some, if◌then◌else◌}
 use Rattle.op_base.specs.declared.message.Message.{Message}
 use Rattle.op_base.specs.declared.outcome.Step.{Step}
 use Rattle.causal_model.specs.Chapter.{is_chapter}
-use Rattle.causal_model.specs.Laws.States.{next_of}
-use Rattle.causal_model.specs.Receiving.{State, crook_after, step_of, state_with, steps}
+use Rattle.causal_model.specs.Receiving.{next_of, crook_after, step_of, state_with, steps}
+use Rattle.causal_model.specs.State.{State}
 use Rattle.causal_model.specs.Stability.{carries_operation}
 use Rattle.stability_matrix.specs.Rows.{Known, stable_of, noted}
 use Rattle.stability_matrix.specs.Standing.{IsMatrixOf}
@@ -23,15 +23,18 @@ IsSender me matrix m (sender.Other stable) = (m.origin ≢ me) × (stable ≡ st
 abbrev pub KeepsMatrix : Message → Known → Known → Type 0
 KeepsMatrix m old new = (n w me : ℕ) (messages : List Message) → IsTrue (is_chapter n w me (messages ++ m ∷ [])) → IsMatrixOf n me messages old → IsMatrixOf n me (messages ++ m ∷ []) new
 
+-- messages of member me with one more where it is an own one
+abbrev pub with_own_sent : ℕ → Message → List Message → List Message
+with_own_sent me m messages = if m.origin == me then messages ++ m ∷ [] else messages
+
 -- whether a no-op is due at a member after a message
 abbrev pub is_due_after : ℕ → Bool → Message → Bool
 is_due_after me due m = not (m.origin == me) && (due || carries_operation m.op)
 
 -- all steps of a state were made, and the fields stand for the state after them
 pub record HasStepped (w : ℕ) (s : State) (made : List Step) (new : Replica) : Type 0 where
-  pub after : State
-  pub is : steps w s ≡ (made, after)
-  pub stands : StandsFor new after
+  pub are : made ≡ (steps w s).0
+  pub stands : StandsFor new (steps w s).1
 
 -- it is the next step of a state, and the fields stand for the state after it
 pub record IsStepOf (w : ℕ) (s : State) (step : Step) (new : Replica) : Type 0 where

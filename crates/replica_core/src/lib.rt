@@ -6,7 +6,7 @@
 //! contracts speak of every history that a replica's fields stand for, in the words of `causal_model`.
 #![tactic(auto)]
 
-mod answers;
+mod create_fault;
 mod numbers;
 mod queries;
 mod receiving;
@@ -17,6 +17,7 @@ mod step;
 #[cfg(test)]
 mod tests;
 
-pub use answers::{Beat, CreateFault, Local, Receive, Refusal};
+pub use causal_model::{Beat, Local, Receive, Refusal};
+pub use create_fault::CreateFault;
 pub use numbers::are_numbers;
 pub use replica::Replica;

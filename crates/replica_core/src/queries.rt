@@ -6,7 +6,7 @@ ghost use Rattle.op_base.specs.declared.outcome.Answer.TheVariants as answers;
 ghost use Rattle.causal_model.specs.History.{events};
 ghost use Rattle.causal_model.specs.Parts.{has};
 ghost use Rattle.causal_model.specs.Query.{answer};
-ghost use Rattle.causal_model.specs.Receiving.{State};
+ghost use Rattle.causal_model.specs.State.{State};
 
 use crate::replica::Replica;
 use counter_types::count_sum;

@@ -1,53 +1,49 @@
 //! Receiving messages of others, and delivering them in causal order.
 
-ghost use Rattle.std.specs.Prelude.{◌≡◌, ◌+◌, ◌<◌, ◌≤◌, false, [], length, vec_capacity, IsTrue, IfOk, OnErr, None};
+ghost use Rattle.std.specs.Prelude.{◌≡◌, ◌<◌, ◌≤◌, false, [], length, vec_capacity, IsTrue, IfOk, OnErr, None};
 ghost use Rattle.std.specs.Option.{IfSome, IfNone};
 ghost use Rattle.op_base.specs.Message.{fits, id_of};
 ghost use Rattle.op_base.specs.declared.message.Message.{Message as AMessage};
 ghost use Rattle.causal_model.specs.Counts.{is_carried};
-ghost use Rattle.causal_model.specs.Receiving.{State, is_old, is_again, is_far, with_early};
-ghost use Rattle.causal_model.specs.Laws.States.{next_of};
-ghost use Rattle.stable_state.specs.Shown.{shown};
+ghost use Rattle.causal_model.specs.Follows.{Follows};
+ghost use Rattle.causal_model.specs.Receiving.{is_old, is_far, next_of, with_early, refusal_by_id, refusal_of, is_accepted, receive_rule};
+ghost use Rattle.causal_model.specs.State.{State};
 
-use crate::answers::{Receive, Refusal};
 use crate::replica::Replica;
 use crate::step::Sender;
-use causal_buffer::Offer;
+use causal_model::{Receive, Refusal};
 use op_base::{Message, MessageId, NoMemory, Step, StepList};
 use std::alloc::Global;
 
 impl Replica {
-    ghost use Rattle.replica_core.specs.Rules.{StandsFor, SameSettings, Unchanged, IsBounded, TellsKnown, TellsRefusal, AnswersReceive, OnReceiveRefusal};
+    ghost use Rattle.replica_core.specs.Rules.{StandsFor, SameSettings, Unchanged, IsBounded};
     ghost use Rattle.replica_core.specs.Steps.{HasStepped, IsStepOf};
 
     /// Receives a message of the store, none of whose entries is above the limit and whose operation is valid. One that is
     /// old, early already or too far ahead is let go, and changes nothing. Each other becomes early; then early messages are
     /// delivered, or dropped where they are crooked, until none can be delivered. All memory is taken before the first
-    /// change.
+    /// change, and wanted only where the message is accepted.
     pub fn receive(&mut self, alloc: Global, message: Message) -> Receive
         requires fits { IsTrue (fits self.old.n message) }
         requires carried { IsTrue (is_carried self.old.limit message) }
-        ensures answer { (s : State) → StandsFor self.old s → AnswersReceive self.old s message result self.new }
+        ensures answer { Follows StandsFor Receive.NoMemory is_accepted (receive_rule self.old.w message) self.old result self.new }
         ensures settings { SameSettings self.old self.new }
-        ensures refused { OnReceiveRefusal result (Unchanged self.old self.new) }
+        ensures refused { is_accepted result ≡ false → Unchanged self.old self.new }
         ensures bounded { IsBounded self.new }
     {
-        match self.refusal(&message) {
-            Some(Refusal::Old) => Receive::Old,
-            Some(Refusal::Again) => Receive::Again,
-            Some(Refusal::Far) => Receive::Far,
-            None => match self.take_in(alloc, message) {
-                Err(NoMemory) => Receive::NoMemory,
-                Ok(steps) if steps.is_empty() => Receive::Kept,
-                Ok(steps) => Receive::Took(StepList::from_vec(steps)),
-            },
+        if let Some(refusal) = self.refusal(&message) {
+            return refusal.answer();
+        }
+        match self.accept(alloc, message) {
+            Ok(steps) => Receive::accepted(steps),
+            Err(NoMemory) => Receive::NoMemory,
         }
     }
 
     /// Why a message of an id isn't accepted, as far as the id tells: each message of it is old, or one is early already.
     pub fn known(&self, id: MessageId) -> Option<Refusal>
         requires { id.origin < self.now.n }
-        ensures { (s : State) (m : AMessage) → StandsFor self.now s → id_of m ≡ id → TellsKnown self.now s m result }
+        ensures { (s : State) (m : AMessage) → StandsFor self.now s → id_of m ≡ id → result ≡ refusal_by_id s m }
     {
         if id.origin == self.me || self.counts.covers_id(id) {
             Some(Refusal::Old)
@@ -61,7 +57,7 @@ impl Replica {
     /// Why a message of the store isn't accepted, where it isn't.
     pub fn refusal(&self, message: &Message) -> Option<Refusal>
         requires { IsTrue (fits self.now.n message.now) }
-        ensures { (s : State) → StandsFor self.now s → TellsRefusal self.now s message.now result }
+        ensures { (s : State) → StandsFor self.now s → result ≡ refusal_of self.now.w s message.now }
     {
         match self.known(message.id()) {
             Some(known) => Some(known),
@@ -70,32 +66,29 @@ impl Replica {
         }
     }
 
-    /// Keeps a message that is neither old nor far, nor early already, and makes the steps that follow.
-    fn take_in(&mut self, alloc: Global, message: Message) -> Result<Vec<Step>, NoMemory>
+    /// Takes in a message that `refusal` doesn't refuse, and makes the steps that follow. All memory is taken before the first
+    /// change: `NoMemory` leaves the replica as it was, and the message is let go.
+    pub fn accept(&mut self, alloc: Global, message: Message) -> Result<StepList, NoMemory>
         requires fits { IsTrue (fits self.old.n message) }
         requires carried { IsTrue (is_carried self.old.limit message) }
-        requires new { is_old self.old.me self.old.counts message ≡ false }
-        requires apart { is_again self.old.buffer.early message ≡ false }
-        requires near { is_far self.old.n self.old.w self.old.me self.old.counts message ≡ false }
-        ensures steps { IfOk result (λ made. (s : State) → StandsFor self.old s → HasStepped self.old.w (with_early s message) made.items self.new) }
+        requires unrefused { (s : State) → StandsFor self.old s → refusal_of self.old.w s message ≡ None }
+        ensures steps { IfOk result (λ made. (s : State) → StandsFor self.old s → HasStepped self.old.w (with_early s message) made self.new) }
         ensures settings { SameSettings self.old self.new }
         ensures refused { OnErr result (Unchanged self.old self.new) }
+        ensures bounded { IsBounded self.new }
     {
         let most = self.buffer.len() + 1;
         let mut steps = Vec::with_capacity(alloc, most)?;
         self.items.reserve(self.log.len() + most)?;
-        let Offer::Kept = self.buffer.offer(message, self.me, &self.counts) else {
-            unreachable!()
-        };
+        self.buffer.keep(message, self.me, &self.counts);
         self.make_steps(&mut steps);
-        Ok(steps)
+        Ok(StepList::from_vec(steps))
     }
 
     /// Makes the steps that can be made, one after the other. There is room for a step of each early message.
     fn make_steps(&mut self, steps: &mut Vec<Step>)
         requires none { steps.old.items ≡ [] }
         requires room { length self.old.buffer.early ≤ vec_capacity steps.old }
-        requires spare { length self.old.log.entries + length self.old.buffer.early ≤ (shown self.old.items).spare }
         ensures steps { (s : State) → StandsFor self.old s → HasStepped self.old.w s steps.new.items self.new }
         ensures settings { SameSettings self.old self.new }
     {
@@ -106,12 +99,10 @@ impl Replica {
 
     /// Takes the next early message, where one can be delivered: it is delivered, or dropped where it is crooked.
     fn next_step(&mut self) -> Option<Step>
-        requires { length self.old.log.entries + length self.old.buffer.early ≤ (shown self.old.items).spare }
         ensures step { IfSome result (λ step. (s : State) → StandsFor self.old s → IsStepOf self.old.w s step self.new) }
         ensures end { IfNone result ((s : State) → StandsFor self.old s → (next_of s ≡ None) × StandsFor self.new s) }
         ensures settings { SameSettings self.old self.new }
         ensures fewer { IfSome result (λ step. length self.new.buffer.early < length self.old.buffer.early) }
-        ensures spare { length self.new.log.entries + length self.new.buffer.early ≤ (shown self.new.items).spare }
     {
         let id = self.buffer.next(&self.counts)?;
         let Some(message) = self.buffer.remove(id) else {

@@ -1,12 +1,12 @@
 //! A replica of a store.
 
 ghost use Rattle.std.specs.Prelude.{◌≡◌, ◌↔◌, IsTrue, IfOk, IsErrOf, false};
-ghost use Rattle.causal_model.specs.Receiving.{start};
+ghost use Rattle.causal_model.specs.State.{start};
 ghost use Rattle.stable_state.specs.Shown.{shown};
 ghost use Rattle.replica_core.specs.Numbers.{are_numbers};
 ghost use Rattle.replica_core.specs.Standing.{StandsForSome};
 
-use crate::answers::CreateFault;
+use crate::create_fault::CreateFault;
 use crate::numbers::are_numbers;
 use causal_buffer::CausalBuffer;
 use op_base::{NoMemory, Tag};

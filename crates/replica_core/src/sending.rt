@@ -1,73 +1,121 @@
-//! Sending operations and no-ops.
+//! Sending operations and no-ops: a message is drafted, and then it is committed.
 
-ghost use Rattle.std.specs.Prelude.{◌≡◌, ◌<◌, ◌==◌, ℕ, List, IsTrue, IfOk, OnErr, true, false};
+ghost use Rattle.std.specs.Prelude.{◌≡◌, ◌<◌, ◌==◌, ℕ, All, IsTrue, IfOk, OnErr, true, false};
+ghost use Rattle.std.specs.Result.{IfErr};
 ghost use Rattle.op_base.specs.Message.{fits};
-ghost use Rattle.op_base.specs.Valid.{is_valid};
 ghost use Rattle.causal_model.specs.Counts.{count_of, next_tag, is_carried};
-ghost use Rattle.causal_model.specs.Journal.{with_own};
-ghost use Rattle.causal_model.specs.Laws.Delivery.{HasRoom};
-ghost use Rattle.causal_model.specs.Receiving.{State};
-ghost use Rattle.causal_model.specs.Sending.{own_message};
+ghost use Rattle.causal_model.specs.Follows.{Follows};
+ghost use Rattle.causal_model.specs.Sending.{own_message, local_messages, beat_messages, is_sent, is_beat, local_rule, beat_rule};
 ghost use Rattle.causal_model.specs.Stability.{unstable_operations, unstable_noops, noop_window};
+ghost use Rattle.causal_model.specs.State.{State, with_own};
 
-use crate::answers::{Beat, Local};
 use crate::replica::Replica;
 use crate::step::Sender;
+use causal_model::{Beat, Local};
 use op_base::{Message, NoMemory, Op, Tag, Update, updates_are_valid};
 use std::alloc::Global;
 
 impl Replica {
-    ghost use Rattle.replica_core.specs.Rules.{StandsFor, SameSettings, Unchanged, IsBounded, AnswersLocal, AnswersBeat, OnLocalSent, OnLocalRefusal, OnBeatSent, OnBeatRefusal};
+    ghost use Rattle.replica_core.specs.Rules.{StandsFor, SameSettings, Unchanged, IsBounded, IsDraft, local_of, beat_of};
 
     /// Sends an update: the message becomes the next of the history, and is handed out. Every refusal leaves the replica as
-    /// it was.
+    /// it was, and memory is wanted only where it would send.
     pub fn local(&mut self, alloc: Global, update: &Update) -> Local
-        ensures answer { (s : State) → StandsFor self.old s → AnswersLocal self.old s update.now result self.new }
+        ensures answer { Follows StandsFor Local.NoMemory is_sent (local_rule self.old.w self.old.limit update.now) self.old result self.new }
         ensures settings { SameSettings self.old self.new }
-        ensures refused { OnLocalRefusal result (Unchanged self.old self.new) }
-        ensures fits { OnLocalSent result (λ m. IsTrue (fits self.old.n m)) }
-        ensures carried { OnLocalSent result (λ m. IsTrue (is_carried self.old.limit m)) }
+        ensures refused { is_sent result ≡ false → Unchanged self.old self.new }
+        ensures fits { All (λ m. IsTrue (fits self.old.n m)) (local_messages result) }
+        ensures carried { All (λ m. IsTrue (is_carried self.old.limit m)) (local_messages result) }
         ensures bounded { IsBounded self.new }
     {
-        if self.is_busy() {
-            return Local::Busy;
-        }
-        if self.has_ended() {
-            return Local::End;
-        }
-        let Ok(update) = update.copy(alloc) else {
-            return Local::NoMemory;
+        let message = match self.draft(alloc, update) {
+            Ok(message) => message,
+            Err(answer) => return answer,
         };
-        updates_are_valid(&update);
-        match self.send(alloc, Op::Update(update)) {
+        match self.commit(alloc, message) {
             Ok(message) => Local::Sent(message),
             Err(NoMemory) => Local::NoMemory,
         }
     }
 
     /// Sends a no-op where one is due: it tells the others what was delivered here. Every refusal leaves the replica as it
-    /// was.
+    /// was, and memory is wanted only where it would send.
     pub fn beat(&mut self, alloc: Global) -> Beat
-        ensures answer { (s : State) → StandsFor self.old s → AnswersBeat self.old s result self.new }
+        ensures answer { Follows StandsFor Beat.NoMemory is_beat (beat_rule self.old.w self.old.limit) self.old result self.new }
         ensures settings { SameSettings self.old self.new }
-        ensures refused { OnBeatRefusal result (Unchanged self.old self.new) }
-        ensures fits { OnBeatSent result (λ m. IsTrue (fits self.old.n m)) }
-        ensures carried { OnBeatSent result (λ m. IsTrue (is_carried self.old.limit m)) }
+        ensures refused { is_beat result ≡ false → Unchanged self.old self.new }
+        ensures fits { All (λ m. IsTrue (fits self.old.n m)) (beat_messages result) }
+        ensures carried { All (λ m. IsTrue (is_carried self.old.limit m)) (beat_messages result) }
         ensures bounded { IsBounded self.new }
     {
-        if !self.due {
-            return Beat::Quiet;
-        }
-        if self.is_held() {
-            return Beat::Held;
-        }
-        if self.has_ended() {
-            return Beat::End;
-        }
-        match self.send(alloc, Op::NoOp) {
+        let message = match self.draft_noop() {
+            Ok(message) => message,
+            Err(answer) => return answer,
+        };
+        match self.commit(alloc, message) {
             Ok(message) => Beat::Sent(message),
             Err(NoMemory) => Beat::NoMemory,
         }
+    }
+
+    /// The message by which an update would be sent now, for `commit`; or what `local` answers in its place: `Busy`, `End`, or
+    /// `NoMemory` where there is none for the update's copy.
+    pub fn draft(&self, alloc: Global, update: &Update) -> Result<Message, Local>
+        ensures answer { Follows StandsFor Local.NoMemory is_sent (λ s. ((local_rule self.now.w self.now.limit update.now s).0, s)) self.now (local_of result) self.now }
+        ensures unsent { IfErr result (λ answer. is_sent answer ≡ false) }
+        ensures draft { IfOk result (λ m. (s : State) → StandsFor self.now s → IsDraft self.now m s) }
+        ensures fits { IfOk result (λ m. IsTrue (fits self.now.n m)) }
+    {
+        if self.is_busy() {
+            return Err(Local::Busy);
+        }
+        if self.has_ended() {
+            return Err(Local::End);
+        }
+        let Ok(update) = update.copy(alloc) else {
+            return Err(Local::NoMemory);
+        };
+        updates_are_valid(&update);
+        Ok(self.next_message(Op::Update(update)))
+    }
+
+    /// The no-op that would be sent now, for `commit`; or what `beat` answers in its place: `Quiet`, `Held` or `End`. It takes
+    /// no memory.
+    pub fn draft_noop(&self) -> Result<Message, Beat>
+        ensures answer { (s : State) → StandsFor self.now s → beat_of result ≡ (beat_rule self.now.w self.now.limit s).0 }
+        ensures unsent { IfErr result (λ answer. is_beat answer ≡ false) }
+        ensures draft { IfOk result (λ m. (s : State) → StandsFor self.now s → IsDraft self.now m s) }
+        ensures fits { IfOk result (λ m. IsTrue (fits self.now.n m)) }
+    {
+        if !self.due {
+            return Err(Beat::Quiet);
+        }
+        if self.is_held() {
+            return Err(Beat::Held);
+        }
+        if self.has_ended() {
+            return Err(Beat::End);
+        }
+        Ok(self.next_message(Op::NoOp))
+    }
+
+    /// Makes a message that was drafted the next of the history, and hands it out. All memory is taken first: `NoMemory` leaves
+    /// the replica as it was.
+    pub fn commit(&mut self, alloc: Global, message: Message) -> Result<Message, NoMemory>
+        requires draft { (s : State) → StandsFor self.old s → IsDraft self.old message s }
+        ensures sent { IfOk result (λ m. m ≡ message) }
+        ensures stands { IfOk result (λ m. (s : State) → StandsFor self.old s → StandsFor self.new (with_own s message)) }
+        ensures settings { SameSettings self.old self.new }
+        ensures refused { OnErr result (Unchanged self.old self.new) }
+        ensures fits { IsTrue (fits self.old.n message) }
+        ensures carried { IsTrue (is_carried self.old.limit message) }
+        ensures bounded { IsBounded self.new }
+    {
+        let sent = message.copy(alloc)?;
+        let answer = message.copy(alloc)?;
+        self.items.reserve(self.log.len() + self.buffer.len() + 1)?;
+        self.step(message, Sender::Own(sent));
+        Ok(answer)
     }
 
     /// Whether as many own operations are unstable as the window has.
@@ -91,30 +139,11 @@ impl Replica {
         self.counts.at(self.me) == self.limit
     }
 
-    /// Makes the next own message of an operation the next of the history, and hands it out. All memory is taken first.
-    fn send(&mut self, alloc: Global, op: Op) -> Result<Message, NoMemory>
-        requires ready { (s : State) → StandsFor self.old s → HasRoom self.old.n self.old.w self.old.me s.history.present.messages op }
-        requires more { (s : State) → StandsFor self.old s → count_of s.history.present.messages self.old.me < self.old.limit }
-        requires valid { IsTrue (is_valid op) }
-        ensures sent { IfOk result (λ m. (s : State) → StandsFor self.old s → m ≡ own_message self.old.n self.old.me s.history.present.messages op) }
-        ensures stands { IfOk result (λ m. (s : State) → StandsFor self.old s → StandsFor self.new (with_own s m)) }
-        ensures settings { SameSettings self.old self.new }
-        ensures refused { OnErr result (Unchanged self.old self.new) }
-        ensures fits { IfOk result (λ m. IsTrue (fits self.old.n m)) }
-        ensures carried { IfOk result (λ m. IsTrue (is_carried self.old.limit m)) }
-    {
-        let message = self.next_message(op);
-        let sent = message.copy(alloc)?;
-        let answer = message.copy(alloc)?;
-        self.items.reserve(self.log.len() + 1)?;
-        self.step(message, Sender::Own(sent));
-        Ok(answer)
-    }
-
     /// The message by which an operation would be sent next.
-    pub fn next_message(&self, op: Op) -> Message
+    fn next_message(&self, op: Op) -> Message
         requires { (s : State) → StandsFor self.now s → count_of s.history.present.messages self.now.me < self.now.limit }
         ensures message { (s : State) → StandsFor self.now s → result ≡ own_message self.now.n self.now.me s.history.present.messages op }
+        ensures op { result.op ≡ op }
         ensures fits { IsTrue (fits self.now.n result) }
     {
         Message {

@@ -3,16 +3,14 @@
 ghost use Rattle.std.specs.Prelude.{◌≡◌, ◌+◌, ◌≤◌, ◌<◌, ◌^◌, ℕ, [], length, IsTrue};
 ghost use Rattle.op_base.specs.Message.{fits};
 ghost use Rattle.op_base.specs.declared.message.Message.{Message as AMessage};
-ghost use Rattle.causal_model.specs.CellSteps.{stripped_of};
+ghost use Rattle.causal_model.specs.Log.{stripped_of, is_kept};
 ghost use Rattle.causal_model.specs.Covering.{store_keeps, store_covers};
 ghost use Rattle.causal_model.specs.History.{History, with_message};
-ghost use Rattle.causal_model.specs.Log.{is_kept};
 ghost use Rattle.polog.specs.Standing.{IsLogOf};
 ghost use Rattle.polog.specs.Value.{with_stripped};
 ghost use Rattle.stable_state.specs.Standing.{AreSettledOf, AreAbsorbed, AreMoved};
 ghost use Rattle.stable_state.specs.Shown.{shown};
-ghost use Rattle.replica_core.specs.Settling.{AreOf, AreReady, AreReadyForSome, AreLogged, AreLoggedForSome, AreWaiting, AreWaitingForSome};
-ghost use Rattle.replica_core.specs.Settling.{with_logged, applied_of, room_of, CanBeApplied};
+ghost use Rattle.replica_core.specs.Settling.{AreOf, AreReady, AreReadyForSome, AreLogged, AreLoggedForSome, AreWaiting, AreWaitingForSome, with_logged, applied_of, room_of, CanBeApplied};
 
 use causal_model::TypeRule;
 use op_base::{Entry, Kind, Message, MessageId, Op, Tag, Update};

@@ -1,16 +1,14 @@
 //! One step of a replica: a message becomes the next of its history.
 
-ghost use Rattle.std.specs.Prelude.{◌≡◌, ◌+◌, ◌<◌, ◌≤◌, ◌==◌, ℕ, not, length, All, IsTrue, Some, None, if◌then◌else◌};
-ghost use Rattle.std.specs.Option.{IfSome};
+ghost use Rattle.std.specs.Prelude.{◌≡◌, ◌+◌, ◌<◌, ◌≤◌, not, length, All, IsTrue};
 ghost use Rattle.op_base.specs.Message.{fits};
 ghost use Rattle.op_base.specs.declared.message.Message.{Message as AMessage};
-ghost use Rattle.causal_model.specs.Journal.{with_own, messages_and};
-ghost use Rattle.causal_model.specs.Receiving.{State};
+ghost use Rattle.causal_model.specs.State.{with_own, State};
 ghost use Rattle.causal_model.specs.Stability.{carries_operation};
 ghost use Rattle.causal_model.specs.States.{IsState};
 ghost use Rattle.outbox.specs.Sent.{ComesAfter, room_of};
 ghost use Rattle.stable_state.specs.Shown.{shown};
-ghost use Rattle.replica_core.specs.Steps.{IsSender, KeepsMatrix, is_due_after};
+ghost use Rattle.replica_core.specs.Steps.{IsSender, KeepsMatrix, is_due_after, with_own_sent};
 
 use crate::replica::Replica;
 use crate::settling::settle;
@@ -29,49 +27,46 @@ pub(crate) enum Sender {
 impl Replica {
     ghost use Rattle.replica_core.specs.Rules.{StandsFor, SameSettings};
 
-    /// Makes a message the next of the history.
+    /// Makes a message the next of the history. There is room for what it and each early message can make of the items.
     pub(crate) fn step(&mut self, message: Message, sender: Sender)
         requires next { ∥ ((s : State) × StandsFor self.old s × IsState self.old.w self.old.limit (with_own s message)) ∥₁ }
         requires sender { IsSender self.old.me self.old.matrix message sender }
-        requires spare { length self.old.log.entries + 1 ≤ (shown self.old.items).spare }
+        requires room { length self.old.log.entries + length self.old.buffer.early + 1 ≤ (shown self.old.items).spare }
         ensures stands { (s : State) → StandsFor self.old s → IsState self.old.w self.old.limit (with_own s message) → StandsFor self.new (with_own s message) }
         ensures settings { SameSettings self.old self.new }
         ensures buffer { self.new.buffer ≡ self.old.buffer }
-        ensures spare { (shown self.old.items).spare + length self.new.log.entries ≤ (shown self.new.items).spare + (length self.old.log.entries + 1) }
     {
         let (origin, tag) = (message.origin, message.tag);
         let before = self.matrix.stable();
-        let sent = note(&mut self.matrix, self.me, &message, sender);
+        note(&mut self.matrix, &mut self.outbox, &message, sender);
         self.counts.set(origin, tag.at(origin));
         self.due = is_due(self.due, self.me, &message);
         let stable = self.matrix.stable();
         self.window.push(origin, tag, is_noop(&message.op));
         self.window.drop_stable(&stable);
-        send_again(&mut self.outbox, sent);
         self.outbox.drop_stable(&stable);
         settle(&mut self.log, &mut self.items, message, &before, &stable);
     }
 }
 
-/// Notes a member's next message in its matrix. The copy of an own one comes back.
-fn note(matrix: &mut Matrix, me: u8, message: &Message, sender: Sender) -> Option<Message>
-    requires me { matrix.old.me ≡ me }
+/// Notes a member's next message in its matrix, and puts the copy of an own one behind those that are sent again.
+fn note(matrix: &mut Matrix, outbox: &mut Outbox, message: &Message, sender: Sender)
     requires origin { message.now.origin < length matrix.old.rows }
     requires entries { length message.now.tag ≡ length matrix.old.rows }
-    requires sender { IsSender me matrix.old message.now sender }
+    requires sender { IsSender matrix.old.me matrix.old message.now sender }
+    requires room { message.now.origin ≡ matrix.old.me → length outbox.old.messages < room_of outbox.old.n outbox.old.w }
+    requires fits { message.now.origin ≡ matrix.old.me → IsTrue (fits outbox.old.n message.now) }
+    requires next { message.now.origin ≡ matrix.old.me → All (λ e. ComesAfter e message.now) outbox.old.messages }
     ensures members { length matrix.new.rows ≡ length matrix.old.rows }
     ensures known { KeepsMatrix message.now matrix.old matrix.new }
-    ensures sent { result ≡ (if message.now.origin == me then Some message.now else None) }
+    ensures outbox { outbox.new ≡ record { n = outbox.old.n; w = outbox.old.w; messages = with_own_sent matrix.old.me message.now outbox.old.messages } }
 {
     match sender {
         Sender::Own(sent) => {
             matrix.note_own(message.tag);
-            Some(sent)
+            outbox.push(sent);
         }
-        Sender::Other(stable) => {
-            matrix.note_with(message.origin, message.tag, stable);
-            None
-        }
+        Sender::Other(stable) => matrix.note_with(message.origin, message.tag, stable),
     }
 }
 
@@ -87,16 +82,4 @@ fn is_noop(op: &Op) -> bool
     ensures { result ≡ not (carries_operation op.now) }
 {
     matches!(op, Op::NoOp)
-}
-
-/// Puts a message, where there is one, behind those that are sent again.
-fn send_again(outbox: &mut Outbox, sent: Option<Message>)
-    requires room { IfSome sent (λ m. length outbox.old.messages < room_of outbox.old.n outbox.old.w) }
-    requires fits { IfSome sent (λ m. IsTrue (fits outbox.old.n m)) }
-    requires next { IfSome sent (λ m. All (λ e. ComesAfter e m) outbox.old.messages) }
-    ensures { outbox.new ≡ record { n = outbox.old.n; w = outbox.old.w; messages = messages_and outbox.old.messages sent } }
-{
-    if let Some(message) = sent {
-        outbox.push(message);
-    }
 }

@@ -1,118 +1,43 @@
--- What a node's notes and replica are after a call of the replica, and what the call then answers.
-use Rattle.std.proofs.Common.{◌≡◌, ◌≢◌, ℕ, IsTrue, List, [], ◌∷◌, ◌++◌, map, refl, sym, ap, subst, ◌∙◌}
+-- What a node's notes and replica are after a call that noted a group.
+use Rattle.std.proofs.Common.{◌≡◌, ℕ, IsTrue, List, ◌∷◌, ◌++◌, map, None, sym, ap, subst, ◌∙◌}
+use Rattle.std.proofs.lemmas.List.Sums.{fold-append}
+use Rattle.std.proofs.Math.Logic.{∥∥₁_map}
 use Rattle.op_base.specs.Message.{fits}
-use Rattle.op_base.specs.Valid.{is_valid_update}
 use Rattle.op_base.specs.declared.message.Message.{Message}
-use Rattle.op_base.specs.declared.operation.Op.TheVariants as op
-use Rattle.op_base.specs.declared.operation.Update.{Update}
-use Rattle.op_base.specs.declared.outcome.Step.{Step}
 use Rattle.causal_model.specs.Counts.{is_carried}
-use Rattle.causal_model.specs.Journal.{step_note, sent, beaten, IsLegal}
-use Rattle.causal_model.specs.Sending.{own_message}
+use Rattle.causal_model.specs.Journal.{state_noted, state_after, step_note, receive_notes, IsGroup, received, IsLegal}
+use Rattle.causal_model.specs.Receiving.{with_early, steps, refusal_of, receive_by}
+use Rattle.causal_model.specs.State.{State, start}
 use Rattle.causal_model.specs.declared.note.Note.{Note}
-use Rattle.causal_model.specs.declared.note.Note.TheVariants.{Sent, Kept}
-use Rattle.replica_core.specs.Rules.{fields_of, StandsFor, SameSettings, AnswersLocal, AnswersBeat, AnswersReceive, Accepts}
-use Rattle.replica_core.specs.declared.answers.Local.{Local}
-use Rattle.replica_core.specs.declared.answers.Local.TheVariants as local
-use Rattle.replica_core.specs.declared.answers.Beat.{Beat}
-use Rattle.replica_core.specs.declared.answers.Beat.TheVariants as beat
-use Rattle.replica_core.specs.declared.answers.Receive.{Receive}
-use Rattle.replica_core.specs.declared.answers.Receive.TheVariants as receive
+use Rattle.causal_model.specs.declared.note.Note.TheVariants.{Kept}
+use Rattle.causal_model.proofs.Journals.{receiving_replays, legal_grows}
+use Rattle.causal_model.proofs.Outcomes.{notes_of_accepted}
+use Rattle.replica_core.specs.Rules.{StandsFor, SameSettings}
 use Rattle.replica_core.specs.declared.replica.Replica.{Replica}
 use Rattle.replica_node.specs.Nodes.{state_by}
-use Rattle.replica_node.specs.Rules.{NotesSent, NotesAccepted, NotesLocal, NotesBeat, NotesReceive}
-use Rattle.replica_node.proofs.Few.{next_is_sent, next_is_beaten}
-use Rattle.replica_node.proofs.Noted.{legal_with, sending_told, beating_told, notes_sent, group_received, state_received, notes_received}
 
 -- the facts of a node that has these notes
 pub record Goes (new : Replica) (first : ℕ × ℕ) (after : List Note) : Type 0 where
-  pub legal : ∥ IsLegal new.w new.limit first.1 first.0 after ∥₁
+  pub legal : ∥ IsLegal first.1 new.w new.limit first.0 after ∥₁
   pub stands : StandsFor new (state_by first after)
 
-module _ (r new : Replica) (settings : SameSettings r new) (first : ℕ × ℕ) (before after : List Note) (stood : StandsFor r (state_by first before)) (lawful : ∥ IsLegal r.w r.limit first.1 first.0 before ∥₁) where
-  -- nothing was noted, and the replica stands for the state of before
-  pub goes_on : after ≡ before → StandsFor new (state_by first before) → Goes new first after
-  goes_on same stays = record {
-    legal = rw (settings.w, settings.limit, same) lawful;
-    stands = subst (λ notes. StandsFor new (state_by first notes)) (sym same) stays;
-  }
+-- they hold where a group was noted, and the replica stands for what it makes of the state
+pub goes_on : (r new : Replica) (first : ℕ × ℕ) (before after group : List Note) → SameSettings r new → ∥ IsLegal first.1 r.w r.limit first.0 before ∥₁
+    → after ≡ before ++ group → IsGroup r.w r.limit (state_by first before) group → StandsFor new (state_after (state_by first before) group) → Goes new first after
+goes_on r new first before after group settings legal noted is stands = record {
+  legal = rw (settings.w, settings.limit, noted) (∥∥₁_map legal (λ l. legal_grows first.1 r.w r.limit first.0 before group l is));
+  stands = subst (StandsFor new) (sym (ap (λ ns. state_by first ns) noted ∙ fold-append state_noted (start first.1 first.0) before group)) stands;
+}
 
-  -- ---- sending an update
-  module _ (update : Update) where
-    pub unsent_goes : (result : Local) → AnswersLocal r (state_by first before) update result new → ((m : Message) → result ≢ local.Sent m) → after ≡ before → Goes new first after
-    unsent_goes (local.Sent m) a other same = absurd (other m refl)
-    unsent_goes local.Busy a other same = goes_on same a.1
-    unsent_goes local.End a other same = goes_on same a.1
-    unsent_goes local.NoMemory a other same = goes_on same a
+-- a message that isn't refused, with its steps, is a group, and its notes make of the state what accepting it does
+module _ (r : Replica) (s : State) (m : Message) (stands : StandsFor r s) (fit : IsTrue (fits r.n m)) (carried : IsTrue (is_carried r.limit m)) (unrefused : refusal_of r.w s m ≡ None) where
+  fit_there : IsTrue (fits s.history.present.n m)
+  fit_there = subst (λ n. IsTrue (fits n m)) (sym stands.of_store) fit
 
-    pub unsent_answers : (result : Local) → AnswersLocal r (state_by first before) update result new → ((m : Message) → result ≢ local.Sent m) → after ≡ before → NotesLocal r.w r.limit first before after update result
-    unsent_answers (local.Sent m) a other same = absurd (other m refl)
-    unsent_answers local.Busy a other same = (sending_told (fields_of r) first before after stood update ∙ a.0, same)
-    unsent_answers local.End a other same = (sending_told (fields_of r) first before after stood update ∙ a.0, same)
-    unsent_answers local.NoMemory a other same = same
+  pub accepting_is_group : IsGroup r.w r.limit s (Kept m ∷ map step_note (steps r.w (with_early s m)).0)
+  accepting_is_group = received m fit_there carried unrefused
 
-    module _ (m next : Message) (valid : IsTrue (is_valid_update update)) (a : AnswersLocal r (state_by first before) update (local.Sent m) new)
-        (own : next ≡ own_message r.n r.me (state_by first before).history.present.messages (op.Update update)) (noted : after ≡ before ++ Sent next ∷ []) where
-      own_noted : after ≡ before ++ Sent m ∷ []
-      own_noted = noted ∙ ap (λ x. before ++ Sent x ∷ []) (next_is_sent r.n r.w r.limit r.me (state_by first before).history.present.messages m next update a.0 own)
-
-      told : NotesSent r.w r.limit first before after m
-      told = notes_sent (fields_of r) first before after stood m own_noted
-
-      pub sent_goes : Goes new first after
-      sent_goes = record {
-        legal = legal_with r.w r.limit new.w new.limit first before after (Sent m ∷ []) settings.w settings.limit own_noted (sent update m valid (sending_told (fields_of r) first before after stood update ∙ a.0)) lawful;
-        stands = subst (StandsFor new) (sym told.state) a.1;
-      }
-
-      pub sent_answers : NotesLocal r.w r.limit first before after update (local.Sent m)
-      sent_answers = (sending_told (fields_of r) first before after stood update ∙ a.0, told)
-
-  -- ---- sending a no-op
-  pub unbeaten_answers : (result : Beat) → AnswersBeat r (state_by first before) result new → ((m : Message) → result ≢ beat.Sent m) → after ≡ before → NotesBeat r.w r.limit first before after result
-  unbeaten_answers (beat.Sent m) a other same = absurd (other m refl)
-  unbeaten_answers beat.Quiet a other same = (beating_told (fields_of r) first before after stood ∙ a.0, same)
-  unbeaten_answers beat.Held a other same = (beating_told (fields_of r) first before after stood ∙ a.0, same)
-  unbeaten_answers beat.End a other same = (beating_told (fields_of r) first before after stood ∙ a.0, same)
-  unbeaten_answers beat.NoMemory a other same = same
-
-  module _ (m next : Message) (a : AnswersBeat r (state_by first before) (beat.Sent m) new)
-      (own : next ≡ own_message r.n r.me (state_by first before).history.present.messages op.NoOp) (noted : after ≡ before ++ Sent next ∷ []) where
-    noop_noted : after ≡ before ++ Sent m ∷ []
-    noop_noted = noted ∙ ap (λ x. before ++ Sent x ∷ []) (next_is_beaten r.n r.w r.limit r.me (state_by first before).history.present.messages m next a.0 own)
-
-    noop_told : NotesSent r.w r.limit first before after m
-    noop_told = notes_sent (fields_of r) first before after stood m noop_noted
-
-    pub beaten_goes : Goes new first after
-    beaten_goes = record {
-      legal = legal_with r.w r.limit new.w new.limit first before after (Sent m ∷ []) settings.w settings.limit noop_noted (beaten m (beating_told (fields_of r) first before after stood ∙ a.0)) lawful;
-      stands = subst (StandsFor new) (sym noop_told.state) a.1;
-    }
-
-    pub beaten_answers : NotesBeat r.w r.limit first before after (beat.Sent m)
-    beaten_answers = (beating_told (fields_of r) first before after stood ∙ a.0, noop_told)
-
-  -- ---- receiving a message
-  module _ (m : Message) where
-    pub refused_answers : (result : Receive) → AnswersReceive r (state_by first before) m result new → result ≢ receive.Kept → ((steps : List Step) → result ≢ receive.Took steps) → after ≡ before → NotesReceive r.w r.limit first before after m result
-    refused_answers receive.Old a kept took same = (a.0, same)
-    refused_answers receive.Again a kept took same = (a.0, same)
-    refused_answers receive.Far a kept took same = (a.0, same)
-    refused_answers receive.Kept a kept took same = absurd (kept refl)
-    refused_answers (receive.Took steps) a kept took same = absurd (took steps refl)
-    refused_answers receive.NoMemory a kept took same = same
-
-    module _ (kept : Message) (steps : List Step) (fit : IsTrue (fits r.n m)) (carried : IsTrue (is_carried r.limit m)) (a : Accepts r (state_by first before) m steps new)
-        (copied : kept ≡ m) (noted : after ≡ before ++ Kept kept ∷ map step_note steps) where
-      message_noted : after ≡ before ++ Kept m ∷ map step_note steps
-      message_noted = noted ∙ ap (λ x. before ++ Kept x ∷ map step_note steps) copied
-
-      pub accepted_goes : Goes new first after
-      accepted_goes = record {
-        legal = legal_with r.w r.limit new.w new.limit first before after (Kept m ∷ map step_note steps) settings.w settings.limit message_noted (group_received (fields_of r) first before after stood m steps a.0 fit carried a.1) lawful;
-        stands = subst (StandsFor new) (sym (state_received (fields_of r) first before after stood m steps a.0 fit carried a.1 message_noted)) a.2;
-      }
-
-      pub accepted_answers : NotesAccepted r.w r.limit first before after m steps
-      accepted_answers = notes_received (fields_of r) first before after stood m steps a.0 fit carried a.1 message_noted
+  pub accepting_replays : state_after s (Kept m ∷ map step_note (steps r.w (with_early s m)).0) ≡ (steps r.w (with_early s m)).1
+  accepting_replays =
+      sym (ap (state_after s) (notes_of_accepted m (steps r.w (with_early s m)).0))
+      ∙ subst (λ o. state_after s (receive_notes m (receive_by r.w m s o).0) ≡ (receive_by r.w m s o).1) unrefused (receiving_replays r.w r.limit s m stands.is_state fit_there carried)

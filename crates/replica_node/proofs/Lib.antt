@@ -1,3 +1,5 @@
-pub mod Noted
+pub mod Stands
+pub mod Given
 pub mod Few
+pub mod Noted
 pub mod Calls

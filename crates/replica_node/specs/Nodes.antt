@@ -1,7 +1,7 @@
 -- A node's journal, and the state that it tells.
 use Rattle.std.specs.Prelude.{◌≡◌, ℕ, List, length}
 use Rattle.causal_model.specs.Journal.{replay}
-use Rattle.causal_model.specs.Receiving.{State}
+use Rattle.causal_model.specs.State.{State}
 use Rattle.causal_model.specs.declared.note.Note.{Note}
 
 -- the state that notes give, from nothing: first as member first.0 of first.1 members

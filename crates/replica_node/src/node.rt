@@ -1,22 +1,27 @@
 //! A replica with its journal.
 
-ghost use Rattle.std.specs.Prelude.{◌≡◌, ◌↔◌, ◌+◌, ◌^◌, ◌<◌, ◌≤◌, ◌++◌, ◌∷◌, [], map, IfOk, IsTrue, IsErrOf, false};
+ghost use Rattle.std.specs.Prelude.{◌≡◌, ◌≢◌, ◌↔◌, ◌+◌, ◌^◌, ◌<◌, ◌≤◌, ◌++◌, ◌∷◌, [], List, map, All, IfOk, OnErr, IsTrue, IsErrOf, false, None};
 ghost use Rattle.std.specs.Prelude.{length as length_of};
 ghost use Rattle.op_base.specs.Message.{fits};
 ghost use Rattle.causal_model.specs.Counts.{is_carried};
+ghost use Rattle.causal_model.specs.Follows.{Follows};
 ghost use Rattle.causal_model.specs.History.{events};
-ghost use Rattle.causal_model.specs.Journal.{IsLegal, step_note};
+ghost use Rattle.causal_model.specs.Journal.{IsLegal, step_note, local_notes, beat_notes, receive_notes};
 ghost use Rattle.causal_model.specs.Query.{answer};
+ghost use Rattle.causal_model.specs.Receiving.{refusal_of, steps, with_early, is_accepted, receive_rule};
+ghost use Rattle.causal_model.specs.Sending.{local_messages, beat_messages, is_sent, is_beat, local_rule, beat_rule};
+ghost use Rattle.causal_model.specs.State.{State};
+ghost use Rattle.causal_model.specs.declared.note.Note.{Note as ANote};
 ghost use Rattle.causal_model.specs.declared.note.Note.TheVariants as notes;
 ghost use Rattle.replica_core.specs.Numbers.{are_numbers};
-ghost use Rattle.replica_core.specs.Rules.{StandsFor, SameSettings, Unchanged, OnLocalSent, OnLocalRefusal, OnBeatSent, OnBeatRefusal, OnReceiveRefusal};
+ghost use Rattle.replica_core.specs.Rules.{StandsFor, SameSettings, Unchanged, IsDraft};
 ghost use Rattle.replica_node.specs.Nodes.{state_by, IsCount};
-ghost use Rattle.replica_node.specs.Rules.{NotesLocal, NotesBeat, NotesReceive};
+ghost use Rattle.replica_node.specs.Rules.{noting};
 
 use crate::recorder::Recorder;
-use causal_model::Note;
-use op_base::{Answer, Message, NoMemory, ObjectId, Op, Step, Update, updates_are_valid};
-use replica_core::{Beat, CreateFault, Local, Receive, Refusal, Replica};
+use causal_model::{Beat, Local, Note, Receive};
+use op_base::{Answer, Message, NoMemory, ObjectId, Step, StepList, Update};
+use replica_core::{CreateFault, Replica};
 use std::alloc::Global;
 
 /// A replica, and the journal of what its calls noted: what it sent, and what it accepted with the steps that followed. The
@@ -32,7 +37,7 @@ pub struct Node<R: Recorder> {
     /// Under which member and number of members the journal begins.
     pub first: (u8, u8),
     pub ghost counted: { IsCount length (R.notes journal) },
-    pub ghost legal: { ∥ IsLegal inner.w inner.limit first.1 first.0 (R.notes journal) ∥₁ },
+    pub ghost legal: { ∥ IsLegal first.1 inner.w inner.limit first.0 (R.notes journal) ∥₁ },
     pub ghost stands: { StandsFor inner (state_by first (R.notes journal)) },
 }
 
@@ -66,102 +71,107 @@ impl<R: Recorder> Node<R> {
         })
     }
 
-    /// Sends an update: as the replica's call, and what is sent is noted. Every refusal leaves the node as it was.
+    /// Sends an update: as the replica's call, and what is sent is noted. Every refusal leaves the node as it was, and but for
+    /// want of memory its journal too.
     pub fn local(&mut self, alloc: Global, update: &Update) -> Local
-        ensures answer { NotesLocal self.old.inner.w self.old.inner.limit self.old.first (R.notes self.old.journal) (R.notes self.new.journal) update.now result }
+        ensures answer { Follows (λ (there ns : List ANote). there ≡ ns) Local.NoMemory is_sent (noting self.old.first local_notes (local_rule self.old.inner.w self.old.inner.limit update.now)) (R.notes self.old.journal) result (R.notes self.new.journal) }
         ensures settings { SameSettings self.old.inner self.new.inner }
         ensures first { self.new.first ≡ self.old.first }
-        ensures refused { OnLocalRefusal result (Unchanged self.old.inner self.new.inner) }
-        ensures fits { OnLocalSent result (λ m. IsTrue (fits self.old.inner.n m)) }
-        ensures carried { OnLocalSent result (λ m. IsTrue (is_carried self.old.inner.limit m)) }
+        ensures refused { is_sent result ≡ false → Unchanged self.old.inner self.new.inner }
+        ensures untouched { is_sent result ≡ false → result ≢ Local.NoMemory → self.new.journal ≡ self.old.journal }
+        ensures fits { All (λ m. IsTrue (fits self.old.inner.n m)) (local_messages result) }
+        ensures carried { All (λ m. IsTrue (is_carried self.old.inner.limit m)) (local_messages result) }
     {
-        if self.inner.is_busy() {
-            return Local::Busy;
-        }
-        if self.inner.has_ended() {
-            return Local::End;
-        }
-        let Ok(copy) = update.copy(alloc) else {
-            return Local::NoMemory;
+        let message = match self.inner.draft(alloc, update) {
+            Ok(message) => message,
+            Err(answer) => return answer,
         };
-        updates_are_valid(update);
-        let message = self.inner.next_message(Op::Update(copy));
-        if self.journal.reserve(alloc, 1).is_err() {
-            return Local::NoMemory;
+        match self.commit(alloc, message) {
+            Ok(message) => Local::Sent(message),
+            Err(NoMemory) => Local::NoMemory,
         }
-        let answer = self.inner.local(alloc, update);
-        if let Local::Sent(_) = &answer {
-            put(&mut self.journal, &mut self.length, Note::Sent(message));
-        }
-        answer
     }
 
     /// Sends a no-op where one is due: as the replica's call, and what is sent is noted. Every refusal leaves the node as it
-    /// was.
+    /// was, and but for want of memory its journal too.
     pub fn beat(&mut self, alloc: Global) -> Beat
-        ensures answer { NotesBeat self.old.inner.w self.old.inner.limit self.old.first (R.notes self.old.journal) (R.notes self.new.journal) result }
+        ensures answer { Follows (λ (there ns : List ANote). there ≡ ns) Beat.NoMemory is_beat (noting self.old.first beat_notes (beat_rule self.old.inner.w self.old.inner.limit)) (R.notes self.old.journal) result (R.notes self.new.journal) }
         ensures settings { SameSettings self.old.inner self.new.inner }
         ensures first { self.new.first ≡ self.old.first }
-        ensures refused { OnBeatRefusal result (Unchanged self.old.inner self.new.inner) }
-        ensures fits { OnBeatSent result (λ m. IsTrue (fits self.old.inner.n m)) }
-        ensures carried { OnBeatSent result (λ m. IsTrue (is_carried self.old.inner.limit m)) }
+        ensures refused { is_beat result ≡ false → Unchanged self.old.inner self.new.inner }
+        ensures untouched { is_beat result ≡ false → result ≢ Beat.NoMemory → self.new.journal ≡ self.old.journal }
+        ensures fits { All (λ m. IsTrue (fits self.old.inner.n m)) (beat_messages result) }
+        ensures carried { All (λ m. IsTrue (is_carried self.old.inner.limit m)) (beat_messages result) }
     {
-        if !self.inner.due {
-            return Beat::Quiet;
+        let message = match self.inner.draft_noop() {
+            Ok(message) => message,
+            Err(answer) => return answer,
+        };
+        match self.commit(alloc, message) {
+            Ok(message) => Beat::Sent(message),
+            Err(NoMemory) => Beat::NoMemory,
         }
-        if self.inner.is_held() {
-            return Beat::Held;
-        }
-        if self.inner.has_ended() {
-            return Beat::End;
-        }
-        let noop = self.inner.next_message(Op::NoOp);
-        if self.journal.reserve(alloc, 1).is_err() {
-            return Beat::NoMemory;
-        }
-        let answer = self.inner.beat(alloc);
-        if let Beat::Sent(_) = &answer {
-            put(&mut self.journal, &mut self.length, Note::Sent(noop));
-        }
-        answer
+    }
+
+    /// Sends a message that the replica drafted, and notes it: as the replica's call. `NoMemory` leaves the node as it was, and
+    /// its journal with no less room.
+    pub fn commit(&mut self, alloc: Global, message: Message) -> Result<Message, NoMemory>
+        requires draft { (s : State) → StandsFor self.old.inner s → IsDraft self.old.inner message s }
+        ensures sent { IfOk result (λ m. m ≡ message) }
+        ensures noted { IfOk result (λ m. R.notes self.new.journal ≡ R.notes self.old.journal ++ notes.Sent message ∷ []) }
+        ensures kept { OnErr result (R.notes self.new.journal ≡ R.notes self.old.journal) }
+        ensures settings { SameSettings self.old.inner self.new.inner }
+        ensures first { self.new.first ≡ self.old.first }
+        ensures refused { OnErr result (Unchanged self.old.inner self.new.inner) }
+        ensures fits { IsTrue (fits self.old.inner.n message) }
+        ensures carried { IsTrue (is_carried self.old.inner.limit message) }
+    {
+        let note = message.copy(alloc)?;
+        self.journal.reserve(alloc, 1)?;
+        let message = self.inner.commit(alloc, message)?;
+        put(&mut self.journal, &mut self.length, Note::Sent(note));
+        Ok(message)
     }
 
     /// Receives a message of the store, none of whose entries is above the limit and whose operation is valid: as the
     /// replica's call; a message that is accepted is noted, and each step that follows. Every refusal leaves the node as it
-    /// was, and takes no memory but for `NoMemory`.
+    /// was, and but for want of memory its journal too.
     pub fn receive(&mut self, alloc: Global, message: Message) -> Receive
         requires fits { IsTrue (fits self.old.inner.n message) }
         requires carried { IsTrue (is_carried self.old.inner.limit message) }
-        ensures answer { NotesReceive self.old.inner.w self.old.inner.limit self.old.first (R.notes self.old.journal) (R.notes self.new.journal) message result }
+        ensures answer { Follows (λ (there ns : List ANote). there ≡ ns) Receive.NoMemory is_accepted (noting self.old.first (receive_notes message) (receive_rule self.old.inner.w message)) (R.notes self.old.journal) result (R.notes self.new.journal) }
         ensures settings { SameSettings self.old.inner self.new.inner }
         ensures first { self.new.first ≡ self.old.first }
-        ensures refused { OnReceiveRefusal result (Unchanged self.old.inner self.new.inner) }
+        ensures refused { is_accepted result ≡ false → Unchanged self.old.inner self.new.inner }
+        ensures untouched { is_accepted result ≡ false → result ≢ Receive.NoMemory → self.new.journal ≡ self.old.journal }
     {
-        match self.inner.refusal(&message) {
-            Some(Refusal::Old) => return Receive::Old,
-            Some(Refusal::Again) => return Receive::Again,
-            Some(Refusal::Far) => return Receive::Far,
-            None => {}
+        if let Some(refusal) = self.inner.refusal(&message) {
+            return refusal.answer();
         }
-        let Ok(kept) = message.copy(alloc) else {
-            return Receive::NoMemory;
-        };
-        if self
-            .journal
-            .reserve(alloc, most_notes(&self.inner))
-            .is_err()
-        {
-            return Receive::NoMemory;
+        match self.accept(alloc, message) {
+            Ok(steps) => Receive::accepted(steps),
+            Err(NoMemory) => Receive::NoMemory,
         }
-        let answer = self.inner.receive(alloc, message);
-        match &answer {
-            Receive::Kept => put_accepted(&mut self.journal, &mut self.length, kept, &[]),
-            Receive::Took(steps) => {
-                put_accepted(&mut self.journal, &mut self.length, kept, steps.as_slice());
-            }
-            _ => {}
-        }
-        answer
+    }
+
+    /// Takes in a message that the replica's `refusal` doesn't refuse, and notes it and each step that follows: as the
+    /// replica's call. `NoMemory` leaves the node as it was, and its journal with no less room.
+    pub fn accept(&mut self, alloc: Global, message: Message) -> Result<StepList, NoMemory>
+        requires fits { IsTrue (fits self.old.inner.n message) }
+        requires carried { IsTrue (is_carried self.old.inner.limit message) }
+        requires unrefused { (s : State) → StandsFor self.old.inner s → refusal_of self.old.inner.w s message ≡ None }
+        ensures steps { IfOk result (λ made. made ≡ (steps self.old.inner.w (with_early (state_by self.old.first (R.notes self.old.journal)) message)).0) }
+        ensures noted { IfOk result (λ made. R.notes self.new.journal ≡ R.notes self.old.journal ++ notes.Kept message ∷ map step_note made) }
+        ensures kept { OnErr result (R.notes self.new.journal ≡ R.notes self.old.journal) }
+        ensures settings { SameSettings self.old.inner self.new.inner }
+        ensures first { self.new.first ≡ self.old.first }
+        ensures refused { OnErr result (Unchanged self.old.inner self.new.inner) }
+    {
+        let kept = message.copy(alloc)?;
+        self.journal.reserve(alloc, most_notes(&self.inner))?;
+        let steps = self.inner.accept(alloc, message)?;
+        put_accepted(&mut self.journal, &mut self.length, kept, steps.as_slice());
+        Ok(steps)
     }
 
     /// What an object is, by all events of the history that the journal tells.

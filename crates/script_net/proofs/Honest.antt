@@ -1,5 +1,5 @@
 -- Scripts without a line of bytes: their worlds are honest, and their replies fair.
-use Rattle.std.proofs.Common.{not, ◌++◌, append-nil, ◌≡◌, ℕ, ◌<◌, Bool, true, false, All, List, [], ◌∷◌, Option, Some, None, refl, sym, ap, subst, ◌∙◌}
+use Rattle.std.proofs.Common.{not, ◌++◌, append-nil, ◌≡◌, ℕ, ◌<◌, Bool, true, false, All, List, [], ◌∷◌, Option, Some, None, refl, sym, ap, subst, ◌∙◌, if◌then◌else◌}
 use Rattle.std.specs.List.{list_all, flat_map}
 use Rattle.std.proofs.lemmas.Bool.{false≢true, and_parts, not-true}
 use Rattle.std.proofs.lemmas.List.Elements.{All-nil, All-cons, All-append}
@@ -7,8 +7,13 @@ use Rattle.std.proofs.lemmas.Grind.{flat_map-append}
 use Rattle.std.proofs.lemmas.List.Sums.{list_all-from_AllPass}
 use Rattle.op_base.specs.declared.message.Message.{Message}
 use Rattle.op_base.specs.declared.outcome.Step.{Step}
-use Rattle.causal_model.specs.Receiving.{Receiving, old, again, far, accepts}
-use Rattle.causal_model.specs.Sending.{Sending, sends, busy, ended, Beating, beats, quiet, held, beat_ended}
+use Rattle.causal_model.specs.Receiving.{steps_of}
+use Rattle.causal_model.specs.declared.outcome.Local.{Local}
+use Rattle.causal_model.specs.declared.outcome.Local.TheVariants as local
+use Rattle.causal_model.specs.declared.outcome.Beat.{Beat}
+use Rattle.causal_model.specs.declared.outcome.Beat.TheVariants as beat
+use Rattle.causal_model.specs.declared.outcome.Receive.{Receive}
+use Rattle.causal_model.specs.declared.outcome.Receive.TheVariants as receive
 use Rattle.script_lang.specs.Commands.{line_of}
 use Rattle.script_lang.specs.declared.command.Command.{Command}
 use Rattle.script_lang.specs.declared.command.Command.TheVariants as command
@@ -18,15 +23,16 @@ use Rattle.script_lang.specs.declared.reply.Reply.{Reply}
 use Rattle.script_lang.specs.declared.reply.Reply.TheVariants as reply
 use Rattle.world_model.specs.Commands as world_command
 use Rattle.world_model.specs.Honest.{IsHonest, IsSentMessage, KeepsHonest}
-use Rattle.world_model.specs.Offering.{offered_between, resending_of}
+use Rattle.world_model.specs.Offering.{offered_between, resent_of}
 use Rattle.world_model.specs.Settling.{is_delivery}
-use Rattle.world_model.specs.World.{PlainWorld, size_of, opening, sending_at, beating_at, receiving_at, sent_message, giving_of}
+use Rattle.world_model.specs.World.{PlainWorld, size_of, opening, local_at, beat_at, offer_at, sent_message, give_of}
+use Rattle.world_model.specs.declared.outcome.Settle.TheVariants as settle
 use Rattle.honest_worlds.proofs.Beats.{no_beat_is_held}
 use Rattle.honest_worlds.proofs.Commands.{commands_keep_honest, opening_is_honest, steps_deliver, resent_steps_deliver, sent_message_was_sent}
 use Rattle.honest_worlds.proofs.SentMessages.{sent_messages_are_near}
 use Rattle.honest_worlds.proofs.Settling.{settling_settles}
 use Rattle.world_model.proofs.Worlds.{world_keeps_itself, kept_twice, opening_has_size}
-use Rattle.script_net.specs.Commands.{steps_reply, command_reply, command_world, sending_reply, beating_reply, receiving_reply, giving_reply, resending_reply, settling_reply}
+use Rattle.script_net.specs.Commands.{local_reply, beat_reply, receive_reply, given_reply, resent_reply, settle_reply, command_at}
 use Rattle.script_net.specs.Honest.{offers_bytes, are_unforged, are_unforged_from, is_fair, IsFairText}
 use Rattle.script_net.specs.HonestLaws.{ScriptsAreHonest, TranscriptsAreFair}
 use Rattle.script_net.specs.Lines.{lines_of, from_command}
@@ -40,7 +46,7 @@ use Rattle.script_net.proofs.Ranges.{CanRun, line_can_run}
 
 -- ---- worlds
 
-command_keeps : (world : PlainWorld) (c : Command) → IsHonest world → CanRun (size_of world) c → offers_bytes (line.Run c) ≡ false → KeepsHonest world (command_world world c)
+command_keeps : (world : PlainWorld) (c : Command) → IsHonest world → CanRun (size_of world) c → offers_bytes (line.Run c) ≡ false → KeepsHonest world (command_at c world).1
 command_keeps world (command.Do r update) honest can plain = commands_keep_honest world (world_command.sends_at r update) honest can refl
 command_keeps world (command.Ask r object) honest can plain = (honest, world_keeps_itself world honest.is_world)
 command_keeps world (command.Beat r) honest can plain = commands_keep_honest world (world_command.beats_at r) honest can refl
@@ -88,42 +94,47 @@ scripts_are_honest header lines n w limit e plain =
 
 -- ---- replies
 
-steps_are_fair : (made : List Step) → All (λ step. is_delivery step ≡ true) made → is_fair (steps_reply made) ≡ true
-steps_are_fair [] all = refl
-steps_are_fair (step ∷ made) all = list_all-from_AllPass is_delivery (step ∷ made) all
+-- whether what is replied is fair, where something is
+abbrev is_fair_where : Option Reply → Bool
+is_fair_where None = true
+is_fair_where (Some reply) = is_fair reply
 
-received_is_fair : (world : PlainWorld) (r : ℕ) (m : Message) → IsHonest world → r < size_of world → IsSentMessage world m → is_fair (receiving_reply (receiving_at world r m)) ≡ true
-received_is_fair world r m honest l sent = by (receiving_at world r m) refl where
-  by : (got : Receiving) → receiving_at world r m ≡ got → is_fair (receiving_reply got) ≡ true
-  by old e = refl
-  by again e = refl
-  by far e = absurd (sent_messages_are_near world r m honest l sent e)
-  by (accepts made after) e = steps_are_fair made (steps_deliver world r m made after honest l sent e)
+received_is_fair : (world : PlainWorld) (r : ℕ) (m : Message) → IsHonest world → r < size_of world → IsSentMessage world m → is_fair_where (receive_reply (offer_at r m world).0) ≡ true
+received_is_fair world r m honest l sent = by (offer_at r m world).0 refl where
+  by : (got : Receive) → (offer_at r m world).0 ≡ got → is_fair_where (receive_reply got) ≡ true
+  by receive.Old e = refl
+  by receive.Again e = refl
+  by receive.Far e = absurd (sent_messages_are_near world r m honest l sent e)
+  by receive.Kept e = refl
+  by (receive.Took made) e = list_all-from_AllPass is_delivery made (subst (λ got. All (λ step. is_delivery step ≡ true) (steps_of got)) e (steps_deliver world r m honest l sent))
+  by receive.NoMemory e = refl
 
-command_is_fair : (world : PlainWorld) (c : Command) → IsHonest world → CanRun (size_of world) c → offers_bytes (line.Run c) ≡ false → is_fair (command_reply world c) ≡ true
-command_is_fair world (command.Do r update) honest can plain = by (sending_at world r update) where
-  by : (made : Sending) → is_fair (sending_reply made) ≡ true
-  by (sends m) = refl
-  by busy = refl
-  by ended = refl
+command_is_fair : (world : PlainWorld) (c : Command) → IsHonest world → CanRun (size_of world) c → offers_bytes (line.Run c) ≡ false → is_fair_where (command_at c world).0 ≡ true
+command_is_fair world (command.Do r update) honest can plain = by (local_at r update world).0 where
+  by : (made : Local) → is_fair_where (local_reply made) ≡ true
+  by (local.Sent m) = refl
+  by local.Busy = refl
+  by local.End = refl
+  by local.NoMemory = refl
 command_is_fair world (command.Ask r object) honest can plain = refl
-command_is_fair world (command.Beat r) honest can plain = by (beating_at world r) refl where
-  by : (made : Beating) → beating_at world r ≡ made → is_fair (beating_reply made) ≡ true
-  by (beats m) e = refl
-  by quiet e = refl
-  by held e = absurd (no_beat_is_held world r honest can e)
-  by beat_ended e = refl
+command_is_fair world (command.Beat r) honest can plain = by (beat_at r world).0 refl where
+  by : (made : Beat) → (beat_at r world).0 ≡ made → is_fair_where (beat_reply made) ≡ true
+  by (beat.Sent m) e = refl
+  by beat.Quiet e = refl
+  by beat.Held e = absurd (no_beat_is_held world r honest can e)
+  by beat.End e = refl
+  by beat.NoMemory e = refl
 command_is_fair world (command.Give r k s) honest can plain = by (sent_message world k s) refl where
-  by : (found : Option Message) → sent_message world k s ≡ found → is_fair (giving_reply (giving_of world r found)) ≡ true
+  by : (found : Option Message) → sent_message world k s ≡ found → is_fair_where (given_reply (give_of r world found).0) ≡ true
   by None e = refl
   by (Some m) e = received_is_fair world r m honest can (sent_message_was_sent world k s m honest e)
 command_is_fair world (command.Resend r k) honest can plain = by (offered_between world r k).steps (offered_between world r k).kept (resent_steps_deliver world r k honest can) where
-  by : (made : List Step) (kept : Bool) → All (λ step. is_delivery step ≡ true) made → is_fair (resending_reply (resending_of made kept)) ≡ true
+  by : (made : List Step) (kept : Bool) → All (λ step. is_delivery step ≡ true) made → is_fair_where (resent_reply (resent_of made kept)) ≡ true
   by [] true all = refl
   by [] false all = refl
   by (step ∷ made) kept all = list_all-from_AllPass is_delivery (step ∷ made) all
 command_is_fair world (command.Raw r bytes) honest can plain = absurd (false≢true (sym plain))
-command_is_fair world command.Settle honest can plain = ap (λ settled. is_fair (settling_reply settled)) (settling_settles world honest).1
+command_is_fair world command.Settle honest can plain = ap (λ settled. is_fair_where (settle_reply (if settled then settle.Settled else settle.Unsettled))) (settling_settles world honest).1
 command_is_fair world (command.Log r) honest can plain = refl
 command_is_fair world (command.Size r) honest can plain = refl
 command_is_fair world (command.Stable r) honest can plain = refl
@@ -140,6 +151,10 @@ fair_text reply fair = record { replies = reply ∷ []; fair = All-cons (λ r. i
 no_text : IsFairText []
 no_text = record { replies = []; fair = All-nil (λ r. is_fair r ≡ true); lines = refl }
 
+fair_where : (o : Option Reply) → is_fair_where o ≡ true → IsFairText (reply_text o)
+fair_where None fair = no_text
+fair_where (Some reply) fair = fair_text reply fair
+
 fair_texts : (a b : List ℕ) → IsFairText a → IsFairText b → IsFairText (a ++ b)
 fair_texts a b x y = record {
   replies = x.replies ++ y.replies;
@@ -149,7 +164,7 @@ fair_texts a b x y = record {
 
 line_is_fair : (world : PlainWorld) (l : Line) → IsHonest world → ((c : Command) → l ≡ line.Run c → CanRun (size_of world) c) → offers_bytes l ≡ false → IsFairText (reply_text (line_reply world l))
 line_is_fair world line.Skip honest can plain = no_text
-line_is_fair world (line.Run c) honest can plain = fair_text (command_reply world c) (command_is_fair world c honest (can c refl) plain)
+line_is_fair world (line.Run c) honest can plain = fair_where (command_at c world).0 (command_is_fair world c honest (can c refl) plain)
 line_is_fair world (line.Bad code) honest can plain = fair_text (reply.Bad code) refl
 line_is_fair world line.NoMemory honest can plain = no_text
 

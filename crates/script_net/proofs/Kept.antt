@@ -3,7 +3,8 @@ use Rattle.std.proofs.Common.{◌≡◌, ℕ, ◌*◌, ◌<◌, ◌≤◌, ◌==
 use Rattle.std.proofs.lemmas.Bool.{and_parts, eqb-true, eq-eqb, false≢true}
 use Rattle.op_base.specs.declared.message.Message.{Message}
 use Rattle.op_base.specs.declared.operation.Op.TheVariants as op
-use Rattle.causal_model.specs.Sending.{sends, busy, ended, own_message}
+use Rattle.causal_model.specs.Sending.{own_message}
+use Rattle.causal_model.specs.declared.outcome.Local.TheVariants as local
 use Rattle.causal_model.specs.Stability.{unstable_operations}
 use Rattle.causal_model.specs.Counts.{count_of}
 use Rattle.causal_model.specs.Covering.{store_keeps, store_covers}
@@ -22,14 +23,14 @@ use Rattle.world_model.proofs.Commands.{sending_keeps_world, beating_keeps_world
 use Rattle.world_model.proofs.Rounds.{settling_keeps_world}
 use Rattle.world_model.proofs.Shown.{same_events_are_answered_alike}
 use Rattle.world_model.proofs.Worlds.{opening_is_world, opening_has_size, world_keeps_itself, kept_twice}
-use Rattle.script_net.specs.Commands.{command_world, sending_reply}
+use Rattle.script_net.specs.Commands.{local_reply, command_at}
 use Rattle.script_net.specs.Laws.{world_by, ScriptsKeepWorlds, LogsAreBounded, BusyIsExact, EqualEventsAnswerAlike}
 use Rattle.script_net.specs.Transcript.{line_world, line_reply, reply_text, world_of_line, world_after}
 use Rattle.script_net.proofs.Opened.{header_in_range}
 use Rattle.script_net.proofs.Ranges.{CanRun, line_can_run}
 
 -- a command that can be run keeps a world
-command_keeps : (world : PlainWorld) (c : Command) → IsWorld world → CanRun (size_of world) c → KeepsWorld world (command_world world c)
+command_keeps : (world : PlainWorld) (c : Command) → IsWorld world → CanRun (size_of world) c → KeepsWorld world (command_at c world).1
 command_keeps world (command.Do r update) is can = sending_keeps_world world r update is can.0 can.1
 command_keeps world (command.Ask r object) is can = world_keeps_itself world is
 command_keeps world (command.Beat r) is can = beating_keeps_world world r is can
@@ -74,7 +75,7 @@ logs_are_bounded header lines n w limit r e l =
     subst (λ k. entries_at world r ≤ k * w) (is.of_store ∙ kept.1) (subst (λ v. entries_at world r ≤ p.n * v) kept.2 bound)
 
 -- what is replied to a rule's answer is busy where the test of the window passes
-busy_is_told : (a b : Bool) (own : Message) → (Some (sending_reply (cond a busy (cond b ended (sends own)))) ≡ Some reply.Busy) ↔ (a ≡ true)
+busy_is_told : (a b : Bool) (own : Message) → (local_reply (cond a local.Busy (cond b local.End (local.Sent own))) ≡ Some reply.Busy) ↔ (a ≡ true)
 busy_is_told true b own = (λ e. refl, λ e. refl)
 busy_is_told false true own = (λ e. cc, λ e. absurd (false≢true e))
 busy_is_told false false own = (λ e. cc, λ e. absurd (false≢true e))

@@ -1,6 +1,7 @@
 pub mod Shown
 pub mod Told
 pub mod Ranges
+pub mod Replied
 pub mod Opened
 pub mod Kept
 pub mod Transcripts

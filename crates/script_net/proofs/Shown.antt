@@ -1,29 +1,31 @@
 -- What a world that shows a plain world has of it: as many nodes as members, timestamps of as many numbers, and messages
 -- with a number of their origin.
-use Rattle.std.proofs.Common.{◌≡◌, ℕ, ◌<◌, ◌∙◌, Bool, true, false, cond, List, length, sym, ap, subst, arith}
+use Rattle.std.proofs.Common.{◌≡◌, ℕ, ◌<◌, ◌∙◌, Bool, true, false, cond, List, [], ◌∷◌, length, inl, inr, sym, ap, subst, arith}
 use Rattle.std.proofs.Math.Logic.{∥∥₁_elim}
 use Rattle.std.proofs.Props.{props}
 use Rattle.std.proofs.lemmas.List.{set-get_or, length-map}
+use Rattle.std.proofs.lemmas.List.Elements.{All-nil, All-cons}
 use Rattle.std.proofs.lemmas.List.FromFn.{length-map-range_with_len}
 use Rattle.op_base.specs.declared.message.Message.{Message}
 use Rattle.op_base.specs.declared.operation.Update.{Update}
 use Rattle.op_base.specs.declared.operation.Op.{Op}
 use Rattle.op_base.specs.declared.operation.Op.TheVariants as op
 use Rattle.causal_model.proofs.Counts.{length-counts, length-next_tag}
-use Rattle.causal_model.specs.Receiving.{start}
-use Rattle.causal_model.specs.Sending.{sends, busy, ended, beats, quiet, held, beat_ended, own_message}
+use Rattle.causal_model.specs.State.{start}
+use Rattle.causal_model.specs.Follows.{Follows}
+use Rattle.causal_model.specs.Sending.{own_message, is_sent, is_beat, local_messages, beat_messages}
 use Rattle.causal_model.specs.Stability.{stable_count}
-use Rattle.replica_core.specs.declared.answers.Local.{Local}
-use Rattle.replica_core.specs.declared.answers.Local.TheVariants as local
-use Rattle.replica_core.specs.declared.answers.Beat.{Beat}
-use Rattle.replica_core.specs.declared.answers.Beat.TheVariants as beat
-use Rattle.world.specs.Answers.{ShowsPlain, AnswersLocal, AnswersBeat}
+use Rattle.causal_model.specs.declared.outcome.Local.{Local}
+use Rattle.causal_model.specs.declared.outcome.Local.TheVariants as local
+use Rattle.causal_model.specs.declared.outcome.Beat.{Beat}
+use Rattle.causal_model.specs.declared.outcome.Beat.TheVariants as beat
+use Rattle.world.specs.Answers.{ShowsPlain}
 use Rattle.world.specs.Shows.{state_of}
 use Rattle.world.specs.declared.world.World.{World}
-use Rattle.world_model.specs.World.{PlainWorld, size_of, replica_of, with_state}
+use Rattle.world_model.specs.World.{PlainWorld, size_of, replica_of, with_state, local_at, beat_at}
 use Rattle.world_model.specs.Worlds.{IsWorld}
 use Rattle.world_model.specs.Showing.{stable_at, seen_at}
-use Rattle.script_net.specs.Replied.{LocalHasNumber, BeatHasNumber}
+use Rattle.script_net.specs.Replied.{HaveNumbers}
 
 -- there are as many nodes as members
 pub as_many_nodes : (world : World) (plain : PlainWorld) → ShowsPlain world plain → length world.nodes.items ≡ size_of plain
@@ -45,16 +47,20 @@ length-seen_at plain r w l =
     length-counts p.n p.messages ∙ (w.replicas r l).of_store
 
 -- what is sent is the own message
-sent_own : (a b : Bool) (own m : Message) → cond a busy (cond b ended (sends own)) ≡ sends m → own ≡ m
+sent_own : (a b : Bool) (own m : Message) → cond a local.Busy (cond b local.End (local.Sent own)) ≡ local.Sent m → own ≡ m
 sent_own true b own m e = cc
 sent_own false true own m e = cc
 sent_own false false own m e = cc
 
-beaten_own : (a b d : Bool) (own m : Message) → cond a quiet (cond b held (cond d beat_ended (beats own))) ≡ beats m → own ≡ m
+beaten_own : (a b d : Bool) (own m : Message) → cond a beat.Quiet (cond b beat.Held (cond d beat.End (beat.Sent own))) ≡ beat.Sent m → own ≡ m
 beaten_own true b d own m e = cc
 beaten_own false true d own m e = cc
 beaten_own false false true own m e = cc
 beaten_own false false false own m e = cc
+
+-- one message with a number of its origin
+one_number : (m : Message) → m.origin < length m.tag → HaveNumbers (m ∷ [])
+one_number m l = All-cons (λ (m : Message). m.origin < length m.tag) m [] l (All-nil (λ (m : Message). m.origin < length m.tag))
 
 -- an own message of a replica has a number of its origin
 own_has_number : (plain : PlainWorld) (r : ℕ) (o : Op) → IsWorld plain → r < size_of plain
@@ -66,26 +72,32 @@ own_has_number plain r o w l =
 
 module _ (world : World) (r : ℕ) (l : r < length world.nodes.items) where
   -- a message that a world sends has a number of its origin
-  pub local_has_number : (update : Update) (answer : Local) (new : World) → ((plain : PlainWorld) → ShowsPlain world plain → AnswersLocal plain r update answer (ShowsPlain new)) → LocalHasNumber answer
-  local_has_number update (local.Sent m) new answers =
-      ∥∥₁_elim world.shows (search props) (λ shown.
+  pub local_has_number : (update : Update) (answer : Local) (new : World) → Follows ShowsPlain local.NoMemory is_sent (local_at r update) world answer new → HaveNumbers (local_messages answer)
+  local_has_number update (local.Sent m) new follows =
+      one_number m (∥∥₁_elim world.shows (search props) (λ shown.
       let plain = shown.0 in
       let inside : r < size_of plain = subst (λ n. r < n) (as_many_nodes world plain shown.1) l in
-      subst (λ (m : Message). m.origin < length m.tag) (sent_own _ _ _ m (answers plain shown.1).0) (own_has_number plain r (op.Update update) shown.1.is_world inside))
-  local_has_number update local.Busy new answers = tt
-  local_has_number update local.End new answers = tt
-  local_has_number update local.NoMemory new answers = tt
+      elim (follows plain shown.1) [
+        | inl a ↦ subst (λ (m : Message). m.origin < length m.tag) (sent_own _ _ _ m (sym a.0)) (own_has_number plain r (op.Update update) shown.1.is_world inside)
+        | inr a ↦ cc (a.0)
+      ]))
+  local_has_number update local.Busy new follows = All-nil (λ (m : Message). m.origin < length m.tag)
+  local_has_number update local.End new follows = All-nil (λ (m : Message). m.origin < length m.tag)
+  local_has_number update local.NoMemory new follows = All-nil (λ (m : Message). m.origin < length m.tag)
 
-  pub beat_has_number : (answer : Beat) (new : World) → ((plain : PlainWorld) → ShowsPlain world plain → AnswersBeat plain r answer (ShowsPlain new)) → BeatHasNumber answer
-  beat_has_number (beat.Sent m) new answers =
-      ∥∥₁_elim world.shows (search props) (λ shown.
+  pub beat_has_number : (answer : Beat) (new : World) → Follows ShowsPlain beat.NoMemory is_beat (beat_at r) world answer new → HaveNumbers (beat_messages answer)
+  beat_has_number (beat.Sent m) new follows =
+      one_number m (∥∥₁_elim world.shows (search props) (λ shown.
       let plain = shown.0 in
       let inside : r < size_of plain = subst (λ n. r < n) (as_many_nodes world plain shown.1) l in
-      subst (λ (m : Message). m.origin < length m.tag) (beaten_own _ _ _ _ m (answers plain shown.1).0) (own_has_number plain r op.NoOp shown.1.is_world inside))
-  beat_has_number beat.Quiet new answers = tt
-  beat_has_number beat.Held new answers = tt
-  beat_has_number beat.End new answers = tt
-  beat_has_number beat.NoMemory new answers = tt
+      elim (follows plain shown.1) [
+        | inl a ↦ subst (λ (m : Message). m.origin < length m.tag) (beaten_own _ _ _ _ m (sym a.0)) (own_has_number plain r op.NoOp shown.1.is_world inside)
+        | inr a ↦ cc (a.0)
+      ]))
+  beat_has_number beat.Quiet new follows = All-nil (λ (m : Message). m.origin < length m.tag)
+  beat_has_number beat.Held new follows = All-nil (λ (m : Message). m.origin < length m.tag)
+  beat_has_number beat.End new follows = All-nil (λ (m : Message). m.origin < length m.tag)
+  beat_has_number beat.NoMemory new follows = All-nil (λ (m : Message). m.origin < length m.tag)
 
   -- what a world shows to be stable and seen has a number for each node
   pub stable_is_long : (tag : List ℕ) → ((plain : PlainWorld) → ShowsPlain world plain → tag ≡ stable_at plain r) → length tag ≡ length world.nodes.items

@@ -1,13 +1,15 @@
 -- Replies to lines that are put together of others, and to bytes that are refused.
-use Rattle.std.proofs.Common.{◌≡◌, ℕ, true, List, [], ◌∷◌, ◌++◌, Result, Ok, Err, refl, sym, ap, ◌∙◌}
+use Rattle.std.proofs.Common.{◌≡◌, ℕ, true, List, [], ◌∷◌, ◌++◌, Option, Some, None, Result, Ok, Err, refl, sym, ap, ◌∙◌}
 use Rattle.std.proofs.lemmas.Bool.{false≢true}
 use Rattle.std.proofs.lemmas.List.{append_assoc, append-nil}
 use Rattle.op_base.specs.declared.message.Message.{Message}
-use Rattle.causal_model.specs.Receiving.{State, Receiving, old, again, far, accepts}
+use Rattle.op_base.specs.declared.outcome.Step.{Step}
+use Rattle.causal_model.specs.Receiving.{accepted, steps, with_early, refusal_of, receive_by}
+use Rattle.causal_model.specs.declared.outcome.Refusal.{Refusal}
 use Rattle.frame_codec.specs.declared.fault.FrameFault.{FrameFault}
-use Rattle.world_model.specs.Raw.{read_at, rawing_of, world_rawed_of}
-use Rattle.world_model.specs.World.{PlainWorld, replica_of, with_state, state_received, receiving_at}
-use Rattle.script_net.specs.Commands.{receiving_reply, rawing_reply}
+use Rattle.world_model.specs.Raw.{read_at, raw_of}
+use Rattle.world_model.specs.World.{PlainWorld, replica_of, with_state}
+use Rattle.script_net.specs.Commands.{receive_reply, raw_reply}
 use Rattle.script_net.specs.Laws.{OneLineMoreReplies, OneLineMoreLeaves, is_refusal, RefusedBytesChangeNothing, RefusedBytesGo}
 use Rattle.script_net.specs.Transcript.{line_world, text_of_line, world_of_line, replies_to, world_after}
 use Rattle.script_net.proofs.Shown.{same_state}
@@ -27,17 +29,20 @@ pub one_line_more_leaves : OneLineMoreLeaves
 one_line_more_leaves world [] line = refl
 one_line_more_leaves world (first ∷ lines) line = one_line_more_leaves (world_of_line world first) lines line
 
--- a state that refuses a message stays
-refused_state : (s : State) (rule : Receiving) → is_refusal (receiving_reply rule) ≡ true → state_received s rule ≡ s
-refused_state s old t = refl
-refused_state s again t = refl
-refused_state s far t = refl
-refused_state s (accepts [] after) t = absurd (false≢true t)
-refused_state s (accepts (step ∷ steps) after) t = absurd (false≢true t)
+-- an accepted message is replied to by no refusal
+no_refusal : (made : List Step) → is_refusal (receive_reply (accepted made)) ≡ true → ⊥
+no_refusal [] t = false≢true t
+no_refusal (step ∷ steps) t = false≢true t
 
-refused_bytes : (world : PlainWorld) (r : ℕ) (o : Result Message FrameFault) → is_refusal (rawing_reply (rawing_of world r o)) ≡ true → world_rawed_of world r o ≡ world
+-- a message that is refused leaves the plain world as it is
+refused_offer : (world : PlainWorld) (r : ℕ) (m : Message) (o : Option Refusal) → is_refusal (receive_reply (receive_by world.w m (replica_of world r) o).0) ≡ true
+    → with_state world r (receive_by world.w m (replica_of world r) o).1 ≡ world
+refused_offer world r m (Some refusal) t = same_state world r
+refused_offer world r m None t = absurd (no_refusal (steps world.w (with_early (replica_of world r) m)).0 t)
+
+refused_bytes : (world : PlainWorld) (r : ℕ) (o : Result Message FrameFault) → is_refusal (raw_reply (raw_of r world o).0) ≡ true → (raw_of r world o).1 ≡ world
 refused_bytes world r (Err fault) t = refl
-refused_bytes world r (Ok m) t = ap (with_state world r) (refused_state (replica_of world r) (receiving_at world r m) t) ∙ same_state world r
+refused_bytes world r (Ok m) t = refused_offer world r m (refusal_of world.w (replica_of world r) m) t
 
 pub refused_bytes_change_nothing : RefusedBytesChangeNothing
 refused_bytes_change_nothing world line r bytes e t = ap (line_world world) e ∙ refused_bytes world r (read_at world r bytes) t

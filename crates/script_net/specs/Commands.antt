@@ -1,97 +1,95 @@
 -- What each command of a script does to a plain world, and what is replied.
-use Rattle.std.specs.Prelude.{Bool, List, [], ◌∷◌, if◌then◌else◌}
+use Rattle.std.specs.Prelude.{Option, Some, None}
 use Rattle.op_base.specs.Message.{number}
-use Rattle.op_base.specs.declared.outcome.Step.{Step}
-use Rattle.causal_model.specs.Receiving.{Receiving, old, again, far, accepts}
-use Rattle.causal_model.specs.Sending.{Sending, sends, busy, ended, Beating, beats, quiet, held, beat_ended}
+use Rattle.causal_model.specs.declared.outcome.Beat.{Beat as ABeat}
+use Rattle.causal_model.specs.declared.outcome.Beat.TheVariants as beat
+use Rattle.causal_model.specs.declared.outcome.Local.{Local}
+use Rattle.causal_model.specs.declared.outcome.Local.TheVariants as local
+use Rattle.causal_model.specs.declared.outcome.Receive.{Receive}
+use Rattle.causal_model.specs.declared.outcome.Receive.TheVariants as receive
 use Rattle.frame_codec.specs.Fault.{fault_number}
 use Rattle.script_lang.specs.declared.command.Command.{Command}
 use Rattle.script_lang.specs.declared.command.Command.TheVariants.{Do, Ask, Beat, Give, Resend, Raw, Settle, Log, Size, Stable, Seen, Noops, Lags}
 use Rattle.script_lang.specs.declared.reply.Reply.{Reply}
 use Rattle.script_lang.specs.declared.reply.Reply.TheVariants as reply
-use Rattle.world_model.specs.World.{PlainWorld, size_of, sending_at, world_sending, beating_at, world_beating, Giving, unsent, got, giving, world_given}
-use Rattle.world_model.specs.Offering.{Resending, takes, keeps, nothing, resending, world_resent}
-use Rattle.world_model.specs.Raw.{Rawing, bad, read, rawing, world_rawed}
-use Rattle.world_model.specs.Settling.{world_settled, is_settled}
+use Rattle.world_model.specs.World.{PlainWorld, size_of, local_at, beat_at, give_at}
+use Rattle.world_model.specs.Offering.{resend_at}
+use Rattle.world_model.specs.Raw.{raw_at}
+use Rattle.world_model.specs.Settling.{settle_at}
 use Rattle.world_model.specs.Showing.{answer_at, log_at, entries_at, items_at, stable_at, seen_at, noops_at, lags_at}
+use Rattle.world_model.specs.declared.outcome.Given.{Given}
+use Rattle.world_model.specs.declared.outcome.Given.TheVariants as given
+use Rattle.world_model.specs.declared.outcome.RawGot.{RawGot}
+use Rattle.world_model.specs.declared.outcome.RawGot.TheVariants as raw
+use Rattle.world_model.specs.declared.outcome.Resent.{Resent}
+use Rattle.world_model.specs.declared.outcome.Resent.TheVariants as resent
+use Rattle.world_model.specs.declared.outcome.Settle.{Settle as ASettle}
+use Rattle.world_model.specs.declared.outcome.Settle.TheVariants as settle
 
--- ---- what is replied to what came of a command
+-- ---- what is replied to what came of a command: nothing to want of memory, of which a plain world knows none
 
 -- sending an operation: the message's number
-abbrev pub sending_reply : Sending → Reply
-sending_reply (sends m) = reply.Sent (number m)
-sending_reply busy = reply.Busy
-sending_reply ended = reply.End
+abbrev pub local_reply : Local → Option Reply
+local_reply (local.Sent m) = Some (reply.Sent (number m))
+local_reply local.Busy = Some reply.Busy
+local_reply local.End = Some reply.End
+local_reply local.NoMemory = None
 
 -- sending a no-op
-abbrev pub beating_reply : Beating → Reply
-beating_reply (beats m) = reply.Sent (number m)
-beating_reply quiet = reply.Quiet
-beating_reply held = reply.Held
-beating_reply beat_ended = reply.End
-
--- an accepted message: the steps that were made, or that it was kept where there was none
-abbrev pub steps_reply : List Step → Reply
-steps_reply [] = reply.Kept
-steps_reply (step ∷ steps) = reply.Took (step ∷ steps)
+abbrev pub beat_reply : ABeat → Option Reply
+beat_reply (beat.Sent m) = Some (reply.Sent (number m))
+beat_reply beat.Quiet = Some reply.Quiet
+beat_reply beat.Held = Some reply.Held
+beat_reply beat.End = Some reply.End
+beat_reply beat.NoMemory = None
 
 -- receiving a message
-abbrev pub receiving_reply : Receiving → Reply
-receiving_reply old = reply.Old
-receiving_reply again = reply.Again
-receiving_reply far = reply.Far
-receiving_reply (accepts steps after) = steps_reply steps
+abbrev pub receive_reply : Receive → Option Reply
+receive_reply receive.Old = Some reply.Old
+receive_reply receive.Again = Some reply.Again
+receive_reply receive.Far = Some reply.Far
+receive_reply receive.Kept = Some reply.Kept
+receive_reply (receive.Took steps) = Some (reply.Took steps)
+receive_reply receive.NoMemory = None
 
 -- giving a message
-abbrev pub giving_reply : Giving → Reply
-giving_reply unsent = reply.Unsent
-giving_reply (got receiving) = receiving_reply receiving
+abbrev pub given_reply : Given → Option Reply
+given_reply given.Unsent = Some reply.Unsent
+given_reply (given.Got answer) = receive_reply answer
 
 -- resending an outbox
-abbrev pub resending_reply : Resending → Reply
-resending_reply (takes steps) = reply.Took steps
-resending_reply keeps = reply.Kept
-resending_reply nothing = reply.Nothing
+abbrev pub resent_reply : Resent → Option Reply
+resent_reply (resent.Took steps) = Some (reply.Took steps)
+resent_reply resent.Kept = Some reply.Kept
+resent_reply resent.Nothing = Some reply.Nothing
+resent_reply resent.NoMemory = None
 
 -- bytes
-abbrev pub rawing_reply : Rawing → Reply
-rawing_reply (bad fault) = reply.BadFrame (fault_number fault)
-rawing_reply (read receiving) = receiving_reply receiving
+abbrev pub raw_reply : RawGot → Option Reply
+raw_reply (raw.Bad fault) = Some (reply.BadFrame (fault_number fault))
+raw_reply (raw.Got answer) = receive_reply answer
+raw_reply raw.NoMemory = None
 
 -- settling
-abbrev pub settling_reply : Bool → Reply
-settling_reply settled = if settled then reply.Settled else reply.Unsettled
+abbrev pub settle_reply : ASettle → Option Reply
+settle_reply settle.Settled = Some reply.Settled
+settle_reply settle.Unsettled = Some reply.Unsettled
+settle_reply settle.NoMemory = None
 
 -- ---- commands
 
--- the reply to a command in a plain world
-abbrev pub command_reply : PlainWorld → Command → Reply
-command_reply world (Do r update) = sending_reply (sending_at world r update)
-command_reply world (Ask r object) = reply.Is (answer_at world r object)
-command_reply world (Beat r) = beating_reply (beating_at world r)
-command_reply world (Give r k s) = giving_reply (giving world r k s)
-command_reply world (Resend r k) = resending_reply (resending world r k)
-command_reply world (Raw r bytes) = rawing_reply (rawing world r bytes)
-command_reply world Settle = settling_reply (is_settled (world_settled world))
-command_reply world (Log r) = reply.Log (log_at world r)
-command_reply world (Size r) = reply.Size (entries_at world r) (items_at world r)
-command_reply world (Stable r) = reply.Stable (size_of world) (stable_at world r)
-command_reply world (Seen r) = reply.Seen (size_of world) (seen_at world r)
-command_reply world (Noops r) = reply.Noops (noops_at world r)
-command_reply world (Lags r) = reply.Lags (lags_at world r)
-
--- the plain world after a command
-abbrev pub command_world : PlainWorld → Command → PlainWorld
-command_world world (Do r update) = world_sending world r (sending_at world r update)
-command_world world (Ask r object) = world
-command_world world (Beat r) = world_beating world r (beating_at world r)
-command_world world (Give r k s) = world_given world r k s
-command_world world (Resend r k) = world_resent world r k
-command_world world (Raw r bytes) = world_rawed world r bytes
-command_world world Settle = world_settled world
-command_world world (Log r) = world
-command_world world (Size r) = world
-command_world world (Stable r) = world
-command_world world (Seen r) = world
-command_world world (Noops r) = world
-command_world world (Lags r) = world
+-- the reply to a command in a plain world, and the plain world after it
+abbrev pub command_at : Command → PlainWorld → Option Reply × PlainWorld
+command_at (Do r update) world = let made = local_at r update world in (local_reply made.0, made.1)
+command_at (Ask r object) world = (Some (reply.Is (answer_at world r object)), world)
+command_at (Beat r) world = let made = beat_at r world in (beat_reply made.0, made.1)
+command_at (Give r k s) world = let made = give_at r k s world in (given_reply made.0, made.1)
+command_at (Resend r k) world = let made = resend_at r k world in (resent_reply made.0, made.1)
+command_at (Raw r bytes) world = let made = raw_at r bytes world in (raw_reply made.0, made.1)
+command_at Settle world = let made = settle_at world in (settle_reply made.0, made.1)
+command_at (Log r) world = (Some (reply.Log (log_at world r)), world)
+command_at (Size r) world = (Some (reply.Size (entries_at world r) (items_at world r)), world)
+command_at (Stable r) world = (Some (reply.Stable (size_of world) (stable_at world r)), world)
+command_at (Seen r) world = (Some (reply.Seen (size_of world) (seen_at world r)), world)
+command_at (Noops r) world = (Some (reply.Noops (noops_at world r)), world)
+command_at (Lags r) world = (Some (reply.Lags (lags_at world r)), world)

@@ -1,13 +1,14 @@
 -- What holds in every run of a script, of the plain world after any of its lines. Each statement is the contract of a
 -- function of laws.rt.
-use Rattle.std.specs.Prelude.{◌≡◌, ◌↔◌, ℕ, ◌*◌, ◌<◌, ◌≤◌, Bool, true, false, IsTrue, List, [], ◌∷◌, ◌++◌, Some}
+use Rattle.std.specs.Prelude.{◌≡◌, ◌≢◌, ◌↔◌, ℕ, ◌*◌, ◌<◌, ◌≤◌, Bool, true, false, IsTrue, List, [], ◌∷◌, ◌++◌, Option, Some, None}
 use Rattle.op_base.specs.declared.name.ObjectId.{ObjectId}
 use Rattle.op_base.specs.declared.operation.Update.{Update}
-use Rattle.causal_model.specs.Laws.Events.{SameEvents}
+use Rattle.causal_model.specs.History.{SameEvents}
 use Rattle.causal_model.specs.Stability.{unstable_operations}
 use Rattle.script_lang.specs.Commands.{line_of}
 use Rattle.script_lang.specs.Headers.{header_of}
 use Rattle.script_lang.specs.declared.command.Line.TheVariants.{Run}
+use Rattle.script_lang.specs.declared.command.Command.{Command}
 use Rattle.script_lang.specs.declared.command.Command.TheVariants.{Do, Ask, Raw}
 use Rattle.script_lang.specs.declared.header.Header.TheVariants.{Store}
 use Rattle.script_lang.specs.declared.reply.Reply.{Reply}
@@ -15,7 +16,7 @@ use Rattle.script_lang.specs.declared.reply.Reply.TheVariants.{Busy, Old, Again,
 use Rattle.world_model.specs.World.{PlainWorld, size_of, replica_of, opening}
 use Rattle.world_model.specs.Showing.{entries_at}
 use Rattle.world_model.specs.Worlds.{IsWorld}
-use Rattle.script_net.specs.Commands.{command_reply}
+use Rattle.script_net.specs.Commands.{command_at}
 use Rattle.script_net.specs.Transcript.{line_reply, text_of_line, world_of_line, replies_to, world_after}
 
 -- the plain world of a store after lines
@@ -29,6 +30,10 @@ abbrev pub ScriptsKeepWorlds : Type 0
 ScriptsKeepWorlds = (header : List ℕ) (lines : List (List ℕ)) (n w limit : ℕ) → header_of header ≡ Some (Store n w limit)
     → IsWorld (world_by n w limit lines) × (size_of (world_by n w limit lines) ≡ n)
     × ((world_by n w limit lines).w ≡ w) × ((world_by n w limit lines).limit ≡ limit)
+
+-- each command is replied to: a plain world knows no want of memory
+abbrev pub CommandsAreRepliedTo : Type 0
+CommandsAreRepliedTo = (command : Command) (world : PlainWorld) → (command_at command world).0 ≢ None
 
 -- every log has at most n * w entries after every line
 abbrev pub LogsAreBounded : Type 0
@@ -64,22 +69,22 @@ OneLineMoreLeaves = (world : PlainWorld) (lines : List (List ℕ)) (line : List 
 -- ---- refused bytes
 
 -- whether a reply says that bytes were no frame, or that their message was refused
-abbrev pub is_refusal : Reply → Bool
-is_refusal (BadFrame fault) = true
-is_refusal Old = true
-is_refusal Again = true
-is_refusal Far = true
+abbrev pub is_refusal : Option Reply → Bool
+is_refusal (Some (BadFrame fault)) = true
+is_refusal (Some Old) = true
+is_refusal (Some Again) = true
+is_refusal (Some Far) = true
 is_refusal reply = false
 
 -- a line whose bytes are refused leaves the plain world as it is
 abbrev pub RefusedBytesChangeNothing : Type 0
 RefusedBytesChangeNothing = (world : PlainWorld) (line : List ℕ) (r : ℕ) (bytes : List ℕ)
-    → line_of (size_of world) line ≡ Run (Raw r bytes) → IsTrue (is_refusal (command_reply world (Raw r bytes))) → world_of_line world line ≡ world
+    → line_of (size_of world) line ≡ Run (Raw r bytes) → IsTrue (is_refusal (command_at (Raw r bytes) world).0) → world_of_line world line ≡ world
 
 -- so its reply is all that goes where it is removed from among lines
 abbrev pub RefusedBytesGo : Type 0
 RefusedBytesGo = (world : PlainWorld) (before after : List (List ℕ)) (line : List ℕ) (r : ℕ) (bytes : List ℕ)
-    → line_of (size_of (world_after world before)) line ≡ Run (Raw r bytes) → IsTrue (is_refusal (command_reply (world_after world before) (Raw r bytes)))
+    → line_of (size_of (world_after world before)) line ≡ Run (Raw r bytes) → IsTrue (is_refusal (command_at (Raw r bytes) (world_after world before)).0)
     → (replies_to world (before ++ line ∷ after)
     ≡ replies_to world before ++ (text_of_line (world_after world before) line ++ replies_to (world_after world before) after))
     × (replies_to world (before ++ after) ≡ replies_to world before ++ replies_to (world_after world before) after)

@@ -11,12 +11,12 @@ use Rattle.script_lang.specs.declared.reply.Reply.{Reply}
 use Rattle.script_lang.specs.declared.reply.Reply.TheVariants as reply
 use Rattle.world_model.specs.World.{PlainWorld, size_of, opening}
 use Rattle.script_net.specs.Lines.{lines_of, from_command}
-use Rattle.script_net.specs.Commands.{command_reply, command_world}
+use Rattle.script_net.specs.Commands.{command_at}
 
 -- the reply to a line in a plain world, and none to a line that is passed over
 abbrev pub line_reply : PlainWorld → Line → Option Reply
 line_reply world line.Skip = None
-line_reply world (line.Run command) = Some (command_reply world command)
+line_reply world (line.Run command) = (command_at command world).0
 line_reply world (line.Bad fault) = Some (reply.Bad fault)
 line_reply world line.NoMemory = None
 
@@ -28,7 +28,7 @@ reply_text (Some r) = reply_line r
 -- the plain world after a line
 abbrev pub line_world : PlainWorld → Line → PlainWorld
 line_world world line.Skip = world
-line_world world (line.Run command) = command_world world command
+line_world world (line.Run command) = (command_at command world).1
 line_world world (line.Bad fault) = world
 line_world world line.NoMemory = world
 

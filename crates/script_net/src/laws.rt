@@ -1,6 +1,6 @@
 //! Laws of transcripts. Each is the contract of a function that does nothing.
 
-ghost use Rattle.script_net.specs.Laws.{ScriptsKeepWorlds, LogsAreBounded, BusyIsExact, EqualEventsAnswerAlike, OneLineMoreReplies, OneLineMoreLeaves, RefusedBytesChangeNothing, RefusedBytesGo};
+ghost use Rattle.script_net.specs.Laws.{CommandsAreRepliedTo, ScriptsKeepWorlds, LogsAreBounded, BusyIsExact, EqualEventsAnswerAlike, OneLineMoreReplies, OneLineMoreLeaves, RefusedBytesChangeNothing, RefusedBytesGo};
 ghost use Rattle.script_net.specs.HonestLaws.{ScriptsAreHonest, TranscriptsAreFair};
 
 /// Behind a header each line of a script leaves a world of the header's store, whose logs are bounded.
@@ -9,9 +9,10 @@ pub fn scripts_keep_worlds()
     ensures logs { LogsAreBounded }
 {}
 
-/// What a line is replied to: `busy` exactly where the window is full, and the same answer by replicas of the same
-/// events, at one point of a script or at two.
+/// What a line is replied to: something, where it has a command; `busy` exactly where the window is full, and the same answer
+/// by replicas of the same events, at one point of a script or at two.
 pub fn lines_are_replied_to()
+    ensures each { CommandsAreRepliedTo }
     ensures busy { BusyIsExact }
     ensures answers { EqualEventsAnswerAlike }
 {}

@@ -1,12 +1,13 @@
 //! Commands on a world, and what is replied to them.
 
-ghost use Rattle.std.specs.Prelude.{◌≡◌, ◌<◌, IfOk, length};
+ghost use Rattle.std.specs.Prelude.{◌≡◌, ◌<◌, IfOk, length, Some};
 ghost use Rattle.script_lang.specs.Replies.{HasItsEntries};
 ghost use Rattle.script_lang.specs.Ranges.{IsWithin};
 ghost use Rattle.world_model.specs.World.{PlainWorld, size_of};
 ghost use Rattle.world.specs.Answers.{ShowsPlain};
-ghost use Rattle.script_net.specs.Commands.{command_reply};
-ghost use Rattle.script_net.specs.Replied.{Told, IsReply, LocalHasNumber, BeatHasNumber, local_reply, beat_reply, receive_reply, given_reply, resent_reply, raw_reply, settle_reply};
+ghost use Rattle.script_net.specs.Commands.{command_at, local_reply, beat_reply, receive_reply, given_reply, resent_reply, raw_reply, settle_reply};
+ghost use Rattle.script_net.specs.Replied.{Told, IsReply, HaveNumbers};
+ghost use Rattle.causal_model.specs.Sending.{local_messages, beat_messages};
 
 use op_base::NoMemory;
 use replica_core::{Beat, Local, Receive};
@@ -40,7 +41,7 @@ pub fn reply_to(alloc: Global, world: &mut World, command: &Command) -> Result<R
 /// How much replica `r` keeps.
 fn size_reply(world: &World, r: u8) -> Reply
     requires { r < length world.now.nodes.items }
-    ensures reply { (plain : PlainWorld) → ShowsPlain world.now plain → result ≡ command_reply plain (Command.Size r) }
+    ensures reply { (plain : PlainWorld) → ShowsPlain world.now plain → Some result ≡ (command_at (Command.Size r) plain).0 }
     ensures entries { HasItsEntries result }
 {
     let (entries, items) = world.size(r);
@@ -50,7 +51,7 @@ fn size_reply(world: &World, r: u8) -> Reply
 /// What is stable at replica `r`.
 fn stable_reply(world: &World, r: u8) -> Reply
     requires { r < length world.now.nodes.items }
-    ensures reply { (plain : PlainWorld) → ShowsPlain world.now plain → result ≡ command_reply plain (Command.Stable r) }
+    ensures reply { (plain : PlainWorld) → ShowsPlain world.now plain → Some result ≡ (command_at (Command.Stable r) plain).0 }
     ensures entries { HasItsEntries result }
 {
     Reply::Stable {
@@ -62,7 +63,7 @@ fn stable_reply(world: &World, r: u8) -> Reply
 /// What replica `r` has seen.
 fn seen_reply(world: &World, r: u8) -> Reply
     requires { r < length world.now.nodes.items }
-    ensures reply { (plain : PlainWorld) → ShowsPlain world.now plain → result ≡ command_reply plain (Command.Seen r) }
+    ensures reply { (plain : PlainWorld) → ShowsPlain world.now plain → Some result ≡ (command_at (Command.Seen r) plain).0 }
     ensures entries { HasItsEntries result }
 {
     Reply::Seen {
@@ -81,7 +82,7 @@ pub fn members(world: &World) -> u8
 
 /// The reply to what was sent.
 fn local_reply(answer: Local) -> Result<Reply, NoMemory>
-    requires { LocalHasNumber answer }
+    requires { HaveNumbers (local_messages answer) }
     ensures told { IsReply (local_reply answer) result }
     ensures entries { IfOk result HasItsEntries }
 {
@@ -95,7 +96,7 @@ fn local_reply(answer: Local) -> Result<Reply, NoMemory>
 
 /// The reply to a beat.
 fn beat_reply(answer: Beat) -> Result<Reply, NoMemory>
-    requires { BeatHasNumber answer }
+    requires { HaveNumbers (beat_messages answer) }
     ensures told { IsReply (beat_reply answer) result }
     ensures entries { IfOk result HasItsEntries }
 {

@@ -14,8 +14,7 @@ use Rattle.op_base.specs.declared.operation.Op.TheVariants as op
 use Rattle.op_base.specs.declared.operation.Update.{Update}
 use Rattle.causal_model.specs.Acts.{value_of}
 use Rattle.causal_model.specs.CellSteps.{with_act, cell_with}
-use Rattle.causal_model.specs.Items.{zero_cell, is_at, cell_in, is_filled, Rise}
-use Rattle.causal_model.specs.Laws.Cells.{AreFilled}
+use Rattle.causal_model.specs.Items.{zero_cell, is_at, cell_in, is_filled, Rise, AreFilled}
 use Rattle.stable_state.specs.Picked.{ArePicked, is_place, replaced}
 use Rattle.stable_state.specs.Places.{with_cell, marked_of, IsGapFor}
 use Rattle.stable_state.specs.Shelf.{put_at, without_span}

@@ -12,12 +12,12 @@ use Rattle.op_base.specs.declared.operation.Op.TheVariants as op
 use Rattle.op_base.specs.declared.operation.Update.{Update}
 use Rattle.op_base.specs.declared.outcome.Cell.{Cell}
 use Rattle.op_base.specs.declared.outcome.Item.{Item}
-use Rattle.causal_model.specs.Acts.{value_of}
-use Rattle.causal_model.specs.CellSteps.{is_counter, with_act, cell_uncovered, cell_with, cell_applied, cell_settled, cell_absorbed, cell_moved, is_put_in, log_of, stripped_of}
+use Rattle.causal_model.specs.Acts.{value_of, amount_of}
+use Rattle.causal_model.specs.CellSteps.{is_counter, with_act, cell_uncovered, cell_with, cell_applied, cell_settled, cell_absorbed, cell_moved, is_put_in}
+use Rattle.causal_model.specs.Log.{log_of, stripped_of}
 use Rattle.causal_model.specs.History.{History, with_message, is_history}
-use Rattle.causal_model.specs.Items.{cell_in, Rise}
-use Rattle.causal_model.specs.Laws.Cells.{AreFilled}
-use Rattle.causal_model.specs.Query.{amount_of, IsWithin}
+use Rattle.causal_model.specs.Items.{cell_in, Rise, AreFilled}
+use Rattle.causal_model.specs.Query.{IsWithin}
 use Rattle.causal_model.specs.Settled.{settled_cell, settled_items}
 use Rattle.causal_model.proofs.ItemMaps.{same_cells_same_list}
 use Rattle.causal_model.proofs.MovedCells.{cell_is_moved}

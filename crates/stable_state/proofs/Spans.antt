@@ -13,8 +13,7 @@ use Rattle.op_base.specs.Object.{same_object}
 use Rattle.op_base.specs.Order.{item_cmp, object_cmp}
 use Rattle.op_base.specs.declared.name.ObjectId.{ObjectId}
 use Rattle.op_base.specs.declared.outcome.Item.{Item}
-use Rattle.causal_model.specs.Items.{zero_cell, is_at, is_filled, cell_in, Rise}
-use Rattle.causal_model.specs.Laws.Cells.{AreFilled}
+use Rattle.causal_model.specs.Items.{zero_cell, is_at, is_filled, cell_in, Rise, AreFilled}
 use Rattle.causal_model.proofs.ItemMaps.{filter_all_of}
 use Rattle.causal_model.proofs.KindCells.{place_parts}
 use Rattle.causal_model.proofs.Lists.{filter_none}

@@ -5,12 +5,11 @@ use Rattle.op_base.specs.declared.message.Message.{Message}
 use Rattle.op_base.specs.declared.name.Kind.TheVariants.{Counter}
 use Rattle.op_base.specs.declared.operation.Op.TheVariants as op
 use Rattle.op_base.specs.declared.operation.Update.{Update}
-use Rattle.causal_model.specs.Acts.{value_of}
-use Rattle.causal_model.specs.CellSteps.{stripped_of}
+use Rattle.causal_model.specs.Acts.{value_of, amount_of}
+use Rattle.causal_model.specs.Log.{stripped_of, message_of}
 use Rattle.causal_model.specs.History.{History, with_message, is_history, is_limited}
 use Rattle.causal_model.specs.Items.{cell_in}
-use Rattle.causal_model.specs.Log.{message_of}
-use Rattle.causal_model.specs.Query.{amount_of, IsWithin}
+use Rattle.causal_model.specs.Query.{IsWithin}
 use Rattle.stable_state.specs.Shelf.{Shelved}
 use Rattle.stable_state.specs.Standing.{AreSettledOf, AreAbsorbed, AreMoved}
 

@@ -1,15 +1,13 @@
 -- Items side by side are in the one order and filled as all are: what a view of them owes, and so it stands here and not
 -- among the proofs.
-use Rattle.std.specs.Prelude.{◌≡◌, ℕ, ◌+◌, ◌-◌, ◌≤◌, List, length}
+use Rattle.std.specs.Prelude.{◌≡◌, ℕ, ◌+◌, ◌-◌, ◌≤◌, List, length, IsTrue}
 use Rattle.std.specs.List.{between}
 use Rattle.std.specs.declared.cmp.Ordering.TheVariants.{Less}
 use Rattle.std.proofs.Common.{get_or, sym, subst, arith}
 use Rattle.std.proofs.lemmas.List.Edits.{length-between, get_or-between}
 use Rattle.op_base.specs.Order.{item_cmp}
 use Rattle.op_base.specs.declared.outcome.Item.{Item}
-use Rattle.causal_model.specs.Items.{is_filled, Rise}
-use Rattle.causal_model.specs.Laws.Cells.{AreFilled}
-use Rattle.std.specs.Prelude.{IsTrue}
+use Rattle.causal_model.specs.Items.{is_filled, Rise, AreFilled}
 
 -- they rise
 pub rise_between : (items : List Item) (from to : ℕ) → from ≤ to → to ≤ length items → Rise items → Rise (between from to items)

@@ -1,10 +1,10 @@
 //! Cells, one at a time: when one is an item, and what an act makes of it. The cells are this project's own profile.
 
 ghost use Rattle.std.specs.Prelude.{◌≡◌, ◌^◌, false, ◌+ℤ◌, option_copied};
-ghost use Rattle.causal_model.specs.Acts.{value_of};
+ghost use Rattle.causal_model.specs.Acts.{value_of, amount_of};
 ghost use Rattle.causal_model.specs.CellSteps.{marks_on, marks_off, marks_settled, puts_in, with_act};
 ghost use Rattle.causal_model.specs.Items.{is_filled};
-ghost use Rattle.causal_model.specs.Query.{amount_of, IsWithin};
+ghost use Rattle.causal_model.specs.Query.{IsWithin};
 
 use op_base::{Act, Cell, Value};
 

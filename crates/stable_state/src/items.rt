@@ -3,26 +3,21 @@
 //! That a message first covers what is settled, and that stable entries of the log are then absorbed without their
 //! timestamps, is the idea of Baquero, Almeida and Shoker (arXiv 1710.04469); the cells are this project's own profile.
 
-ghost use Rattle.std.specs.Prelude.{◌≡◌, ℕ, ◌+◌, ◌^◌, ◌<◌, ◌≤◌, false, [], List, length, map, filter, if◌then◌else◌};
-ghost use Rattle.std.specs.Prelude.{Option, Some, None, IsTrue, IfOk, OnOk, IsOk, IfSome, HoldsAt};
-ghost use Rattle.std.specs.Prelude.{slice_get, option_copied};
+ghost use Rattle.std.specs.Prelude.{◌≡◌, ℕ, ◌+◌, ◌^◌, ◌<◌, ◌≤◌, false, [], List, length, map, filter, if◌then◌else◌, Option, Some, None, IsTrue, IfOk, OnOk, IsOk, IfSome, HoldsAt, slice_get, option_copied};
 ghost use Rattle.std.specs.List.{between, list_any};
 ghost use Rattle.op_base.specs.Object.{same_object};
 ghost use Rattle.op_base.specs.declared.message.Message.{Message};
 ghost use Rattle.op_base.specs.declared.name.ObjectId.{ObjectId};
 ghost use Rattle.op_base.specs.declared.operation.Op.TheVariants as op;
 ghost use Rattle.causal_model.specs.Acts.{acts_on};
-ghost use Rattle.causal_model.specs.CellSteps.{covers_place, cell_uncovered, cell_with, cell_settled};
-ghost use Rattle.causal_model.specs.CellSteps.{puts_in, is_put_in, log_of, stripped_of};
+ghost use Rattle.causal_model.specs.CellSteps.{covers_place, cell_uncovered, cell_with, cell_settled, puts_in, is_put_in};
+ghost use Rattle.causal_model.specs.Log.{log_of, stripped_of, message_of};
 ghost use Rattle.causal_model.specs.History.{History, no_history, with_message, is_history};
-ghost use Rattle.causal_model.specs.Items.{cell_in, is_filled, Rise};
-ghost use Rattle.causal_model.specs.Laws.Cells.{AreFilled};
-ghost use Rattle.causal_model.specs.Log.{message_of};
+ghost use Rattle.causal_model.specs.Items.{cell_in, is_filled, Rise, AreFilled};
 ghost use Rattle.stable_state.specs.Laws.{HasRange};
 ghost use Rattle.stable_state.specs.Picked.{ArePicked, is_set, is_place, replaced};
 ghost use Rattle.stable_state.specs.Places.{IsSpan, marked_of};
-ghost use Rattle.stable_state.specs.Settling.{put_in_by, remove_wins, waits, IsSettled, IsLooseAt};
-ghost use Rattle.stable_state.specs.Settling.{AreSettledFrom, SettleAlike};
+ghost use Rattle.stable_state.specs.Settling.{put_in_by, remove_wins, waits, IsSettled, IsLooseAt, AreSettledFrom, SettleAlike};
 ghost use Rattle.stable_state.specs.Shelf.{put_at};
 ghost use Rattle.stable_state.specs.Standing.{AreSettledOf, AreAbsorbed, AreMoved};
 

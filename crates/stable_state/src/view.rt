@@ -4,8 +4,7 @@
 
 ghost use Rattle.std.specs.Prelude.{◌≡◌, ◌≤◌, length};
 ghost use Rattle.std.specs.List.{between};
-ghost use Rattle.causal_model.specs.Items.{Rise};
-ghost use Rattle.causal_model.specs.Laws.Cells.{AreFilled};
+ghost use Rattle.causal_model.specs.Items.{Rise, AreFilled};
 
 use crate::cell::NO_CELL;
 use crate::shelf::Shelf;

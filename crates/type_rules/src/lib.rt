@@ -5,8 +5,8 @@
 #![tactic(auto)]
 
 ghost use Rattle.std.specs.Prelude.{◌≡◌, option_copied};
-ghost use Rattle.causal_model.specs.Acts.{is_clear, value_of};
-ghost use Rattle.causal_model.specs.Covering.{keeps_act, covers_act, same_value};
+ghost use Rattle.causal_model.specs.Acts.{is_clear, value_of, same_value};
+ghost use Rattle.causal_model.specs.Covering.{keeps_act, covers_act};
 
 use causal_model::TypeRule;
 use op_base::{Act, Kind, Update, Value};

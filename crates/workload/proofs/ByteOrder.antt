@@ -9,8 +9,7 @@ use Rattle.std.proofs.lemmas.Cmp.{nat_list_cmp_total}
 use Rattle.std.proofs.lemmas.List.Elements.{All-nil, All-cons, All-weaker, All-head, All-tail, All-contains, All-contains_itself}
 use Rattle.std.proofs.lemmas.List.Kept.{AllPairs-cons}
 use Rattle.op_base.specs.Order.{text_cmp}
-use Rattle.causal_model.specs.Laws.Answers.{TextsRise}
-use Rattle.causal_model.specs.Query.{put_value}
+use Rattle.causal_model.specs.Query.{TextsRise, put_value}
 use Rattle.causal_model.proofs.Members.{no_member, member_here, member_later, member_cases, pairs_head, pairs_tail}
 use Rattle.workload.specs.Summary.{in_byte_order}
 

@@ -19,7 +19,7 @@ use Rattle.std.proofs.lemmas.Map.Keys.{apart_from_distinct}
 use Rattle.std.proofs.lemmas.Option.{slice_get-get_or, slice_get_within, get_or_from_slice_get}
 use Rattle.op_base.specs.Name.{same_text}
 use Rattle.op_base.specs.Order.{text_cmp}
-use Rattle.causal_model.specs.Laws.Answers.{TextsRise}
+use Rattle.causal_model.specs.Query.{TextsRise}
 use Rattle.causal_model.proofs.Values.{one_list_of_texts}
 use Rattle.workload.specs.Counts.{count_in}
 use Rattle.workload.specs.Summary.{times, in_byte_order, counts_of}

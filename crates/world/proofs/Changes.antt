@@ -1,14 +1,13 @@
 -- What a world shows when one of its nodes has changed, and the frames that its member sent.
-use Rattle.std.proofs.Common.{◌≡◌, ℕ, ◌<◌, List, [], ◌∷◌, ◌++◌, length, map, slice_index_or, slice_set, sym, ap, ◌∙◌, arith}
-use Rattle.std.proofs.lemmas.List.{length-map, get_or-map, map-set, length-set, set-get_or, append-nil, map-append}
+use Rattle.std.proofs.Common.{◌≡◌, ℕ, zero, suc, ◌<◌, List, [], ◌∷◌, ◌++◌, length, map, fold, slice_index_or, slice_set, refl, sym, ap, subst, ◌∙◌, append_assoc, arith}
+use Rattle.std.proofs.lemmas.List.{length-map, get_or-map, map-set, length-set, set-get_or, get_or-set_same, append-nil, map-append}
 use Rattle.std.proofs.lemmas.List.Elements.{All-set}
 use Rattle.std.proofs.Math.Seq.{map-set_same}
 use Rattle.op_base.specs.declared.message.Message.{Message}
-use Rattle.causal_model.specs.Journal.{with_own}
-use Rattle.causal_model.specs.Receiving.{State}
+use Rattle.causal_model.specs.State.{State, start, with_own}
 use Rattle.frame_codec.specs.Grammar.{frame_of}
 use Rattle.frame_codec.specs.declared.version.Version.TheVariants.{Two}
-use Rattle.world_model.specs.World.{PlainWorld, size_of, replica_of, sent_by, with_state, with_sent}
+use Rattle.world_model.specs.World.{PlainWorld, size_of, replica_of, sent_by, with_state, with_sent, with_all_sent}
 use Rattle.world_model.specs.Worlds.{IsWorld}
 use Rattle.world.specs.Shows.{NotedNode, state_of, Shows}
 use Rattle.world.specs.Steps.{SameNode}
@@ -27,9 +26,35 @@ rows_within items nodes rows plain shows r low =
     let counted : length rows ≡ length plain.sent = sym (length-map rows items) ∙ ap length shows.frames ∙ length-map plain.sent (map (frame_of Two (size_of plain) 0)) in
     omega (arith, counted, shows.is_world.of_each, size_shown nodes (map items rows) plain shows)
 
--- with none behind it
-pub rows_alone : (rows : List (List (List ℕ))) (r : ℕ) → slice_set rows r (slice_index_or rows r [] ++ []) ≡ rows
-rows_alone rows r = ap (slice_set rows r) (append-nil (slice_index_or rows r [])) ∙ set-get_or rows r []
+-- ---- messages that were sent one after the other
+
+pub set_twice : {X : Type 0} (l : List X) (r : ℕ) (a b : X) → slice_set (slice_set l r a) r b ≡ slice_set l r b
+set_twice [] r a b = refl
+set_twice (x ∷ l) zero a b = refl
+set_twice (x ∷ l) (suc r) a b = ap (λ rest. x ∷ rest) (set_twice l r a b)
+
+-- a world with other replicas, and with other messages that were sent
+abbrev with_parts : PlainWorld → List State → List (List Message) → PlainWorld
+with_parts plain replicas sent = record { w = plain.w; limit = plain.limit; replicas = replicas; sent = sent }
+
+-- they stand behind what the replica sent, and it has them
+all_are_sent : (r : ℕ) (plain : PlainWorld) (ms : List Message) → r < size_of plain → r < length plain.sent
+    → with_all_sent r plain ms ≡ with_parts plain (slice_set plain.replicas r (fold with_own (replica_of plain r) ms)) (slice_set plain.sent r (sent_by plain r ++ ms))
+all_are_sent r plain [] low kept =
+    let sent : slice_set plain.sent r (sent_by plain r ++ []) ≡ plain.sent = ap (slice_set plain.sent r) (append-nil (sent_by plain r)) ∙ set-get_or plain.sent r [] in
+    sym (ap (λ l. with_parts plain l (slice_set plain.sent r (sent_by plain r ++ []))) (set-get_or plain.replicas r (start 0 0)) ∙ ap (with_parts plain plain.replicas) sent)
+all_are_sent r plain (m ∷ ms) low kept =
+    let next = with_sent plain r m in
+    let s = with_own (replica_of plain r) m in
+    let own = sent_by plain r ++ m ∷ [] in
+    let replicas : slice_set next.replicas r (fold with_own (replica_of next r) ms) ≡ slice_set plain.replicas r (fold with_own s ms) =
+    ap (λ g. slice_set next.replicas r (fold with_own g ms)) (get_or-set_same plain.replicas r s (start 0 0) low) ∙ set_twice plain.replicas r s (fold with_own s ms) in
+    let sent : slice_set next.sent r (sent_by next r ++ ms) ≡ slice_set plain.sent r (sent_by plain r ++ m ∷ ms) =
+    ap (λ l. slice_set next.sent r (l ++ ms)) (get_or-set_same plain.sent r own [] kept) ∙ set_twice plain.sent r own (own ++ ms) ∙ ap (slice_set plain.sent r) (append_assoc (sent_by plain r) (m ∷ []) ms) in
+    all_are_sent r next ms (omega (arith, low, length-set plain.replicas r s)) (omega (arith, kept, length-set plain.sent r own))
+    ∙ ap (λ l. with_parts plain l (slice_set next.sent r (sent_by next r ++ ms))) replicas ∙ ap (with_parts plain (slice_set plain.replicas r (fold with_own s ms))) sent
+
+-- ---- a node has changed
 
 module _ (nodes : List NotedNode) (rows : List (List (List ℕ))) (plain : PlainWorld) (shows : Shows nodes rows plain) (r : ℕ) (node : NotedNode) (stands : StandsAt nodes r node) (left : NotedNode) (same : SameNode node left) where
   windows_stay : left.inner.w ≡ plain.w
@@ -58,25 +83,27 @@ module _ (nodes : List NotedNode) (rows : List (List (List ℕ))) (plain : Plain
     frames = shows.frames;
   }
 
-  -- a node sends a message, whose frame stands behind the others
-  pub sent_shows : (m : Message) → state_of left ≡ with_own (state_of node) m → IsWorld (with_sent plain r m)
-      → Shows (slice_set nodes r left) (slice_set rows r (slice_index_or rows r [] ++ frame_of Two node.inner.n 0 m ∷ [])) (with_sent plain r m)
-  sent_shows m is world =
-      let after = with_own (replica_of plain r) m in
-      let frame : ℕ → Message → List ℕ = λ n. frame_of Two n 0 in
+  -- a node sends messages, whose frames stand behind the others
+  pub sent_shows : (ms : List Message) → state_of left ≡ fold with_own (state_of node) ms → IsWorld (with_all_sent r plain ms)
+      → Shows (slice_set nodes r left) (slice_set rows r (slice_index_or rows r [] ++ map (frame_of Two node.inner.n 0) ms)) (with_all_sent r plain ms)
+  sent_shows ms is world =
+      let after = fold with_own (replica_of plain r) ms in
       let n = size_of plain in
-      let low : r < length plain.sent = omega (arith, shows.is_world.of_each, within nodes rows plain shows r node stands) in
+      let frame : ℕ → Message → List ℕ = λ n. frame_of Two n 0 in
+      let inside = within nodes rows plain shows r node stands in
+      let low : r < length plain.sent = omega (arith, shows.is_world.of_each, inside) in
+      let all = all_are_sent r plain ms inside low in
       let row : slice_index_or rows r [] ≡ map (frame n) (sent_by plain r) = ap (λ l. slice_index_or l r []) shows.frames ∙ get_or-map (map (frame n)) plain.sent r [] [] low in
-      let more : slice_index_or rows r [] ++ frame node.inner.n m ∷ [] ≡ map (frame n) (sent_by plain r ++ m ∷ []) =
-      ap (λ x. x ++ frame node.inner.n m ∷ []) row ∙ ap (λ k. map (frame n) (sent_by plain r) ++ frame k m ∷ []) (n_shown nodes rows plain shows r node stands) ∙ sym (map-append (frame n) (sent_by plain r) (m ∷ [])) in
-      record {
-        is_world = world;
+      let more : slice_index_or rows r [] ++ map (frame node.inner.n) ms ≡ map (frame n) (sent_by plain r ++ ms) =
+      ap (λ x. x ++ map (frame node.inner.n) ms) row ∙ ap (λ k. map (frame n) (sent_by plain r) ++ map (frame k) ms) (n_shown nodes rows plain shows r node stands) ∙ sym (map-append (frame n) (sent_by plain r) ms) in
+      subst (Shows (slice_set nodes r left) (slice_set rows r (slice_index_or rows r [] ++ map (frame node.inner.n) ms))) (sym all) (record {
+        is_world = subst IsWorld all world;
         states = map-set state_of nodes r left ∙ ap (λ l. slice_set l r (state_of left)) shows.states
-            ∙ ap (slice_set plain.replicas r) (is ∙ ap (λ s. with_own s m) (sym (state_shown nodes rows plain shows r node stands)));
+            ∙ ap (slice_set plain.replicas r) (is ∙ ap (λ s. fold with_own s ms) (sym (state_shown nodes rows plain shows r node stands)));
         windows = All-set (λ x. x.inner.w ≡ plain.w) nodes r left windows_stay shows.windows;
         limits = All-set (λ x. x.inner.limit ≡ plain.limit) nodes r left limits_stay shows.limits;
-        frames = ap (λ l. slice_set l r (slice_index_or rows r [] ++ frame node.inner.n m ∷ [])) shows.frames
+        frames = ap (λ l. slice_set l r (slice_index_or rows r [] ++ map (frame node.inner.n) ms)) shows.frames
             ∙ ap (slice_set (map (map (frame n)) plain.sent) r) more
-            ∙ sym (map-set (map (frame n)) plain.sent r (sent_by plain r ++ m ∷ []))
-            ∙ ap (λ k. map (map (frame k)) (slice_set plain.sent r (sent_by plain r ++ m ∷ []))) (sym (length-set plain.replicas r after));
-      }
+            ∙ sym (map-set (map (frame n)) plain.sent r (sent_by plain r ++ ms))
+            ∙ ap (λ k. map (map (frame k)) (slice_set plain.sent r (sent_by plain r ++ ms))) (sym (length-set plain.replicas r after));
+      })

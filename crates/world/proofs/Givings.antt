@@ -2,34 +2,38 @@
 use Rattle.std.proofs.Common.{◌≡◌, ◌≢◌, ℕ, ◌<◌, ◌≤◌, ◌-◌, ◌==◌, Bool, true, false, IsTrue, List, [], length, map, slice_index_or, slice_set, nat_le, Some, None, Option, inl, inr, refl, sym, ap, subst, ◌∙◌, if◌then◌else◌, arith}
 use Rattle.std.specs.Prelude.{slice_get}
 use Rattle.std.specs.List.{list_all}
-use Rattle.std.proofs.lemmas.Bool.{and_parts, and_from, eqb-true, leb-true, le-leb, ltb-true}
+use Rattle.std.proofs.lemmas.Bool.{and_parts, and_from, eqb-true, leb-true, le-leb, lt-ltb, ltb-true}
 use Rattle.std.proofs.lemmas.List.{length-map, get_or-map}
 use Rattle.std.proofs.lemmas.List.Elements.{All-get_or}
 use Rattle.std.proofs.lemmas.List.Sums.{AllPass-from_list_all, list_all-from_AllPass}
 use Rattle.std.proofs.lemmas.Option.{slice_get_cases, slice_get_past}
 use Rattle.op_base.specs.Message.{fits, number}
 use Rattle.op_base.specs.Valid.{is_valid, is_valid_act}
-use Rattle.op_base.specs.Name.{is_key}
+use Rattle.op_base.specs.Name.{is_key, is_value}
 use Rattle.op_base.specs.declared.message.Message.{Message}
 use Rattle.op_base.specs.declared.operation.Act.{Act}
 use Rattle.op_base.specs.declared.operation.Act.TheVariants as acts
 use Rattle.op_base.specs.declared.operation.Op.{Op}
 use Rattle.op_base.specs.declared.operation.Op.TheVariants as op
 use Rattle.causal_model.specs.Counts.{is_carried}
-use Rattle.causal_model.specs.Receiving.{has_id}
+use Rattle.causal_model.specs.Early.{has_id}
 use Rattle.causal_model.proofs.Finds.{found}
-use Rattle.frame_codec.specs.Grammar.{frame_of, IsArgument, IsOperation, IsFrame}
+use Rattle.frame_codec.specs.Grammar.{frame_of, IsArgument, IsOperation, is_carried as carries_length, IsFrame}
+use Rattle.frame_codec.specs.declared.version.Version.{Version}
 use Rattle.frame_codec.specs.declared.version.Version.TheVariants.{Two}
-use Rattle.replica_core.specs.declared.answers.Receive.{Receive}
-use Rattle.replica_node.specs.Rules.{NotesReceive}
-use Rattle.world_model.specs.World.{PlainWorld, size_of, sent_by, sent_message, receiving_at, giving, giving_of, unsent}
+use Rattle.causal_model.specs.declared.outcome.Receive.{Receive}
+use Rattle.causal_model.specs.declared.outcome.Receive.TheVariants as receive
+use Rattle.causal_model.specs.Journal.{receive_notes}
+use Rattle.causal_model.specs.Receiving.{is_accepted, receive_rule}
+use Rattle.replica_node.specs.Rules.{noting}
+use Rattle.world_model.specs.World.{PlainWorld, size_of, sent_by, sent_message, offer_at, give_of, wants_frame, takes_frame, give_at}
 use Rattle.world_model.proofs.Sent.{sent_are_own, sent_is_numbered}
 use Rattle.world.specs.Shows.{NotedNode, Shows}
-use Rattle.world.specs.Answers.{AnswersGive}
 use Rattle.world.specs.Steps.{SameNode, IsFrameOf}
-use Rattle.world.specs.declared.answers.Given.TheVariants as given
+use Rattle.world_model.specs.declared.outcome.Given.TheVariants as given
 use Rattle.world.proofs.Nodes.{StandsAt, size_shown, n_shown, limit_shown}
-use Rattle.world.proofs.Replies.{replies_receive}
+use Rattle.world.proofs.Follow.{Comes}
+use Rattle.world.proofs.Replies.{Notes, replies_offer}
 
 -- ---- what can be carried is sent as a frame
 
@@ -54,15 +58,27 @@ frame_is_sent n limit m fit carried =
     let each = AllPass-from_list_all (λ e. nat_le e limit) m.tag parts.0 in
     (Two, record { in_epoch = tt; fits = fit; within = λ i d b. leb-true (slice_index_or m.tag i d) limit (each i d b); operation = operation_is_sent m.op parts.1; spelled = refl })
 
--- a message of a frame can be carried
-pub frame_is_carried : (n limit : ℕ) (frame : List ℕ) (m : Message) → IsFrame n 0 limit frame m → IsTrue (is_valid m.op) → IsTrue (is_carried limit m)
-frame_is_carried n limit frame m is valid =
-    and_from (list_all (λ e. nat_le e limit) m.tag) (is_valid m.op) (list_all-from_AllPass (λ e. nat_le e limit) m.tag (λ i d b. le-leb (slice_index_or m.tag i d) limit (is.1.within i d b))) valid
+-- ---- what comes as a frame can be carried
+
+argument_is_valid : (version : Version) (act : Act) → IsArgument version act → is_valid_act act ≡ true
+argument_is_valid version (acts.Add v) h = (and_parts (carries_length version (length v)) (is_value v) h).1
+argument_is_valid version (acts.Rmv v) h = (and_parts (carries_length version (length v)) (is_value v) h).1
+argument_is_valid version acts.Clear h = refl
+argument_is_valid version acts.Enable h = refl
+argument_is_valid version acts.Disable h = refl
+argument_is_valid version (acts.Write v) h = (and_parts (carries_length version (length v)) (is_value v) h).1
+argument_is_valid version (acts.Inc a) h = lt-ltb a 4294967296 (omega (arith, h))
+argument_is_valid version (acts.Dec a) h = lt-ltb a 4294967296 (omega (arith, h))
+
+operation_is_valid : (version : Version) (o : Op) → IsOperation version o → is_valid o ≡ true
+operation_is_valid version op.NoOp h = refl
+operation_is_valid version (op.Update u) h = and_from (is_key u.object.key) (is_valid_act u.act) h.0 (argument_is_valid version u.act h.1)
+
+pub frame_is_carried : (n limit : ℕ) (frame : List ℕ) (m : Message) → IsFrame n 0 limit frame m → IsTrue (is_carried limit m)
+frame_is_carried n limit frame m is =
+    and_from (list_all (λ e. nat_le e limit) m.tag) (is_valid m.op) (list_all-from_AllPass (λ e. nat_le e limit) m.tag (λ i d b. le-leb (slice_index_or m.tag i d) limit (is.1.within i d b))) (operation_is_valid is.0 m.op is.1.operation)
 
 -- ---- what is given
-
-pub none_is_given : (plain : PlainWorld) (r k seq : ℕ) → sent_message plain k seq ≡ None → giving plain r k seq ≡ unsent
-none_is_given plain r k seq none = ap (giving_of plain r) none
 
 -- no message is numbered 0
 pub none_at_0 : (nodes : List NotedNode) (rows : List (List (List ℕ))) (plain : PlainWorld) → Shows nodes rows plain → (k : ℕ) → k < length nodes → (seq : ℕ) → seq ≡ 0 → sent_message plain k seq ≡ None
@@ -137,10 +153,30 @@ module _ {X : Type 0} (items : X → List (List ℕ)) (nodes : List NotedNode) (
           by false h x = refl
 
     -- what giving it answers, by what it answers at the node
-    pub replies_give : (left : NotedNode) → SameNode node left → (result : Receive)
-        → ((m : Message) → IsFrameOf node.inner.n node.inner.limit (record { origin = k; seq = seq }) frame m → NotesReceive node.inner.w node.inner.limit node.first node.journal.notes left.journal.notes m result)
-        → AnswersGive plain r k seq (given.Got result) (Shows (slice_set nodes r left) (map items sent))
-    replies_give left same result notes =
+    pub replies_give : (left : NotedNode) → SameNode node left → (answer : Receive)
+        → ((m : Message) → IsFrameOf node.inner.n node.inner.limit (record { origin = k; seq = seq }) frame m
+        → Notes receive.NoMemory wants_frame (noting node.first (receive_notes m) (receive_rule node.inner.w m)) node.journal.notes answer left.journal.notes)
+        → Comes (given.Got receive.NoMemory) takes_frame (give_at r k seq plain) plain (given.Got answer) (Shows (slice_set nodes r left) (map items sent))
+    replies_give left same answer follows =
         let one = message_given in
         let m = one.0 in
-        (receiving_at plain r m, ap (giving_of plain r) one.1.sent, replies_receive nodes (map items sent) plain shows r node stands left same m one.1.fit one.1.carried result (notes m one.1.is))
+        let comes = replies_offer nodes (map items sent) plain shows r node stands left same receive.NoMemory wants_frame (λ got. got) (noting node.first (receive_notes m) (receive_rule node.inner.w m)) m answer one.1.fit one.1.carried refl (follows m one.1.is) in
+        let told : (given.Got (offer_at r m plain).0, (offer_at r m plain).1) ≡ give_at r k seq plain = ap (give_of r plain) (sym one.1.sent) in
+        subst (λ made. Comes (given.Got receive.NoMemory) takes_frame made plain (given.Got answer) (Shows (slice_set nodes r left) (map items sent))) told (elim comes [
+          | inl is ↦ inl (ap (λ got. given.Got got) is.0, is.1)
+          | inr none ↦ inr (ap (λ got. given.Got got) none.0, none.1, none.2)
+        ])
+
+-- the frame of one that is accepted is read
+pub accepted_is_read : (answer : Receive) → IsTrue (is_accepted answer) → IsTrue (wants_frame answer)
+accepted_is_read receive.Old accepted = cc
+accepted_is_read receive.Again accepted = cc
+accepted_is_read receive.Far accepted = refl
+accepted_is_read receive.Kept accepted = refl
+accepted_is_read (receive.Took steps) accepted = refl
+accepted_is_read receive.NoMemory accepted = refl
+
+-- where none was sent with the number, none is given
+pub none_is_given : (plain : PlainWorld) (r k seq : ℕ) (Leaves : PlainWorld → Type 0) → sent_message plain k seq ≡ None → Leaves plain → Comes (given.Got receive.NoMemory) takes_frame (give_at r k seq plain) plain given.Unsent Leaves
+none_is_given plain r k seq Leaves none shows =
+    subst (λ made. Comes (given.Got receive.NoMemory) takes_frame made plain given.Unsent Leaves) (ap (give_of r plain) (sym none)) (inl (refl, shows))

@@ -9,7 +9,7 @@ use Rattle.op_base.specs.Message.{fits, number}
 use Rattle.op_base.specs.Timestamp.{entry}
 use Rattle.op_base.specs.declared.message.Message.{Message}
 use Rattle.causal_model.specs.Counts.{members}
-use Rattle.causal_model.specs.Receiving.{State}
+use Rattle.causal_model.specs.State.{State}
 use Rattle.causal_model.specs.Sending.{outbox_of}
 use Rattle.causal_model.specs.Stability.{known_vector, stable_vector, is_stable, unstable_noops}
 use Rattle.causal_model.proofs.Histories.{IsHistory-from_test}

@@ -1,5 +1,6 @@
 pub mod Nodes
 pub mod Changes
+pub mod Follow
 pub mod Replies
 pub mod Sends
 pub mod Givings

@@ -6,15 +6,11 @@ use Rattle.std.proofs.lemmas.Simd.{map-map}
 use Rattle.std.proofs.lemmas.List.Elements.{All-get_or}
 use Rattle.op_base.specs.Message.{id_of}
 use Rattle.op_base.specs.declared.message.Message.{Message}
-use Rattle.op_base.specs.declared.operation.Update.{Update}
-use Rattle.causal_model.specs.CellSteps.{log_of}
+use Rattle.causal_model.specs.Log.{log_of, kept_log, message_of}
 use Rattle.causal_model.specs.Covering.{store_keeps, store_covers}
-use Rattle.causal_model.specs.Log.{kept_log, message_of}
-use Rattle.causal_model.specs.Receiving.{State, start, receiving}
-use Rattle.causal_model.specs.Sending.{sending, beating}
+use Rattle.causal_model.specs.State.{State, start}
 use Rattle.replica_core.specs.Numbers.{is_from_to}
-use Rattle.replica_node.specs.Rules.{sending_by, beating_by, receiving_by}
-use Rattle.world_model.specs.World.{PlainWorld, size_of, replica_of, sending_at, beating_at, receiving_at}
+use Rattle.world_model.specs.World.{PlainWorld, size_of, replica_of}
 use Rattle.world_model.specs.Showing.{log_at}
 use Rattle.world.specs.Shows.{NotedNode, state_of, Shows}
 
@@ -22,10 +18,6 @@ use Rattle.world.specs.Shows.{NotedNode, state_of, Shows}
 pub record StandsAt (nodes : List NotedNode) (r : ℕ) (node : NotedNode) : Type 0 where
   pub low : r < length nodes
   pub at : node ≡ slice_index_or nodes r node
-
--- three numbers and states that are equal are told alike
-alike : {X : Type 0} (f : State → ℕ → ℕ → X) (s t : State) (w v limit most : ℕ) → s ≡ t → w ≡ v → limit ≡ most → f s w limit ≡ f t v most
-alike f s t w v limit most es ew el = ap (λ x. f x w limit) es ∙ ap (λ x. f t x limit) ew ∙ ap (f t v) el
 
 module _ (nodes : List NotedNode) (rows : List (List (List ℕ))) (plain : PlainWorld) (shows : Shows nodes rows plain) where
   pub size_shown : length nodes ≡ size_of plain
@@ -50,24 +42,9 @@ module _ (nodes : List NotedNode) (rows : List (List (List ℕ))) (plain : Plain
     pub n_shown : node.inner.n ≡ size_of plain
     n_shown = sym node.stands.of_store ∙ ap (λ s. s.history.present.n) (sym state_shown) ∙ (shows.is_world.replicas r within).of_store
 
-    pub me_shown : node.inner.me ≡ r
-    me_shown = sym node.stands.of_member ∙ ap (λ s. s.history.present.me) (sym state_shown) ∙ (shows.is_world.replicas r within).of_member
-
-    -- the rules at the node's state are those at the plain replica
-    pub sending_shown : (update : Update) → sending_at plain r update ≡ sending_by node.inner.w node.inner.limit node.first node.journal.notes update
-    sending_shown update =
-        alike (λ s w limit. sending s.history.present.n w limit s.history.present.me s.history.present.messages update)
-        (replica_of plain r) (state_of node) plain.w node.inner.w plain.limit node.inner.limit state_shown (sym w_shown) (sym limit_shown)
-
-    pub beating_shown : beating_at plain r ≡ beating_by node.inner.w node.inner.limit node.first node.journal.notes
-    beating_shown =
-        alike (λ s w limit. beating s.history.present.n w limit s.history.present.me s.history.present.messages)
-        (replica_of plain r) (state_of node) plain.w node.inner.w plain.limit node.inner.limit state_shown (sym w_shown) (sym limit_shown)
-
-    pub receiving_shown : (m : Message) → receiving_at plain r m ≡ receiving_by node.inner.w node.inner.limit node.first node.journal.notes m
-    receiving_shown m =
-        alike (λ s w limit. receiving w s m)
-        (replica_of plain r) (state_of node) plain.w node.inner.w plain.limit node.inner.limit state_shown (sym w_shown) (sym limit_shown)
+    -- what goes by the window, the limit and the state is at the node as at the plain replica
+    pub alike : {X : Type 0} (f : ℕ → ℕ → State → X) → f node.inner.w node.inner.limit (state_of node) ≡ f plain.w plain.limit (replica_of plain r)
+    alike f = ap (λ w. f w node.inner.limit (state_of node)) w_shown ∙ ap (λ limit. f plain.w limit (state_of node)) limit_shown ∙ ap (f plain.w plain.limit) (sym state_shown)
 
     -- the log's ids are those of the plain replica's
     pub log_shown : map (λ e. id_of (message_of e)) node.inner.log.entries ≡ log_at plain r

@@ -1,6 +1,7 @@
 -- Messages that are offered to a node, one after the other.
-use Rattle.std.proofs.Common.{◌≡◌, ℕ, ◌<◌, ◌+◌, ◌-◌, List, [], ◌∷◌, ◌++◌, length, take, slice_index_or, slice_set, All, IsTrue, Some, Result, Ok, Err, ◌⊎◌, inl, inr, sym, ap, subst, ◌∙◌, arith}
+use Rattle.std.proofs.Common.{◌≡◌, ℕ, ◌<◌, ◌+◌, ◌-◌, List, [], ◌∷◌, ◌++◌, length, take, map, slice_index_or, slice_set, All, Bool, IsTrue, true, ◌||◌, append-nil, Option, Some, None, Result, Ok, Err, ◌⊎◌, inl, inr, sym, ap, subst, ◌∙◌, arith}
 use Rattle.std.specs.Prelude.{OnErr, IfOk, slice_get}
+use Rattle.std.proofs.Math.Bool.{or-false, or-true}
 use Rattle.std.proofs.Math.Logic.{∥∥₁_elim}
 use Rattle.std.proofs.Props.{props}
 use Rattle.std.proofs.lemmas.List.{take_more, length-append, get_or_append_left, get_or-append_right}
@@ -9,8 +10,16 @@ use Rattle.std.proofs.lemmas.Option.{slice_get-get_or}
 use Rattle.op_base.specs.Message.{fits}
 use Rattle.op_base.specs.declared.memory.NoMemory.{NoMemory}
 use Rattle.op_base.specs.declared.message.Message.{Message}
+use Rattle.op_base.specs.declared.outcome.Step.{Step}
 use Rattle.causal_model.specs.Counts.{is_carried}
-use Rattle.causal_model.specs.Receiving.{State}
+use Rattle.causal_model.specs.Journal.{state_noted, state_after, step_note}
+use Rattle.causal_model.specs.Receiving.{steps, with_early, refusal_of, refused, accepted, steps_of, is_accepted, receive_by}
+use Rattle.causal_model.specs.State.{State, start}
+use Rattle.causal_model.specs.declared.note.Note.TheVariants.{Kept}
+use Rattle.causal_model.specs.declared.outcome.Refusal.{Refusal}
+use Rattle.causal_model.proofs.Journals.{accepting_replays}
+use Rattle.causal_model.proofs.Outcomes.{steps_of_accepted, accepted_is_accepted, steps_of_refused, refused_is_not_accepted}
+use Rattle.replica_node.specs.Nodes.{state_by}
 use Rattle.world_model.specs.Offering.{Offered, offered, offered_more, none_offered}
 use Rattle.world.specs.Shows.{NotedNode, state_of}
 use Rattle.world.specs.Steps.{SameNode, OffersSome, OffersTo, OffersBetween, CanBeOffered, offered_at}
@@ -22,6 +31,54 @@ on_err (Err e) P p = p
 
 pub same_twice : (a b c : NotedNode) → SameNode a b → SameNode b c → SameNode a c
 same_twice a b c one two = record { first = two.first ∙ one.first; n = two.n ∙ one.n; w = two.w ∙ one.w; limit = two.limit ∙ one.limit }
+
+-- ---- one message
+
+-- the steps that were made stand behind the others
+abbrev with_steps : State → List Step → List Step → Offered
+with_steps s before made = record { state = s; steps = before ++ made; kept = true }
+
+module _ (w : ℕ) (so : Offered) (m : Message) where
+  more_by : (o : Option Refusal) → refusal_of w so.state m ≡ o
+      → offered_more w so m ≡ (let got = receive_by w m so.state o in record { state = got.1; steps = so.steps ++ steps_of got.0; kept = so.kept || is_accepted got.0 })
+  more_by o e = ap (λ x. let got = receive_by w m so.state x in let more : Offered = record { state = got.1; steps = so.steps ++ steps_of got.0; kept = so.kept || is_accepted got.0 } in more) e
+
+  -- one that is refused changes nothing
+  pub refused_offer : (why : Refusal) → refusal_of w so.state m ≡ Some why → so ≡ offered_more w so m
+  refused_offer why e =
+      sym (more_by (Some why) e ∙ ap (λ made. let more : Offered = record { state = so.state; steps = so.steps ++ made; kept = so.kept || is_accepted (refused why) } in more) (steps_of_refused why)
+      ∙ ap (λ xs. let more : Offered = record { state = so.state; steps = xs; kept = so.kept || is_accepted (refused why) } in more) (append-nil so.steps)
+      ∙ ap (λ b. let more : Offered = record { state = so.state; steps = so.steps; kept = so.kept || b } in more) (refused_is_not_accepted why)
+      ∙ ap (λ b. let more : Offered = record { state = so.state; steps = so.steps; kept = b } in more) (or-false so.kept))
+
+  -- one that isn't makes the steps of the state with it
+  accepted_offer : refusal_of w so.state m ≡ None → offered_more w so m ≡ (let made = steps w (with_early so.state m) in with_steps made.1 so.steps made.0)
+  accepted_offer e =
+      let made = steps w (with_early so.state m) in
+      more_by None e ∙ ap (λ xs. let more : Offered = record { state = made.1; steps = so.steps ++ xs; kept = so.kept || is_accepted (accepted made.0) } in more) (steps_of_accepted made.0)
+      ∙ ap (λ b. let more : Offered = record { state = made.1; steps = so.steps ++ made.0; kept = so.kept || b } in more) (accepted_is_accepted made.0)
+      ∙ ap (λ b. let more : Offered = record { state = made.1; steps = so.steps ++ made.0; kept = b } in more) (or-true so.kept)
+
+-- the state that a node comes to where it accepts a message, by what it notes
+accepted_state : (node new : NotedNode) (m : Message) (made : List Step) → IsTrue (fits node.inner.n m) → IsTrue (is_carried node.inner.limit m) → refusal_of node.inner.w (state_of node) m ≡ None
+    → made ≡ (steps node.inner.w (with_early (state_of node) m)).0 → new.first ≡ node.first → new.journal.notes ≡ node.journal.notes ++ Kept m ∷ map step_note made → state_of new ≡ (steps node.inner.w (with_early (state_of node) m)).1
+accepted_state node new m made fit carried e is same noted =
+    ap (λ first. state_by first new.journal.notes) same ∙ ap (state_by node.first) noted ∙ fold-append state_noted (start node.first.1 node.first.0) node.journal.notes (Kept m ∷ map step_note made)
+    ∙ ap (λ xs. state_after (state_of node) (Kept m ∷ map step_note xs)) is
+    ∙ accepting_replays node.inner.w node.inner.limit (state_of node) m node.stands.is_state (subst (λ n. IsTrue (fits n m)) (sym node.stands.of_store) fit) carried e
+
+-- so what has come of offers has one more
+pub one_is_accepted : (node new : NotedNode) (before : List Step) (kept : Bool) (m copy : Message) (made : List Step) → copy ≡ m → IsTrue (fits node.inner.n m) → IsTrue (is_carried node.inner.limit m)
+    → refusal_of node.inner.w (state_of node) m ≡ None → made ≡ (steps node.inner.w (with_early (state_of node) copy)).0 → new.first ≡ node.first
+    → new.journal.notes ≡ node.journal.notes ++ Kept copy ∷ map step_note made → with_steps (state_of new) before made ≡ offered_more node.inner.w (record { state = state_of node; steps = before; kept = kept }) m
+one_is_accepted node new before kept m copy made same fit carried e is first noted =
+    let w = node.inner.w in
+    let s = state_of node in
+    let is_so = is ∙ ap (λ x. (steps w (with_early s x)).0) same in
+    let after = accepted_state node new m made fit carried e is_so first (noted ∙ ap (λ x. node.journal.notes ++ Kept x ∷ map step_note made) same) in
+    ap (λ g. with_steps g before made) after ∙ ap (with_steps (steps w (with_early s m)).1 before) is_so ∙ sym (accepted_offer w (record { state = s; steps = before; kept = kept }) m e)
+
+-- ---- messages
 
 module _ (w v : ℕ) (s : State) (ms : List Message) (i : ℕ) (m : Message) (low : i < length ms) (at : m ≡ slice_index_or ms i m) (so : Offered) (before : so ≡ offered w s (take i ms)) (wide : v ≡ w) where
   -- with one more

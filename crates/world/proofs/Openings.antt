@@ -5,7 +5,7 @@ use Rattle.std.proofs.lemmas.List.{length-map, map-append}
 use Rattle.std.proofs.lemmas.List.Elements.{All-push}
 use Rattle.std.proofs.lemmas.List.FromFn.{map-range_with_len_more, length-map-range_with_len}
 use Rattle.causal_model.specs.Counts.{members}
-use Rattle.causal_model.specs.Receiving.{start}
+use Rattle.causal_model.specs.State.{start}
 use Rattle.frame_codec.specs.Grammar.{frame_of}
 use Rattle.frame_codec.specs.declared.version.Version.TheVariants.{Two}
 use Rattle.replica_core.specs.Numbers.{are_numbers, is_from_to}

@@ -1,5 +1,5 @@
 -- What offering an outbox makes of a world.
-use Rattle.std.proofs.Common.{◌≡◌, ℕ, zero, suc, ◌<◌, ◌==◌, ◌||◌, not, Bool, true, false, IsTrue, List, [], ◌∷◌, ◌++◌, length, take, All, inl, inr, slice_set, Result, Ok, Err, refl, sym, ap, subst, ◌∙◌, arith}
+use Rattle.std.proofs.Common.{◌≡◌, ℕ, ◌<◌, ◌==◌, not, Bool, true, IsTrue, List, [], ◌∷◌, length, take, All, inl, inr, slice_set, Some, Result, Ok, Err, refl, sym, ap, subst, ◌∙◌, arith}
 use Rattle.std.specs.Prelude.{OnErr, IfOk}
 use Rattle.std.specs.List.{filter, fold}
 use Rattle.std.proofs.lemmas.List.{set-get_or, length-set, get_or-set_same}
@@ -9,19 +9,23 @@ use Rattle.op_base.specs.Message.{fits}
 use Rattle.op_base.specs.declared.memory.NoMemory.{NoMemory}
 use Rattle.op_base.specs.declared.message.Message.{Message}
 use Rattle.causal_model.specs.Counts.{is_carried}
-use Rattle.causal_model.specs.Receiving.{State, start, receiving, old}
+use Rattle.causal_model.specs.Receiving.{refusal_of, receive_rule}
+use Rattle.causal_model.specs.State.{State, start}
+use Rattle.causal_model.specs.declared.outcome.Refusal.TheVariants as refusal
 use Rattle.causal_model.specs.Stability.{stable_vector, is_stable}
-use Rattle.world_model.specs.World.{PlainWorld, size_of, replica_of, with_state, state_received}
-use Rattle.world_model.specs.Offering.{Offered, offered, offered_more, steps_received, is_accepted, none_offered, offered_between, outbox_in, world_resent}
+use Rattle.world_model.specs.World.{PlainWorld, size_of, replica_of, with_state}
+use Rattle.world_model.specs.Offering.{Offered, offered, offered_more, none_offered, offered_between, outbox_in, resend_at}
 use Rattle.world_model.specs.Worlds.{IsWorld}
 use Rattle.world_model.proofs.Commands.{offering_keeps_world, resending_keeps_world}
 use Rattle.world_model.proofs.Sent.{messages_fit, messages_carried}
 use Rattle.world.specs.Answers.{IsAfterSome}
+use Rattle.world.specs.Midst.{offered_first}
 use Rattle.world.specs.Shows.{NotedNode, state_of, Shows}
 use Rattle.world.specs.Steps.{OffersTo, OffersBetween, CanBeOffered, HasOffered}
-use Rattle.world.specs.declared.offering.Offers.{Offers}
+use Rattle.world.specs.declared.offering.Offers.{Offers as Made}
 use Rattle.world.proofs.Nodes.{StandsAt, within, state_shown, w_shown, limit_shown, n_shown}
-use Rattle.world.proofs.Changes.{changed_shows}
+use Rattle.world.proofs.Changes.{set_twice, changed_shows}
+use Rattle.world.proofs.Offers.{refused_offer}
 
 module _ (nodes : List NotedNode) (rows : List (List (List ℕ))) (plain : PlainWorld) (shows : Shows nodes rows plain) where
   -- a node's outbox is that of the plain replica, and its messages are of the store
@@ -85,13 +89,13 @@ module _ (nodes : List NotedNode) (rows : List (List (List ℕ))) (plain : Plain
 
 -- ---- own messages
 
-own_is_old : (w : ℕ) (s : State) (m : Message) → (m.origin == s.history.present.me) ≡ true → receiving w s m ≡ old
+own_is_old : (w : ℕ) (s : State) (m : Message) → (m.origin == s.history.present.me) ≡ true → refusal_of w s m ≡ Some refusal.Old
 own_is_old w s m own = rw own refl
 
 none_accepted : (w : ℕ) (s : State) (ms : List Message) → All (λ m. (m.origin == s.history.present.me) ≡ true) ms → offered w s ms ≡ none_offered s
 none_accepted w s [] own = refl
 none_accepted w s (m ∷ ms) own =
-    let first = ap (λ got. let o : Offered = record { state = state_received s got; steps = [] ++ steps_received got; kept = false || is_accepted got } in o) (own_is_old w s m (All-head (λ y. (y.origin == s.history.present.me) ≡ true) m ms own)) in
+    let first = sym (refused_offer w (none_offered s) m refusal.Old (own_is_old w s m (All-head (λ y. (y.origin == s.history.present.me) ≡ true) m ms own))) in
     ap (λ o. fold (offered_more w) o ms) first ∙ none_accepted w s ms (All-tail (λ y. (y.origin == s.history.present.me) ≡ true) m ms own)
 
 -- a replica accepts none of its own outbox
@@ -103,17 +107,12 @@ own_outbox plain r k same =
     ap (λ i. offered plain.w s (outbox_in (replica_of plain i))) (sym same)
     ∙ none_accepted plain.w s (outbox_in s) (λ i d l. filter_passes own (filter (λ m. not (is_stable (stable_vector h.n h.me h.messages) m)) h.messages) i d l)
 
-pub own_resent : (plain : PlainWorld) (r k : ℕ) → r ≡ k → world_resent plain r k ≡ plain
+pub own_resent : (plain : PlainWorld) (r k : ℕ) → r ≡ k → (resend_at r k plain).1 ≡ plain
 own_resent plain r k same =
     ap (λ (o : Offered). with_state plain r o.state) (own_outbox plain r k same)
     ∙ ap (λ l. let world : PlainWorld = record { w = plain.w; limit = plain.limit; replicas = l; sent = plain.sent } in world) (set-get_or plain.replicas r (start 0 0))
 
 -- ---- some messages of a store
-
-set_twice : {X : Type 0} (l : List X) (r : ℕ) (a b : X) → slice_set (slice_set l r a) r b ≡ slice_set l r b
-set_twice [] r a b = refl
-set_twice (x ∷ l) zero a b = refl
-set_twice (x ∷ l) (suc r) a b = ap (λ rest. x ∷ rest) (set_twice l r a b)
 
 some_keep : (plain : PlainWorld) (r : ℕ) → r < size_of plain → (o : Offered) (ms : List Message) → All (λ m. IsTrue (fits (size_of plain) m)) ms → All (λ m. IsTrue (is_carried plain.limit m)) ms
     → IsWorld (with_state plain r o.state) → IsWorld (with_state plain r (fold (offered_more plain.w) o ms).state)
@@ -123,8 +122,8 @@ some_keep plain r low o (m ∷ ms) fit carried world =
     let size : size_of before ≡ size_of plain = length-set plain.replicas r o.state in
     let next = (offering_keeps_world before r m world (omega (arith, low, size)) (subst (λ n. IsTrue (fits n m)) (sym size) (All-head (λ y. IsTrue (fits (size_of plain) y)) m ms fit)) (All-head (λ y. IsTrue (is_carried plain.limit y)) m ms carried)).is_world in
     let here : replica_of before r ≡ o.state = get_or-set_same plain.replicas r o.state (start 0 0) low in
-    let there = subst (λ s. IsWorld (with_state before r (state_received s (receiving plain.w s m)))) here next in
-    let after = state_received o.state (receiving plain.w o.state m) in
+    let there = subst (λ s. IsWorld (with_state before r (receive_rule plain.w m s).1)) here next in
+    let after = (receive_rule plain.w m o.state).1 in
     let twice = subst (λ l. IsWorld (record { w = plain.w; limit = plain.limit; replicas = l; sent = plain.sent })) (set_twice plain.replicas r o.state after) there in
     some_keep plain r low (offered_more plain.w o m) ms (All-tail (λ y. IsTrue (fits (size_of plain) y)) m ms fit) (All-tail (λ y. IsTrue (is_carried plain.limit y)) m ms carried) twice
 
@@ -132,55 +131,55 @@ some_keep plain r low o (m ∷ ms) fit carried world =
 as_it_was : (plain : PlainWorld) (r : ℕ) → IsWorld plain → IsWorld (with_state plain r (replica_of plain r))
 as_it_was plain r is = subst (λ l. IsWorld (record { w = plain.w; limit = plain.limit; replicas = l; sent = plain.sent })) (sym (set-get_or plain.replicas r (start 0 0))) is
 
--- what comes of offering an outbox
-abbrev pub Comes : PlainWorld → ℕ → ℕ → Result Offers NoMemory → (PlainWorld → Type 0) → Type 0
-Comes plain r k (Ok made) Leaves = HasOffered (offered_between plain r k) made × Leaves (world_resent plain r k)
-Comes plain r k (Err e) Leaves = IsAfterSome plain r k Leaves
+-- what comes of offering an outbox: all of it is, or memory ended after the first of its messages
+abbrev pub Offers : PlainWorld → ℕ → ℕ → Result Made NoMemory → (PlainWorld → Type 0) → Type 0
+Offers plain r k (Ok made) Leaves = HasOffered (offered_between plain r k) made × Leaves (resend_at r k plain).1
+Offers plain r k (Err e) Leaves = (midst : PlainWorld) × IsAfterSome r k plain midst × Leaves midst
 
-pub comes_made : (plain : PlainWorld) (r k : ℕ) (result : Result Offers NoMemory) (Leaves : PlainWorld → Type 0) → Comes plain r k result Leaves → IfOk result (λ made. HasOffered (offered_between plain r k) made)
-comes_made plain r k (Ok made) Leaves comes = comes.0
-comes_made plain r k (Err e) Leaves comes = tt
+pub offers_made : (plain : PlainWorld) (r k : ℕ) (result : Result Made NoMemory) (Leaves : PlainWorld → Type 0) → Offers plain r k result Leaves → IfOk result (λ made. HasOffered (offered_between plain r k) made)
+offers_made plain r k (Ok made) Leaves offers = offers.0
+offers_made plain r k (Err e) Leaves offers = tt
 
-pub comes_world : (plain : PlainWorld) (r k : ℕ) (result : Result Offers NoMemory) (Leaves : PlainWorld → Type 0) → Comes plain r k result Leaves → IfOk result (λ made. Leaves (world_resent plain r k))
-comes_world plain r k (Ok made) Leaves comes = comes.1
-comes_world plain r k (Err e) Leaves comes = tt
+pub offers_world : (plain : PlainWorld) (r k : ℕ) (result : Result Made NoMemory) (Leaves : PlainWorld → Type 0) → Offers plain r k result Leaves → IfOk result (λ made. Leaves (resend_at r k plain).1)
+offers_world plain r k (Ok made) Leaves offers = offers.1
+offers_world plain r k (Err e) Leaves offers = tt
 
-pub comes_some : (plain : PlainWorld) (r k : ℕ) (result : Result Offers NoMemory) (Leaves : PlainWorld → Type 0) → Comes plain r k result Leaves → OnErr result (IsAfterSome plain r k Leaves)
-comes_some plain r k (Ok made) Leaves comes = tt
-comes_some plain r k (Err e) Leaves comes = comes
+pub offers_some : (plain : PlainWorld) (r k : ℕ) (result : Result Made NoMemory) (Leaves : PlainWorld → Type 0) → Offers plain r k result Leaves → OnErr result ((midst : PlainWorld) × IsAfterSome r k plain midst × Leaves midst)
+offers_some plain r k (Ok made) Leaves offers = tt
+offers_some plain r k (Err e) Leaves offers = offers
 
-pub comes_leaves : (plain : PlainWorld) (r k : ℕ) (result : Result Offers NoMemory) (Leaves : PlainWorld → Type 0) → Comes plain r k result Leaves → (p : PlainWorld) × Leaves p
-comes_leaves plain r k (Ok made) Leaves comes = (_, comes.1)
-comes_leaves plain r k (Err e) Leaves comes = (_, comes.shows)
+pub offers_leave : (plain : PlainWorld) (r k : ℕ) (result : Result Made NoMemory) (Leaves : PlainWorld → Type 0) → Offers plain r k result Leaves → (p : PlainWorld) × Leaves p
+offers_leave plain r k (Ok made) Leaves offers = ((resend_at r k plain).1, offers.1)
+offers_leave plain r k (Err e) Leaves offers = (offers.0, offers.2)
 
 module _ (nodes : List NotedNode) (rows : List (List (List ℕ))) (plain : PlainWorld) (shows : Shows nodes rows plain) (r k : ℕ) (low : r < length nodes) (under : k < length nodes) (left : List NotedNode) where
   -- at two nodes
-  comes_at : (to of new : NotedNode) → StandsAt nodes r to → StandsAt nodes k of → (result : Result Offers NoMemory) → OffersTo to of.inner.outbox.messages result new → Comes plain r k result (Shows (slice_set nodes r new) rows)
-  comes_at to of new to_stands of_stands (Ok made) is =
+  offers_at : (to of new : NotedNode) → StandsAt nodes r to → StandsAt nodes k of → (result : Result Made NoMemory) → OffersTo to of.inner.outbox.messages result new → Offers plain r k result (Shows (slice_set nodes r new) rows)
+  offers_at to of new to_stands of_stands (Ok made) is =
       let whole = is.1 ∙ alike_offers nodes rows plain shows r k to of to_stands of_stands in (
         record { steps = ap (λ (o : Offered). o.steps) whole; kept = ap (λ (o : Offered). o.kept) whole },
         changed_shows nodes rows plain shows r to to_stands new is.0 (offered_between plain r k).state (ap (λ (o : Offered). o.state) whole)
             (resending_keeps_world plain r k shows.is_world (within nodes rows plain shows r to to_stands)).is_world,
       )
-  comes_at to of new to_stands of_stands (Err e) is =
+  offers_at to of new to_stands of_stands (Err e) is =
       let j = is.1.0 in
       let ms = outbox_in (replica_of plain k) in
       let inside = within nodes rows plain shows r to to_stands in
       let parts = outbox_fits nodes rows plain shows k (within nodes rows plain shows k of of_stands) in
-      let world = some_keep plain r inside (none_offered (replica_of plain r)) (take j ms) (All-take (λ m. IsTrue (fits (size_of plain) m)) j ms parts.0) (All-take (λ m. IsTrue (is_carried plain.limit m)) j ms parts.1) (as_it_was plain r shows.is_world) in
-      record {
-        count = j;
-        shows = changed_shows nodes rows plain shows r to to_stands new is.0 (offered plain.w (replica_of plain r) (take j ms)).state
-            (is.1.1 ∙ ap (λ (o : Offered). o.state) (alike_some nodes rows plain shows r k to of to_stands of_stands j)) world;
-      }
+      let world = some_keep plain r inside (none_offered (replica_of plain r)) (take j ms) (All-take (λ m. IsTrue (fits (size_of plain) m)) j ms parts.0) (All-take (λ m. IsTrue (is_carried plain.limit m)) j ms parts.1) (as_it_was plain r shows.is_world) in (
+        offered_first j plain r k,
+        (j, refl),
+        changed_shows nodes rows plain shows r to to_stands new is.0 (offered plain.w (replica_of plain r) (take j ms)).state
+            (is.1.1 ∙ ap (λ (o : Offered). o.state) (alike_some nodes rows plain shows r k to of to_stands of_stands j)) world,
+      )
 
-  pub outbox_comes : (result : Result Offers NoMemory) → OffersBetween nodes r k result left → Comes plain r k result (Shows left rows)
-  outbox_comes result between =
+  pub outbox_offers : (result : Result Made NoMemory) → OffersBetween nodes r k result left → Offers plain r k result (Shows left rows)
+  outbox_offers result between =
       elim (slice_get_cases nodes r).1 [
         | inl here ↦ elim (slice_get_cases nodes k).1 [
           | inl there ↦
-              subst (λ l. Comes plain r k result (Shows l rows)) (sym between.are)
-              (comes_at here.0 there.0 between.new (record { low = low; at = sym here.3 }) (record { low = under; at = sym there.3 }) result (between.each here.0 there.0 here.2 there.2))
+              subst (λ l. Offers plain r k result (Shows l rows)) (sym between.are)
+              (offers_at here.0 there.0 between.new (record { low = low; at = sym here.3 }) (record { low = under; at = sym there.3 }) result (between.each here.0 there.0 here.2 there.2))
           | inr past ↦ absurd (omega (arith, past.0, under))
         ]
         | inr past ↦ absurd (omega (arith, past.0, low))

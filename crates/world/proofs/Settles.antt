@@ -10,11 +10,11 @@ use Rattle.std.proofs.lemmas.List.Sums.{fold-append}
 use Rattle.op_base.specs.declared.memory.NoMemory.{NoMemory}
 use Rattle.causal_model.specs.Counts.{members}
 use Rattle.world_model.specs.World.{PlainWorld, size_of}
-use Rattle.world_model.specs.Settling.{Round, after_offers, after_beat, after_offer, offers_made, round_of, rounds_within, most_rounds, world_settled, is_settled}
+use Rattle.world_model.specs.Settling.{Round, after_offers, after_beat, after_offer, offers_made, round_of, rounds_within, most_rounds, world_settled, is_quiescent}
 use Rattle.world_model.specs.Showing.{seen_at}
 use Rattle.world_model.proofs.Shown.{settled_is_equal_counts}
-use Rattle.world.specs.Answers.{ShowsPlain, IsInMidst}
-use Rattle.world.specs.Midst.{offered_first, IsAmongOffers, rounds_made}
+use Rattle.world.specs.Answers.{ShowsPlain}
+use Rattle.world.specs.Midst.{offered_first, IsAmongOffers, IsInSettling, rounds_made}
 use Rattle.world.specs.Shows.{NotedNode}
 use Rattle.world.specs.declared.world.World.{World}
 use Rattle.world.proofs.Nodes.{size_shown, limit_shown, StandsAt}
@@ -120,18 +120,18 @@ pub rounds_are_all : (plain : PlainWorld) (k : ℕ) (Leaves : PlainWorld → Typ
 rounds_are_all plain k Leaves e here = subst Leaves (sym (ap (λ n. rounds_within n plain) (sym e ∙ sym (add-zero k)) ∙ rounds_from k 0 plain here.moved)) here.shows
 
 -- memory ended in the next round
-pub stops_in_settling : (plain : PlainWorld) (k : ℕ) (Shows Leaves : PlainWorld → Type 0) → AreMade plain k Shows → ((w : PlainWorld) → Shows w → StopsIn (IsInRound w) Leaves) → IsInMidst plain Leaves
+pub stops_in_settling : (plain : PlainWorld) (k : ℕ) (Shows Leaves : PlainWorld → Type 0) → AreMade plain k Shows → ((w : PlainWorld) → Shows w → StopsIn (IsInRound w) Leaves) → (midst : PlainWorld) × IsInSettling plain midst × Leaves midst
 stops_in_settling plain k Shows Leaves here step =
     let e = step (rounds_made k plain) here.shows in
-    record { midst = e.midst; passed = record { rounds = k; moved = here.moved; is = e.passed }; shows = e.shows }
+    (e.midst, record { rounds = k; moved = here.moved; is = e.passed }, e.shows)
 
 -- ---- equal counts
 
-pub is_settled_where : (plain : PlainWorld) (n : ℕ) → n ≡ size_of plain → ((r : ℕ) → r < n → seen_at plain r ≡ seen_at plain 0) → true ≡ is_settled plain
-is_settled_where plain n e each = sym ((settled_is_equal_counts plain).1 (λ r l. each r (omega (arith, l, e))))
+pub is_quiescent_where : (plain : PlainWorld) (n : ℕ) → n ≡ size_of plain → ((r : ℕ) → r < n → seen_at plain r ≡ seen_at plain 0) → true ≡ is_quiescent plain
+is_quiescent_where plain n e each = sym ((settled_is_equal_counts plain).1 (λ r l. each r (omega (arith, l, e))))
 
-pub is_unsettled_where : (plain : PlainWorld) (r : ℕ) → r < size_of plain → (seen_at plain r ≡ seen_at plain 0 → ⊥) → false ≡ is_settled plain
-is_unsettled_where plain r l differ = by (is_settled plain) (settled_is_equal_counts plain).0 where
+pub isnt_quiescent_where : (plain : PlainWorld) (r : ℕ) → r < size_of plain → (seen_at plain r ≡ seen_at plain 0 → ⊥) → false ≡ is_quiescent plain
+isnt_quiescent_where plain r l differ = by (is_quiescent plain) (settled_is_equal_counts plain).0 where
   by : (b : Bool) → (b ≡ true → (q : ℕ) → q < size_of plain → seen_at plain q ≡ seen_at plain 0) → false ≡ b
   by false h = refl
   by true h = absurd (differ (h refl r l))

@@ -2,17 +2,17 @@
 use Rattle.std.specs.Prelude.{◌≡◌, ℕ, ◌<◌, Bool, true, false, []}
 use Rattle.std.specs.List.{list_all}
 use Rattle.honest_worlds.specs.Laws.{HaveSameEvents, AreBelowLimit}
-use Rattle.replica_core.specs.declared.answers.Receive.{Receive}
-use Rattle.replica_core.specs.declared.answers.Receive.TheVariants as receive
+use Rattle.causal_model.specs.declared.outcome.Receive.{Receive}
+use Rattle.causal_model.specs.declared.outcome.Receive.TheVariants as receive
 use Rattle.world_model.specs.Honest.{IsHonest}
 use Rattle.world_model.specs.Settling.{is_delivery}
 use Rattle.world_model.specs.Showing.{log_at}
 use Rattle.world_model.specs.World.{PlainWorld, size_of}
 use Rattle.world.specs.Answers.{ShowsPlain}
-use Rattle.world.specs.declared.answers.Given.{Given}
-use Rattle.world.specs.declared.answers.Given.TheVariants as given
-use Rattle.world.specs.declared.answers.Resent.{Resent}
-use Rattle.world.specs.declared.answers.Resent.TheVariants as resent
+use Rattle.world_model.specs.declared.outcome.Given.{Given}
+use Rattle.world_model.specs.declared.outcome.Given.TheVariants as given
+use Rattle.world_model.specs.declared.outcome.Resent.{Resent}
+use Rattle.world_model.specs.declared.outcome.Resent.TheVariants as resent
 use Rattle.world.specs.declared.world.World.{World}
 
 -- a world shows an honest plain world

@@ -1,26 +1,24 @@
 -- What the nodes of a world are left with by the parts of its calls.
-use Rattle.std.specs.Prelude.{◌≡◌, ℕ, List, [], ◌∷◌, map, take, slice_get, slice_set, IsTrue, Some, Result, Ok, Err, All}
+use Rattle.std.specs.Prelude.{◌≡◌, ℕ, List, [], map, take, slice_get, slice_set, IsTrue, Some, Result, Ok, Err, All}
 use Rattle.op_base.specs.Message.{id_of, fits}
 use Rattle.op_base.specs.declared.memory.NoMemory.{NoMemory}
 use Rattle.op_base.specs.declared.message.Message.{Message}
 use Rattle.op_base.specs.declared.tag.MessageId.{MessageId}
 use Rattle.causal_model.specs.Counts.{members, is_carried}
-use Rattle.causal_model.specs.Receiving.{State, start}
+use Rattle.causal_model.specs.State.{State, start}
+use Rattle.causal_model.specs.Journal.{receive_notes}
+use Rattle.causal_model.specs.Receiving.{receive_rule}
 use Rattle.causal_model.specs.declared.note.Note.{Note}
-use Rattle.frame_codec.specs.Grammar.{frame_of, IsFrame}
+use Rattle.causal_model.specs.declared.outcome.Receive.{Receive}
+use Rattle.causal_model.specs.declared.outcome.Receive.TheVariants as receive
+use Rattle.frame_codec.specs.Grammar.{IsFrame}
 use Rattle.frame_codec.specs.Message.{frame_read}
-use Rattle.frame_codec.specs.declared.version.Version.TheVariants.{Two}
-use Rattle.replica_core.specs.declared.answers.Local.{Local}
-use Rattle.replica_core.specs.declared.answers.Local.TheVariants as local
-use Rattle.replica_core.specs.declared.answers.Beat.{Beat}
-use Rattle.replica_core.specs.declared.answers.Beat.TheVariants as beat
-use Rattle.replica_node.specs.Rules.{NotesNothing, NotesReceive}
-use Rattle.world_model.specs.Offering.{Offered, offered, Resending, takes, keeps, nothing}
+use Rattle.frame_codec.specs.declared.fault.FrameFault.{FrameFault}
+use Rattle.replica_node.specs.Rules.{noting}
+use Rattle.world_model.specs.Offering.{Offered, offered}
+use Rattle.world_model.specs.declared.outcome.RawGot.{RawGot}
+use Rattle.world_model.specs.declared.outcome.RawGot.TheVariants as raw
 use Rattle.world.specs.Shows.{NotedNode, state_of}
-use Rattle.world.specs.declared.answers.RawGot.{RawGot}
-use Rattle.world.specs.declared.answers.RawGot.TheVariants as raw
-use Rattle.world.specs.declared.answers.Resent.{Resent}
-use Rattle.world.specs.declared.answers.Resent.TheVariants as resent
 use Rattle.world.specs.declared.offering.Offers.{Offers}
 
 -- the nodes of the first members, which have noted nothing
@@ -40,37 +38,23 @@ pub record SameNode (before new : NotedNode) : Type 0 where
   pub w : new.inner.w ≡ before.inner.w
   pub limit : new.inner.limit ≡ before.inner.limit
 
--- the frame of what was sent in a store of n members, where something was
-abbrev pub frames_of_local : ℕ → Local → List (List ℕ)
-frames_of_local n (local.Sent m) = frame_of Two n 0 m ∷ []
-frames_of_local n local.Busy = []
-frames_of_local n local.End = []
-frames_of_local n local.NoMemory = []
-
-abbrev pub frames_of_beat : ℕ → Beat → List (List ℕ)
-frames_of_beat n (beat.Sent m) = frame_of Two n 0 m ∷ []
-frames_of_beat n beat.Quiet = []
-frames_of_beat n beat.Held = []
-frames_of_beat n beat.End = []
-frames_of_beat n beat.NoMemory = []
-
 -- a message of a store that is sent as a frame, and its id
 pub record IsFrameOf (n limit : ℕ) (given : MessageId) (frame : List ℕ) (m : Message) : Type 0 where
   pub is : IsFrame n 0 limit frame m
   pub id : id_of m ≡ given
 
--- bytes are read as a message that can be received
-pub record IsRead (n limit : ℕ) (bytes : List ℕ) (m : Message) : Type 0 where
-  pub is : frame_read n 0 limit bytes ≡ Ok m
-  pub fit : IsTrue (fits n m)
-  pub carried : IsTrue (is_carried limit m)
+-- offering bytes to a node of a store of n members, as a rule of its notes
+abbrev pub raw_noting_of : ℕ × ℕ → ℕ → List Note → Result Message FrameFault → RawGot × List Note
+raw_noting_of first w notes (Ok m) = let made = noting first (receive_notes m) (receive_rule w m) notes in (raw.Got made.0, made.1)
+raw_noting_of first w notes (Err fault) = (raw.Bad fault, notes)
 
--- what comes of bytes at a node of a store of n members, for the notes before and after
-module _ (n w limit : ℕ) (first : ℕ × ℕ) (before after : List Note) where
-  abbrev pub NotesRaw : List ℕ → RawGot → Type 0
-  NotesRaw bytes (raw.Bad fault) = (frame_read n 0 limit bytes ≡ Err fault) × NotesNothing w limit first before after
-  NotesRaw bytes (raw.Got answer) = (m : Message) × IsRead n limit bytes m × NotesReceive w limit first before after m answer
-  NotesRaw bytes raw.NoMemory = NotesNothing w limit first before after
+abbrev pub raw_noting : ℕ × ℕ → ℕ → ℕ → ℕ → List ℕ → List Note → RawGot × List Note
+raw_noting first n w limit bytes notes = raw_noting_of first w notes (frame_read n 0 limit bytes)
+
+-- what bytes come to, by what came of their message
+abbrev pub raw_got : Receive → RawGot
+raw_got receive.NoMemory = raw.NoMemory
+raw_got answer = raw.Got answer
 
 -- what has come of offers at a node
 abbrev pub offered_at : NotedNode → Offers → Offered
@@ -104,9 +88,3 @@ pub record OffersBetween (nodes : List NotedNode) (r k : ℕ) (result : Result O
   pub new : NotedNode
   pub are : left ≡ slice_set nodes r new
   pub each : (node other : NotedNode) → slice_get nodes r ≡ Some node → slice_get nodes k ≡ Some other → OffersTo node other.inner.outbox.messages result new
-
--- what a resend answers by what has come of its offers
-abbrev pub IsResent : Resending → Resent → Type 0
-IsResent (takes steps) result = result ≡ resent.Took steps
-IsResent keeps result = result ≡ resent.Kept
-IsResent nothing result = result ≡ resent.Nothing

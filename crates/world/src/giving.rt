@@ -1,21 +1,26 @@
 //! Giving single messages and bytes to a replica of the world.
 
-ghost use Rattle.std.specs.Prelude.{◌≡◌, ◌<◌, length, IsTrue};
+ghost use Rattle.std.specs.Prelude.{◌≡◌, ◌<◌, List, length, IsTrue};
 ghost use Rattle.op_base.specs.declared.message.Message.{Message};
-ghost use Rattle.replica_node.specs.Rules.{NotesReceive};
-ghost use Rattle.world_model.specs.World.{PlainWorld};
-ghost use Rattle.world.specs.Steps.{SameNode, IsFrameOf, NotesRaw};
+ghost use Rattle.causal_model.specs.Follows.{Follows};
+ghost use Rattle.causal_model.specs.Journal.{receive_notes};
+ghost use Rattle.causal_model.specs.Receiving.{receive_rule};
+ghost use Rattle.causal_model.specs.declared.note.Note.{Note};
+ghost use Rattle.replica_node.specs.Rules.{noting};
+ghost use Rattle.world_model.specs.Raw.{is_frame, raw_at};
+ghost use Rattle.world_model.specs.World.{give_at, takes_frame, wants_frame};
+ghost use Rattle.world.specs.Steps.{SameNode, IsFrameOf, raw_noting, raw_got};
 
-use crate::answers::{Given, RawGot};
 use crate::world::World;
+use causal_model::Receive;
 use frame_codec::{DecodeFault, decode};
-use op_base::{MessageId, operations_are_valid};
-use replica_core::{Receive, Refusal};
+use op_base::MessageId;
 use replica_node::{Journal, Node};
 use std::alloc::Global;
+use world_model::{Given, RawGot};
 
 impl World {
-    ghost use Rattle.world.specs.Answers.{ShowsPlain, AnswersGive, AnswersRaw};
+    ghost use Rattle.world.specs.Answers.{ShowsPlain};
     ghost use Rattle.world.specs.Honest.{ShowsHonest, is_fair_given};
 
     /// Offers the message of member `k` with a number to replica `r`. Nothing is read of a message that came before or is
@@ -23,7 +28,7 @@ impl World {
     pub fn give(&mut self, alloc: Global, r: u8, k: u8, seq: u32) -> Given
         requires to { r < length self.old.nodes.items }
         requires of { k < length self.old.nodes.items }
-        ensures answer { (plain : PlainWorld) → ShowsPlain self.old plain → AnswersGive plain r k seq result (ShowsPlain self.new) }
+        ensures answer { Follows ShowsPlain (Given.Got Receive.NoMemory) takes_frame (give_at r k seq) self.old result self.new }
         ensures honest { ShowsHonest self.old → ShowsHonest self.new }
         ensures fair { ShowsHonest self.old → IsTrue (is_fair_given result) }
         ensures members { length self.new.nodes.items ≡ length self.old.nodes.items }
@@ -44,7 +49,7 @@ impl World {
     /// `NoMemory` the world is as it was.
     pub fn raw(&mut self, alloc: Global, r: u8, bytes: &[u8]) -> RawGot
         requires { r < length self.old.nodes.items }
-        ensures answer { (plain : PlainWorld) → ShowsPlain self.old plain → AnswersRaw plain r bytes.now result (ShowsPlain self.new) }
+        ensures answer { Follows ShowsPlain RawGot.NoMemory is_frame (raw_at r bytes.now) self.old result self.new }
         ensures members { length self.new.nodes.items ≡ length self.old.nodes.items }
     {
         offer_bytes(alloc, &mut self.nodes[r as usize], bytes)
@@ -57,19 +62,14 @@ fn offer_frame(alloc: Global, node: &mut Node<Journal>, id: MessageId, frame: &[
     requires of { id.origin < node.old.inner.n }
     requires frame { ∥ ((m : Message) × IsFrameOf node.old.inner.n node.old.inner.limit id frame.now m) ∥₁ }
     ensures answer { (m : Message) → IsFrameOf node.old.inner.n node.old.inner.limit id frame.now m
-        → NotesReceive node.old.inner.w node.old.inner.limit node.old.first node.old.journal.notes node.new.journal.notes m result }
+        → Follows (λ (there ns : List Note). there ≡ ns) Receive.NoMemory wants_frame (noting node.old.first (receive_notes m) (receive_rule node.old.inner.w m)) node.old.journal.notes result node.new.journal.notes }
     ensures same { SameNode node.old node.new }
 {
-    match node.inner.known(id) {
-        Some(Refusal::Old) => return Receive::Old,
-        Some(Refusal::Again) => return Receive::Again,
-        _ => {}
+    if let Some(refusal) = node.inner.known(id) {
+        return refusal.answer();
     }
     match decode(alloc, frame, node.inner.n, 0, node.inner.limit) {
-        Ok(message) => {
-            operations_are_valid(&message.op);
-            node.receive(alloc, message)
-        }
+        Ok(message) => node.receive(alloc, message),
         // It is the frame of a message, so only memory can be wanting.
         Err(_) => Receive::NoMemory,
     }
@@ -77,15 +77,22 @@ fn offer_frame(alloc: Global, node: &mut Node<Journal>, id: MessageId, frame: &[
 
 /// Offers the message of bytes to a node, where they are a frame.
 fn offer_bytes(alloc: Global, node: &mut Node<Journal>, bytes: &[u8]) -> RawGot
-    ensures answer { NotesRaw node.old.inner.n node.old.inner.w node.old.inner.limit node.old.first node.old.journal.notes node.new.journal.notes bytes.now result }
+    ensures answer { Follows (λ (there ns : List Note). there ≡ ns) RawGot.NoMemory is_frame (raw_noting node.old.first node.old.inner.n node.old.inner.w node.old.inner.limit bytes.now) node.old.journal.notes result node.new.journal.notes }
     ensures same { SameNode node.old node.new }
 {
     match decode(alloc, bytes, node.inner.n, 0, node.inner.limit) {
-        Ok(message) => {
-            operations_are_valid(&message.op);
-            RawGot::Got(node.receive(alloc, message))
-        }
+        Ok(message) => raw_got(node.receive(alloc, message)),
         Err(DecodeFault::NoMemory) => RawGot::NoMemory,
         Err(DecodeFault::Frame(fault)) => RawGot::Bad(fault),
+    }
+}
+
+/// What bytes come to, by what came of their message.
+fn raw_got(answer: Receive) -> RawGot
+    ensures { result ≡ raw_got answer }
+{
+    match answer {
+        Receive::NoMemory => RawGot::NoMemory,
+        answer => RawGot::Got(answer),
     }
 }

@@ -4,7 +4,6 @@
 //! What calls there are, and settling by rounds, is this project's own profile.
 #![tactic(auto)]
 
-mod answers;
 mod giving;
 mod lagging;
 mod offering;
@@ -14,5 +13,5 @@ mod settling;
 mod tests;
 mod world;
 
-pub use answers::{Given, RawGot, Resent, Settle};
 pub use world::{FrameTable, NodeList, World};
+pub use world_model::{Given, RawGot, Resent, Settle};

@@ -3,17 +3,17 @@
 ghost use Rattle.std.specs.Prelude.{◌≡◌, ◌≢◌, ◌⊎◌, ◌<◌, length, IsTrue, All, IfOk, OnOk, OnErr};
 ghost use Rattle.op_base.specs.Message.{fits};
 ghost use Rattle.causal_model.specs.Counts.{is_carried};
+ghost use Rattle.causal_model.specs.Follows.{FollowsOrStops};
 ghost use Rattle.world_model.specs.World.{PlainWorld};
-ghost use Rattle.world_model.specs.Offering.{offered, offered_more, offered_between, world_resent, resending_of};
+ghost use Rattle.world_model.specs.Offering.{offered, offered_more, offered_between, resend_at, resent_of};
 ghost use Rattle.world.specs.Shows.{state_of};
-ghost use Rattle.world.specs.Steps.{SameNode, OffersSome, OffersBetween, CanBeOffered, HasOffered, IsResent, offered_at};
+ghost use Rattle.world.specs.Steps.{SameNode, OffersSome, OffersBetween, CanBeOffered, HasOffered, offered_at};
 
-use crate::answers::Resent;
 use crate::world::World;
 use op_base::{Message, NoMemory, Step, StepList};
-use replica_core::Receive;
 use replica_node::{Journal, Node};
 use std::alloc::Global;
+use world_model::Resent;
 
 /// What has come of offers: the steps, and whether a message was accepted.
 #[derive(Drop)]
@@ -23,7 +23,7 @@ pub struct Offers {
 }
 
 impl World {
-    ghost use Rattle.world.specs.Answers.{ShowsPlain, AnswersResend, IsAfterSome};
+    ghost use Rattle.world.specs.Answers.{ShowsPlain, IsAfterSome};
     ghost use Rattle.world.specs.Honest.{ShowsHonest, is_fair_resent};
 
     /// Offers the outbox of member `k` to replica `r`, oldest first. After `NoMemory` the first of its messages were
@@ -31,7 +31,7 @@ impl World {
     pub fn resend(&mut self, alloc: Global, r: u8, k: u8) -> Resent
         requires to { r < length self.old.nodes.items }
         requires of { k < length self.old.nodes.items }
-        ensures answer { (plain : PlainWorld) → ShowsPlain self.old plain → AnswersResend plain r k result (ShowsPlain self.new) }
+        ensures answer { FollowsOrStops ShowsPlain Resent.NoMemory (IsAfterSome r k) (resend_at r k) self.old result self.new }
         ensures honest { ShowsHonest self.old → ShowsHonest self.new }
         ensures fair { ShowsHonest self.old → IsTrue (is_fair_resent result) }
         ensures members { length self.new.nodes.items ≡ length self.old.nodes.items }
@@ -47,8 +47,8 @@ impl World {
         requires to { r < length self.old.nodes.items }
         requires of { k < length self.old.nodes.items }
         ensures made { (plain : PlainWorld) → ShowsPlain self.old plain → IfOk result (λ made. HasOffered (offered_between plain r k) made) }
-        ensures world { (plain : PlainWorld) → ShowsPlain self.old plain → IfOk result (λ made. ShowsPlain self.new (world_resent plain r k)) }
-        ensures some { (plain : PlainWorld) → ShowsPlain self.old plain → OnErr result (IsAfterSome plain r k (ShowsPlain self.new)) }
+        ensures world { (plain : PlainWorld) → ShowsPlain self.old plain → IfOk result (λ made. ShowsPlain self.new (resend_at r k plain).1) }
+        ensures some { (plain : PlainWorld) → ShowsPlain self.old plain → OnErr result ((midst : PlainWorld) × IsAfterSome r k plain midst × ShowsPlain self.new midst) }
         ensures members { length self.new.nodes.items ≡ length self.old.nodes.items }
     {
         if r == k {
@@ -64,7 +64,7 @@ impl World {
 
 /// What comes of a resend, by what has come of its offers.
 fn resent_of(made: Offers) -> Resent
-    ensures { IsResent (resending_of made.steps.items made.kept) result }
+    ensures { result ≡ resent_of made.steps.items made.kept }
 {
     if !made.steps.is_empty() {
         Resent::Took(StepList::from_vec(made.steps))
@@ -136,18 +136,8 @@ fn offer_one(
         return Ok(());
     }
     let message = message.copy(alloc)?;
-    match node.receive(alloc, message) {
-        Receive::Kept => {
-            made.kept = true;
-            Ok(())
-        }
-        Receive::Took(steps) => {
-            made.kept = true;
-            made.steps.extend_from_slice(steps.as_slice())?;
-            Ok(())
-        }
-        Receive::NoMemory => Err(NoMemory),
-        // It isn't refused.
-        Receive::Old | Receive::Again | Receive::Far => Ok(()),
-    }
+    let steps = node.accept(alloc, message)?;
+    made.kept = true;
+    made.steps.extend_from_slice(steps.as_slice())?;
+    Ok(())
 }

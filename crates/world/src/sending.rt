@@ -1,27 +1,35 @@
 //! Sending at a replica of the world.
 
-ghost use Rattle.std.specs.Prelude.{◌≡◌, ◌≢◌, ◌<◌, ◌++◌, length, IsTrue, IfOk, vec_len, vec_capacity};
+ghost use Rattle.std.specs.Prelude.{◌≡◌, ◌≢◌, ◌<◌, ◌++◌, ◌∷◌, [], List, map, length, IsTrue, IfOk, OnErr};
 ghost use Rattle.op_base.specs.Message.{fits};
+ghost use Rattle.causal_model.specs.Follows.{Follows};
+ghost use Rattle.causal_model.specs.Journal.{local_notes, beat_notes};
+ghost use Rattle.causal_model.specs.Sending.{is_sent, is_beat, local_messages, beat_messages, local_rule, beat_rule};
+ghost use Rattle.causal_model.specs.State.{State};
+ghost use Rattle.causal_model.specs.declared.note.Note.{Note};
+ghost use Rattle.causal_model.specs.declared.note.Note.TheVariants as notes;
 ghost use Rattle.frame_codec.specs.Grammar.{frame_of};
-ghost use Rattle.replica_node.specs.Rules.{NotesLocal, NotesBeat};
-ghost use Rattle.world_model.specs.World.{PlainWorld};
-ghost use Rattle.world.specs.Steps.{SameNode, frames_of_local, frames_of_beat};
+ghost use Rattle.replica_core.specs.Rules.{StandsFor, IsDraft};
+ghost use Rattle.replica_node.specs.Rules.{noting};
+ghost use Rattle.world_model.specs.World.{local_at, beat_at};
+ghost use Rattle.world.specs.Steps.{SameNode};
 
 use crate::world::World;
+use causal_model::{Beat, Local};
 use frame_codec::{Version, encode};
-use op_base::{ByteList, Message, NoMemory, Op, Update, updates_are_valid};
-use replica_core::{Beat, Local};
+use op_base::{ByteList, Message, NoMemory, Update, updates_are_valid};
 use replica_node::{Journal, Node};
 use std::alloc::Global;
 
 impl World {
-    ghost use Rattle.world.specs.Answers.{ShowsPlain, AnswersLocal, AnswersBeat};
+    ghost use Rattle.world.specs.Answers.{ShowsPlain};
     ghost use Rattle.world.specs.Honest.{ShowsHonest};
 
-    /// Sends an update at replica `r`, and keeps the frame of what was sent. Every refusal leaves the world as it was.
+    /// Sends an update at replica `r`, and keeps the frame of what was sent. Every refusal leaves the world as it was, and
+    /// memory is wanted only where it would send.
     pub fn local(&mut self, alloc: Global, r: u8, update: &Update) -> Local
         requires { r < length self.old.nodes.items }
-        ensures answer { (plain : PlainWorld) → ShowsPlain self.old plain → AnswersLocal plain r update.now result (ShowsPlain self.new) }
+        ensures answer { Follows ShowsPlain Local.NoMemory is_sent (local_at r update.now) self.old result self.new }
         ensures honest { ShowsHonest self.old → ShowsHonest self.new }
         ensures members { length self.new.nodes.items ≡ length self.old.nodes.items }
     {
@@ -31,10 +39,11 @@ impl World {
         send(alloc, node, frames, update)
     }
 
-    /// Sends a no-op at replica `r`, where one is due, and keeps its frame. Every refusal leaves the world as it was.
+    /// Sends a no-op at replica `r`, where one is due, and keeps its frame. Every refusal leaves the world as it was, and
+    /// memory is wanted only where it would send.
     pub fn beat(&mut self, alloc: Global, r: u8) -> Beat
         requires { r < length self.old.nodes.items }
-        ensures answer { (plain : PlainWorld) → ShowsPlain self.old plain → AnswersBeat plain r result (ShowsPlain self.new) }
+        ensures answer { Follows ShowsPlain Beat.NoMemory is_beat (beat_at r) self.old result self.new }
         ensures honest { ShowsHonest self.old → ShowsHonest self.new }
         ensures free { ShowsHonest self.old → result ≢ Beat.Held }
         ensures members { length self.new.nodes.items ≡ length self.old.nodes.items }
@@ -52,70 +61,57 @@ fn send(
     frames: &mut Vec<ByteList>,
     update: &Update,
 ) -> Local
-    ensures answer { NotesLocal node.old.inner.w node.old.inner.limit node.old.first node.old.journal.notes node.new.journal.notes update.now result }
+    ensures answer { Follows (λ (there ns : List Note). there ≡ ns) Local.NoMemory is_sent (noting node.old.first local_notes (local_rule node.old.inner.w node.old.inner.limit update.now)) node.old.journal.notes result node.new.journal.notes }
     ensures same { SameNode node.old node.new }
-    ensures frames { frames.new.items ≡ frames.old.items ++ frames_of_local node.old.inner.n result }
+    ensures frames { frames.new.items ≡ frames.old.items ++ map (frame_of Version.Two node.old.inner.n 0) (local_messages result) }
 {
-    if node.inner.is_busy() {
-        return Local::Busy;
-    }
-    if node.inner.has_ended() {
-        return Local::End;
-    }
-    let Ok(copy) = update.copy(alloc) else {
-        return Local::NoMemory;
+    let message = match node.inner.draft(alloc, update) {
+        Ok(message) => message,
+        Err(answer) => return answer,
     };
-    let message = node.inner.next_message(Op::Update(copy));
-    let Ok(frame) = frame_with_room(alloc, &message, node.inner.n, frames) else {
-        return Local::NoMemory;
-    };
-    let answer = node.local(alloc, update);
-    if let Local::Sent(_) = &answer {
-        frames.push_reserved(frame);
+    match commit(alloc, node, frames, message) {
+        Ok(message) => Local::Sent(message),
+        Err(NoMemory) => Local::NoMemory,
     }
-    answer
 }
 
 /// Sends a no-op at a node, where one is due, and puts its frame behind the others.
 fn send_noop(alloc: Global, node: &mut Node<Journal>, frames: &mut Vec<ByteList>) -> Beat
-    ensures answer { NotesBeat node.old.inner.w node.old.inner.limit node.old.first node.old.journal.notes node.new.journal.notes result }
+    ensures answer { Follows (λ (there ns : List Note). there ≡ ns) Beat.NoMemory is_beat (noting node.old.first beat_notes (beat_rule node.old.inner.w node.old.inner.limit)) node.old.journal.notes result node.new.journal.notes }
     ensures same { SameNode node.old node.new }
-    ensures frames { frames.new.items ≡ frames.old.items ++ frames_of_beat node.old.inner.n result }
+    ensures frames { frames.new.items ≡ frames.old.items ++ map (frame_of Version.Two node.old.inner.n 0) (beat_messages result) }
 {
-    if !node.inner.due {
-        return Beat::Quiet;
-    }
-    if node.inner.is_held() {
-        return Beat::Held;
-    }
-    if node.inner.has_ended() {
-        return Beat::End;
-    }
-    let message = node.inner.next_message(Op::NoOp);
-    let Ok(frame) = frame_with_room(alloc, &message, node.inner.n, frames) else {
-        return Beat::NoMemory;
+    let message = match node.inner.draft_noop() {
+        Ok(message) => message,
+        Err(answer) => return answer,
     };
-    let answer = node.beat(alloc);
-    if let Beat::Sent(_) = &answer {
-        frames.push_reserved(frame);
+    match commit(alloc, node, frames, message) {
+        Ok(message) => Beat::Sent(message),
+        Err(NoMemory) => Beat::NoMemory,
     }
-    answer
 }
 
-/// The frame of a message in a store of `n` members, and room for it among frames.
-fn frame_with_room(
+/// Sends a message that a node's replica drafted, and puts its frame behind the others. `NoMemory` leaves the frames as they
+/// were, and nothing is sent or noted.
+fn commit(
     alloc: Global,
-    message: &Message,
-    n: u8,
+    node: &mut Node<Journal>,
     frames: &mut Vec<ByteList>,
-) -> Result<ByteList, NoMemory>
-    requires { IsTrue (fits n message.now) }
-    ensures frame { IfOk result (λ frame. frame ≡ frame_of Version.Two n 0 message.now) }
-    ensures room { IfOk result (λ frame. vec_len frames.new < vec_capacity frames.new) }
-    ensures frames { frames.new.items ≡ frames.old.items }
+    message: Message,
+) -> Result<Message, NoMemory>
+    requires draft { (s : State) → StandsFor node.old.inner s → IsDraft node.old.inner message s }
+    requires fits { IsTrue (fits node.old.inner.n message) }
+    ensures sent { IfOk result (λ m. m ≡ message) }
+    ensures noted { IfOk result (λ m. node.new.journal.notes ≡ node.old.journal.notes ++ notes.Sent message ∷ []) }
+    ensures kept { OnErr result (node.new.journal.notes ≡ node.old.journal.notes) }
+    ensures same { SameNode node.old node.new }
+    ensures frames { IfOk result (λ m. frames.new.items ≡ frames.old.items ++ frame_of Version.Two node.old.inner.n 0 message ∷ []) }
+    ensures no_frame { OnErr result (frames.new.items ≡ frames.old.items) }
 {
-    let frame = encode(alloc, message, n, 0)?;
+    let frame = encode(alloc, &message, node.inner.n, 0)?;
     // It grows by a factor, so that many single reserves take constant time each.
     frames.reserve(1)?;
-    Ok(ByteList::from_vec(frame))
+    let message = node.commit(alloc, message)?;
+    frames.push_reserved(ByteList::from_vec(frame));
+    Ok(message)
 }

@@ -2,28 +2,28 @@
 
 ghost use Rattle.std.specs.Prelude.{◌≡◌, ◌≢◌, ◌<◌, length, IfOk, OnErr};
 ghost use Rattle.std.specs.List.{list_any};
+ghost use Rattle.causal_model.specs.Follows.{FollowsOrStops};
 ghost use Rattle.world_model.specs.World.{PlainWorld};
-ghost use Rattle.world_model.specs.Settling.{is_delivery, after_offer, after_offers, after_beat, offers_made, round_of, world_settled};
+ghost use Rattle.world_model.specs.Settling.{is_delivery, after_offer, after_offers, after_beat, offers_made, round_of, world_settled, is_quiescent, settle_at};
 ghost use Rattle.world_model.specs.Settling.{most_rounds as most_rounds_of};
-ghost use Rattle.world_model.specs.Settling.{is_settled as is_settled_in};
 ghost use Rattle.world.specs.Settles.{round_at, LeadsTo, IsBetween, IsAmongOffersTo, IsAmongBeatsOf, IsInRound, beats_made};
 
-use crate::answers::Settle;
 use crate::world::World;
+use causal_model::Beat;
 use op_base::{NoMemory, Step};
-use replica_core::Beat;
 use std::alloc::Global;
+use world_model::Settle;
 
 impl World {
-    ghost use Rattle.world.specs.Answers.{ShowsPlain, AnswersSettle, IsInMidst};
+    ghost use Rattle.world.specs.Answers.{ShowsPlain};
     ghost use Rattle.world.specs.Honest.{ShowsHonest, ShowsQuiescent};
-    ghost use Rattle.world.specs.Midst.{IsAmongOffers};
+    ghost use Rattle.world.specs.Midst.{IsAmongOffers, IsInSettling};
 
     /// Makes rounds until one moves nothing. In a round each replica upwards is offered the outbox of each other member
     /// upwards, as it stands, oldest first; then each replica upwards makes a beat. A round moves where a message was
     /// delivered or a no-op sent. After `NoMemory` the first of these offers and beats were made.
     pub fn settle(&mut self, alloc: Global) -> Settle
-        ensures answer { (plain : PlainWorld) → ShowsPlain self.old plain → AnswersSettle plain result (ShowsPlain self.new) }
+        ensures answer { FollowsOrStops ShowsPlain Settle.NoMemory IsInSettling settle_at self.old result self.new }
         ensures honest { ShowsHonest self.old → ShowsHonest self.new }
         ensures settles { ShowsHonest self.old → result ≢ Settle.Unsettled }
         ensures quiescent { ShowsHonest self.old → result ≡ Settle.Settled → ShowsQuiescent self.new }
@@ -32,7 +32,7 @@ impl World {
         match self.make_rounds(alloc) {
             Err(NoMemory) => Settle::NoMemory,
             Ok(()) => {
-                if self.is_settled() {
+                if self.is_quiescent() {
                     Settle::Settled
                 } else {
                     Settle::Unsettled
@@ -44,7 +44,7 @@ impl World {
     /// Makes rounds until one moves nothing.
     fn make_rounds(&mut self, alloc: Global) -> Result<(), NoMemory>
         ensures made { (plain : PlainWorld) → ShowsPlain self.old plain → IfOk result (λ done. ShowsPlain self.new (world_settled plain)) }
-        ensures some { (plain : PlainWorld) → ShowsPlain self.old plain → OnErr result (IsInMidst plain (ShowsPlain self.new)) }
+        ensures some { (plain : PlainWorld) → ShowsPlain self.old plain → OnErr result ((midst : PlainWorld) × IsInSettling plain midst × ShowsPlain self.new midst) }
         ensures members { length self.new.nodes.items ≡ length self.old.nodes.items }
     {
         let most = self.most_rounds();
@@ -137,8 +137,8 @@ impl World {
     }
 
     /// Whether all replicas have delivered as many messages of each member.
-    fn is_settled(&self) -> bool
-        ensures { (plain : PlainWorld) → ShowsPlain self.now plain → result ≡ is_settled_in plain }
+    fn is_quiescent(&self) -> bool
+        ensures { (plain : PlainWorld) → ShowsPlain self.now plain → result ≡ is_quiescent plain }
     {
         let first = self.seen(0);
         for r in 0..self.nodes.len() as u8 {

@@ -92,7 +92,7 @@ impl World {
         self.nodes[r as usize].replica().counts
     }
 
-    /// How many of its own no-ops replica `r` doesn't know to be everywhere.
+    /// How many of its own no-ops replica `r` wasn't told to be everywhere.
     pub fn noops(&self, r: u8) -> u32
         requires { r < length self.now.nodes.items }
         ensures own { (plain : PlainWorld) → ShowsPlain self.now plain → result ≡ noops_at plain r }

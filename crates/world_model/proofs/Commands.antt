@@ -1,5 +1,5 @@
 -- What each command keeps of a world.
-use Rattle.std.proofs.Common.{◌≡◌, ℕ, ◌<◌, Bool, true, false, not, ◌==◌, nat_le, All, IsTrue, List, [], ◌∷◌, length, get_or, refl, sym, ap, subst, ◌∙◌, inl, inr, Option, Some, None, Result, Ok, Err, if◌then◌else◌, arith}
+use Rattle.std.proofs.Common.{◌≡◌, ℕ, ◌<◌, Bool, true, not, ◌==◌, nat_le, All, IsTrue, List, [], ◌∷◌, length, get_or, refl, sym, ap, subst, inl, inr, Option, Some, None, Result, Ok, Err, arith}
 use Rattle.std.specs.List.{filter, find, list_any, list_all, fold}
 use Rattle.std.proofs.lemmas.Bool.{and_parts, and_from, cases_lt, le-leb, lt-ltb}
 use Rattle.std.proofs.lemmas.List.{get_or_past}
@@ -14,80 +14,62 @@ use Rattle.op_base.specs.declared.operation.Act.{Act}
 use Rattle.op_base.specs.declared.operation.Act.TheVariants as acts
 use Rattle.op_base.specs.declared.operation.Op.{Op}
 use Rattle.op_base.specs.declared.operation.Op.TheVariants as op
-use Rattle.op_base.specs.declared.operation.Update.{Update}
-use Rattle.causal_model.specs.Counts.{count_of, is_carried}
+use Rattle.causal_model.specs.Counts.{is_carried}
 use Rattle.causal_model.specs.History.{epoch_of}
-use Rattle.causal_model.specs.Journal.{with_own, sent, beaten}
-use Rattle.causal_model.specs.Laws.States.{next_of}
-use Rattle.causal_model.specs.Receiving.{State, start, has_id, receiving}
-use Rattle.causal_model.specs.Sending.{own_message, Sending, sends, busy, ended, sending, is_noop_due, Beating, beats, quiet, held, beat_ended, beating}
-use Rattle.causal_model.specs.Stability.{unstable_operations, unstable_noops, noop_window, stable_vector, is_stable}
-use Rattle.causal_model.specs.States.{IsState}
-use Rattle.causal_model.proofs.Journals.{group_keeps_state}
+use Rattle.causal_model.specs.Journal.{IsGroup, sent, beaten}
+use Rattle.causal_model.specs.State.{State, start}
+use Rattle.causal_model.specs.Receiving.{steps_of, receive_rule}
+use Rattle.causal_model.specs.Early.{has_id}
+use Rattle.causal_model.specs.Sending.{local_messages, beat_messages}
+use Rattle.causal_model.specs.Stability.{stable_vector, is_stable}
+use Rattle.causal_model.specs.declared.note.Note.TheVariants.{Sent}
+use Rattle.causal_model.specs.declared.outcome.Beat.{Beat}
+use Rattle.causal_model.specs.declared.outcome.Beat.TheVariants as beat
+use Rattle.causal_model.specs.declared.outcome.Local.{Local}
+use Rattle.causal_model.specs.declared.outcome.Local.TheVariants as local
 use Rattle.frame_codec.specs.Grammar.{IsArgument, IsOperation, is_carried as carries_length, IsFrame}
 use Rattle.frame_codec.specs.declared.fault.FrameFault.{FrameFault}
 use Rattle.frame_codec.specs.declared.version.Version.{Version}
 use Rattle.frame_codec.proofs.Read.{read_is_a_frame}
 use Rattle.world_model.specs.Laws.{SendingKeepsWorld, BeatingKeepsWorld, OfferingKeepsWorld, GivingKeepsWorld, ResendingKeepsWorld, RawingKeepsWorld}
-use Rattle.world_model.specs.Offering.{Offered, none_offered, offered_more, offered, steps_received, outbox_in, offered_between}
-use Rattle.world_model.specs.Raw.{read_at, world_rawed_of}
+use Rattle.world_model.specs.Offering.{Offered, none_offered, offered_more, offered, outbox_in, offered_between}
+use Rattle.world_model.specs.Raw.{read_at, raw_of}
 use Rattle.world_model.specs.Settling.{is_delivery}
-use Rattle.world_model.specs.World.{PlainWorld, size_of, replica_of, with_sent, state_received, sending_at, world_sending, beating_at, world_beating, sent_message, world_given_of}
-use Rattle.world_model.specs.Worlds.{IsReplica, IsWorld, KeepsWorld}
+use Rattle.world_model.specs.World.{PlainWorld, size_of, replica_of, with_sent, with_all_sent, local_at, beat_at, sent_message, give_of}
+use Rattle.world_model.specs.Worlds.{IsWorld, KeepsWorld}
 use Rattle.world_model.proofs.Received.{IsLater, later_twice, is_as_before, receives}
+use Rattle.world_model.proofs.Sends.{update_is_given, noop_is_given, sent_is_replica}
 use Rattle.world_model.proofs.Sent.{messages_fit, messages_carried, sent_message_is_sent}
 use Rattle.world_model.proofs.Worlds.{world_keeps_itself, state_changes, message_is_sent}
 
 -- ---- sending
 
-module _ (n w limit me : ℕ) (messages : List Message) (m : Message) where
-  sends_own : (update : Update) → sending n w limit me messages update ≡ sends m → m.origin ≡ me
-  sends_own update e = by (unstable_operations n me messages me == w) (count_of messages me == limit) e where
-    by : (a b : Bool) → (if a then busy else if b then ended else sends (own_message n me messages (op.Update update))) ≡ sends m → m.origin ≡ me
-    by true b f = cc
-    by false true f = cc
-    by false false f = let same : own_message n me messages (op.Update update) ≡ m = cc in sym (ap (λ y. y.origin) same)
-
-  beats_own : beating n w limit me messages ≡ beats m → m.origin ≡ me
-  beats_own e = by (is_noop_due me messages) (unstable_noops n me messages me == noop_window n w) (count_of messages me == limit) e where
-    by : (due a b : Bool) → (if not due then quiet else if a then held else if b then beat_ended else beats (own_message n me messages op.NoOp)) ≡ beats m → m.origin ≡ me
-    by false a b f = cc
-    by true true b f = cc
-    by true false true f = cc
-    by true false false f = let same : own_message n me messages op.NoOp ≡ m = cc in sym (ap (λ y. y.origin) same)
-
--- a replica that has sent a message of its own
-sent_is_replica : (n w limit r : ℕ) (s : State) (m : Message) → IsReplica n w limit r s → IsState w limit (with_own s m) × (next_of (with_own s m) ≡ None) → IsReplica n w limit r (with_own s m)
-sent_is_replica n w limit r s m is kept = record { is_state = kept.0; of_store = is.of_store; of_member = is.of_member; past = is.past; none_is_next = kept.1 }
+-- a replica sends a message by the rules
+sent_keeps_world : (world : PlainWorld) (r : ℕ) (m : Message) → IsWorld world → r < size_of world → IsGroup world.w world.limit (replica_of world r) (Sent m ∷ []) → m.origin ≡ r → KeepsWorld world (with_sent world r m)
+sent_keeps_world world r m is l group own =
+    message_is_sent world r m is l (sent_is_replica (size_of world) world.w world.limit r (replica_of world r) m (is.replicas r l) group) own
 
 pub sending_keeps_world : SendingKeepsWorld
-sending_keeps_world world r update is l valid = by (sending_at world r update) refl where
-  by : (made : Sending) → sending_at world r update ≡ made → KeepsWorld world (world_sending world r made)
-  by busy e = world_keeps_itself world is
-  by ended e = world_keeps_itself world is
-  by (sends m) e =
-      let s = replica_of world r in
-      let replica = is.replicas r l in
-      let kept = group_keeps_state world.w world.limit s _ replica.is_state replica.none_is_next (sent update m valid e) in
-      message_is_sent world r m is l (sent_is_replica (size_of world) world.w world.limit r s m replica kept)
-      (sends_own s.history.present.n world.w world.limit s.history.present.me s.history.present.messages m update e ∙ replica.of_member)
+sending_keeps_world world r update is l valid = by (local_at r update world).0 refl where
+  by : (answer : Local) → (local_at r update world).0 ≡ answer → KeepsWorld world (with_all_sent r world (local_messages answer))
+  by (local.Sent m) e = sent_keeps_world world r m is l (sent update m valid e) (update_is_given (size_of world) world.w world.limit r (replica_of world r) m (is.replicas r l) update e).own
+  by local.Busy e = world_keeps_itself world is
+  by local.End e = world_keeps_itself world is
+  by local.NoMemory e = world_keeps_itself world is
 
--- a beat that sends is an own message of the replica
-pub beat_is_sent : (world : PlainWorld) (r : ℕ) (m : Message) → IsWorld world → r < size_of world → beating_at world r ≡ beats m → KeepsWorld world (with_sent world r m)
+-- a beat that sends keeps a world
+pub beat_is_sent : (world : PlainWorld) (r : ℕ) (m : Message) → IsWorld world → r < size_of world → (beat_at r world).0 ≡ beat.Sent m → KeepsWorld world (with_sent world r m)
 beat_is_sent world r m is l e =
-    let s = replica_of world r in
-    let replica = is.replicas r l in
-    let kept = group_keeps_state world.w world.limit s _ replica.is_state replica.none_is_next (beaten m e) in
-    message_is_sent world r m is l (sent_is_replica (size_of world) world.w world.limit r s m replica kept)
-    (beats_own s.history.present.n world.w world.limit s.history.present.me s.history.present.messages m e ∙ replica.of_member)
+    sent_keeps_world world r m is l (beaten m e) (noop_is_given (size_of world) world.w world.limit r (replica_of world r) m (is.replicas r l) e).own
 
 pub beating_keeps_world : BeatingKeepsWorld
-beating_keeps_world world r is l = by (beating_at world r) refl where
-  by : (made : Beating) → beating_at world r ≡ made → KeepsWorld world (world_beating world r made)
-  by quiet e = world_keeps_itself world is
-  by held e = world_keeps_itself world is
-  by beat_ended e = world_keeps_itself world is
-  by (beats m) e = beat_is_sent world r m is l e
+beating_keeps_world world r is l = by (beat_at r world).0 refl where
+  by : (answer : Beat) → (beat_at r world).0 ≡ answer → KeepsWorld world (with_all_sent r world (beat_messages answer))
+  by (beat.Sent m) e = beat_is_sent world r m is l e
+  by beat.Quiet e = world_keeps_itself world is
+  by beat.Held e = world_keeps_itself world is
+  by beat.End e = world_keeps_itself world is
+  by beat.NoMemory e = world_keeps_itself world is
 
 -- ---- receiving
 
@@ -98,7 +80,7 @@ offering_keeps_world world r m is l fit carried =
 
 pub giving_keeps_world : GivingKeepsWorld
 giving_keeps_world world r k seq is l = by (sent_message world k seq) refl where
-  by : (found : Option Message) → sent_message world k seq ≡ found → KeepsWorld world (world_given_of world r found)
+  by : (found : Option Message) → sent_message world k seq ≡ found → KeepsWorld world (give_of r world found).1
   by None e = world_keeps_itself world is
   by (Some m) e = elim (cases_lt k (size_of world)) [
     | inl member ↦ let parts = sent_message_is_sent world k seq m is member e in offering_keeps_world world r m is l parts.1 parts.2
@@ -116,12 +98,11 @@ module _ (n w limit r : ℕ) (s : State) where
       → IsLater n w limit r s (list_any is_delivery (fold (offered_more w) o ms).steps) (fold (offered_more w) o ms).state
   offers_keep o [] fit carried is = is
   offers_keep o (m ∷ ms) fit carried is =
-      let got = receiving w o.state m in
-      let after = state_received o.state got in
+      let got = receive_rule w m o.state in
       let next = receives n w limit r o.state is.is_replica m (All-head (λ y. IsTrue (fits n y)) m ms fit) (All-head (λ y. IsTrue (is_carried limit y)) m ms carried) in
-      let both = later_twice n w limit r s o.state after (list_any is_delivery o.steps) (list_any is_delivery (steps_received got)) is next in
+      let both = later_twice n w limit r s o.state got.1 (list_any is_delivery o.steps) (list_any is_delivery (steps_of got.0)) is next in
       offers_keep (offered_more w o m) ms (All-tail (λ y. IsTrue (fits n y)) m ms fit) (All-tail (λ y. IsTrue (is_carried limit y)) m ms carried)
-      (subst (λ b. IsLater n w limit r s b after) (sym (list_any-append is_delivery o.steps (steps_received got))) both)
+      (subst (λ b. IsLater n w limit r s b got.1) (sym (list_any-append is_delivery o.steps (steps_of got.0))) both)
 
 -- what an outbox makes of a replica to which it is offered
 pub outbox_is_offered : (world : PlainWorld) (r k : ℕ) → IsWorld world → r < size_of world
@@ -173,7 +154,7 @@ frame_is_carried n epoch limit bytes m frame = (
 
 pub rawing_keeps_world : RawingKeepsWorld
 rawing_keeps_world world r bytes is l each = by (read_at world r bytes) refl where
-  by : (read : Result Message FrameFault) → read_at world r bytes ≡ read → KeepsWorld world (world_rawed_of world r read)
+  by : (read : Result Message FrameFault) → read_at world r bytes ≡ read → KeepsWorld world (raw_of r world read).1
   by (Err fault) e = world_keeps_itself world is
   by (Ok m) e =
       let epoch = epoch_of (replica_of world r).history in

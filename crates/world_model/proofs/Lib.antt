@@ -2,6 +2,7 @@ pub mod Worlds
 pub mod Messages
 pub mod Sent
 pub mod Received
+pub mod Sends
 pub mod Commands
 pub mod Rounds
 pub mod Shown

@@ -8,7 +8,7 @@ use Rattle.op_base.specs.Message.{number, fits}
 use Rattle.op_base.specs.declared.message.Message.{Message}
 use Rattle.op_base.specs.declared.tag.MessageId.{MessageId}
 use Rattle.causal_model.specs.Chapter.{is_chapter}
-use Rattle.causal_model.specs.Receiving.{has_id}
+use Rattle.causal_model.specs.Early.{has_id}
 use Rattle.causal_model.proofs.Chapters.{chapter_induction}
 
 -- each message of a chapter is one of the store

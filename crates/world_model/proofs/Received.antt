@@ -1,6 +1,6 @@
 -- What receiving makes of a replica: it stays one, with the same own messages, and with a message more where one was
 -- delivered.
-use Rattle.std.proofs.Common.{◌≡◌, ◌≢◌, ℕ, zero, suc, ◌+◌, ◌≤◌, Bool, true, false, ◌||◌, ◌==◌, cond, IsTrue, List, [], ◌∷◌, ◌++◌, length, refl, sym, ap, subst, ◌∙◌, Option, Some, None, if◌then◌else◌, append-nil, arith}
+use Rattle.std.proofs.Common.{◌≡◌, ◌≢◌, ℕ, zero, suc, ◌+◌, ◌≤◌, Bool, true, false, ◌||◌, ◌==◌, cond, IsTrue, List, [], ◌∷◌, ◌++◌, length, refl, sym, ap, subst, ◌∙◌, Option, Some, None, append-nil, arith}
 use Rattle.std.specs.List.{filter, list_any}
 use Rattle.std.proofs.lemmas.Bool.{cond-false, ne_eqb}
 use Rattle.std.proofs.lemmas.List.{length_push}
@@ -10,16 +10,16 @@ use Rattle.op_base.specs.declared.message.Message.{Message}
 use Rattle.op_base.specs.declared.outcome.Crook.{Crook}
 use Rattle.op_base.specs.declared.outcome.Step.{Step}
 use Rattle.causal_model.specs.Counts.{is_deliverable, is_carried}
-use Rattle.causal_model.specs.Laws.States.{next_of}
-use Rattle.causal_model.specs.Receiving.{State, counted, is_old, is_again, is_far, crook_after, messages_with, state_with, step_of, steps_within, steps, with_early, Receiving, old, again, far, accepts, receiving}
+use Rattle.causal_model.specs.Receiving.{next_of, is_old, crook_after, messages_with, state_with, step_of, steps_within, steps, with_early, refusal_of, steps_of, receive_by, receive_rule}
+use Rattle.causal_model.specs.State.{State, counted}
 use Rattle.causal_model.specs.States.{IsState}
+use Rattle.causal_model.specs.declared.outcome.Refusal.{Refusal}
 use Rattle.causal_model.proofs.Early.{IsNew-from_test}
 use Rattle.causal_model.proofs.Finds.{found}
+use Rattle.causal_model.proofs.Outcomes.{steps_of_accepted, steps_of_refused, unrefused}
 use Rattle.causal_model.proofs.States.{accept_keeps_state, step_keeps_state}
 use Rattle.causal_model.proofs.Steps.{steps_by, none_is_next_after_steps}
-use Rattle.world_model.specs.Offering.{steps_received}
 use Rattle.world_model.specs.Settling.{is_delivery}
-use Rattle.world_model.specs.World.{state_received}
 use Rattle.world_model.specs.Worlds.{IsReplica, own_of}
 
 -- how many messages of the present epoch a state has
@@ -88,46 +88,28 @@ pub later_twice : (n w limit r : ℕ) (s middle after : State) (a b : Bool) → 
 later_twice n w limit r s middle after a b first second =
     record { is_replica = second.is_replica; own = second.own ∙ first.own; more = omega (arith, first.more, second.more, at_most_both a b) }
 
--- that a message was accepted, in parts
-pub record IsAccepted (w : ℕ) (s : State) (m : Message) (made : List Step) (after : State) : Type 0 where
-  pub new : is_old s.history.present.me (counted s.history) m ≡ false
-  pub apart : is_again s.early m ≡ false
-  pub near : is_far s.history.present.n w s.history.present.me (counted s.history) m ≡ false
-  pub notes : (steps w (with_early s m)).0 ≡ made
-  pub state : (steps w (with_early s m)).1 ≡ after
-
-pub accepted : (w : ℕ) (s : State) (m : Message) (made : List Step) (after : State) → receiving w s m ≡ accepts made after → IsAccepted w s m made after
-accepted w s m made after e = by (is_old s.history.present.me (counted s.history) m) (is_again s.early m) (is_far s.history.present.n w s.history.present.me (counted s.history) m) refl refl refl e where
-  by : (a b c : Bool) → is_old s.history.present.me (counted s.history) m ≡ a → is_again s.early m ≡ b → is_far s.history.present.n w s.history.present.me (counted s.history) m ≡ c
-      → (if a then old else if b then again else if c then far else accepts (steps w (with_early s m)).0 (steps w (with_early s m)).1) ≡ accepts made after → IsAccepted w s m made after
-  by true b c is_a is_b is_c f = cc
-  by false true c is_a is_b is_c f = cc
-  by false false true is_a is_b is_c f = cc
-  by false false false is_a is_b is_c f = record { new = is_a; apart = is_b; near = is_c; notes = cc; state = cc }
-
 module _ (n w limit r : ℕ) (s : State) (is : IsReplica n w limit r s) where
   pub is_as_before : IsLater n w limit r s false s
   is_as_before = record { is_replica = is; own = refl; more = omega arith }
 
   pub receives : (m : Message) → IsTrue (fits n m) → IsTrue (is_carried limit m)
-      → IsLater n w limit r s (list_any is_delivery (steps_received (receiving w s m))) (state_received s (receiving w s m))
-  receives m fit carried = by (receiving w s m) refl where
-    by : (made : Receiving) → receiving w s m ≡ made → IsLater n w limit r s (list_any is_delivery (steps_received made)) (state_received s made)
-    by old e = is_as_before
-    by again e = is_as_before
-    by far e = is_as_before
-    by (accepts made after) e =
-        let parts = accepted w s m made after e in
+      → IsLater n w limit r s (list_any is_delivery (steps_of (receive_rule w m s).0)) (receive_rule w m s).1
+  receives m fit carried = by (refusal_of w s m) refl where
+    by : (o : Option Refusal) → refusal_of w s m ≡ o → IsLater n w limit r s (list_any is_delivery (steps_of (receive_by w m s o).0)) (receive_by w m s o).1
+    by (Some why) e = subst (λ made. IsLater n w limit r s (list_any is_delivery made) s) (sym (steps_of_refused why)) is_as_before
+    by None e =
+        let parts = unrefused w s m e in
+        let g = with_early s m in
         let early = accept_keeps_state w limit s m is.is_state (subst (λ k. IsTrue (fits k m)) (sym is.of_store) fit) carried parts.new parts.apart parts.near in
-        let stepped = subst (λ steps. IsStepped w limit (with_early s m) steps after) parts.notes (subst (IsStepped w limit (with_early s m) (steps w (with_early s m)).0) parts.state (steps_make w limit (length (with_early s m).early) (with_early s m) early)) in
-        record {
+        let stepped = steps_make w limit (length g.early) g early in
+        subst (λ made. IsLater n w limit r s (list_any is_delivery made) (steps w g).1) (sym (steps_of_accepted (steps w g).0)) (record {
           is_replica = record {
             is_state = stepped.is_state;
             of_store = stepped.of_store ∙ is.of_store;
             of_member = stepped.of_member ∙ is.of_member;
             past = stepped.past ∙ is.past;
-            none_is_next = subst (λ g. next_of g ≡ None) parts.state (none_is_next_after_steps w (with_early s m));
+            none_is_next = none_is_next_after_steps w g;
           };
           own = stepped.own;
           more = stepped.more;
-        }
+        })

@@ -7,15 +7,15 @@ use Rattle.std.proofs.lemmas.List.Elements.{All-from_get_or}
 use Rattle.std.proofs.lemmas.List.FromFn.{length-range_with_len, get_or-range_with_len}
 use Rattle.std.proofs.lemmas.List.Sums.{sum_by-set, sum_by-le}
 use Rattle.causal_model.specs.Counts.{members}
-use Rattle.causal_model.specs.Journal.{with_own}
-use Rattle.causal_model.specs.Receiving.{State, start}
-use Rattle.causal_model.specs.Sending.{Beating, beats, quiet, held, beat_ended}
+use Rattle.causal_model.specs.State.{with_own, State, start}
+use Rattle.causal_model.specs.declared.outcome.Beat.{Beat}
+use Rattle.causal_model.specs.declared.outcome.Beat.TheVariants as beat
 use Rattle.causal_model.proofs.Lengths.{chapter_is_bounded}
 use Rattle.causal_model.proofs.Lists.{fold_has}
 use Rattle.world_model.specs.Laws.{SettlingKeepsWorld, SettlingEnds, MoreRoundsAreNone}
 use Rattle.world_model.specs.Offering.{offered_between}
 use Rattle.world_model.specs.Settling.{Round, is_delivery, with_offered, after_offer, after_offers, with_beat, after_beat, offers_made, round_of, rounds_within, most_rounds}
-use Rattle.world_model.specs.World.{PlainWorld, size_of, replica_of, with_state, with_sent, beating_at}
+use Rattle.world_model.specs.World.{PlainWorld, size_of, replica_of, with_state, with_sent, beat_at}
 use Rattle.world_model.specs.Worlds.{IsWorld, KeepsWorld}
 use Rattle.world_model.proofs.Commands.{beat_is_sent, outbox_is_offered}
 use Rattle.world_model.proofs.Received.{length_of, at_most_both}
@@ -74,12 +74,13 @@ module _ (world : PlainWorld) where
   offers_are_made r l round is = over_members (IsRound world) (after_offer r) (size_of round.world) (λ k _ c h. offer_is_made r k l c h) round is
 
   beat_is_made : (r : ℕ) → r < size_of world → (round : Round) → IsRound world round → IsRound world (after_beat round r)
-  beat_is_made r l round is = by (beating_at round.world r) refl where
-    by : (made : Beating) → beating_at round.world r ≡ made → IsRound world (with_beat round r made)
-    by quiet e = is
-    by held e = is
-    by beat_ended e = is
-    by (beats m) e =
+  beat_is_made r l round is = by (beat_at r round.world).0 refl where
+    by : (answer : Beat) → (beat_at r round.world).0 ≡ answer → IsRound world (with_beat round r answer)
+    by beat.Quiet e = is
+    by beat.Held e = is
+    by beat.End e = is
+    by beat.NoMemory e = is
+    by (beat.Sent m) e =
         let here : r < size_of round.world = omega (arith, l, is.kept.size) in
         let s = replica_of round.world r in
         record {

@@ -8,7 +8,8 @@ use Rattle.op_base.specs.Message.{fits}
 use Rattle.op_base.specs.declared.message.Message.{Message}
 use Rattle.causal_model.specs.Chapter.{is_chapter}
 use Rattle.causal_model.specs.Counts.{is_carried, are_carried}
-use Rattle.causal_model.specs.Receiving.{State, has_id}
+use Rattle.causal_model.specs.State.{State}
+use Rattle.causal_model.specs.Early.{has_id}
 use Rattle.causal_model.proofs.Finds.{found}
 use Rattle.causal_model.proofs.Histories.{IsHistory-from_test, IsLimited-from_test}
 use Rattle.world_model.specs.Laws.{SentAreOwn, SentIsNumbered}

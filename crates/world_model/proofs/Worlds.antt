@@ -4,8 +4,7 @@ use Rattle.std.proofs.lemmas.Bool.{cases_eq, cond-true, eq-eqb}
 use Rattle.std.proofs.lemmas.List.Elements.{filter-append}
 use Rattle.std.proofs.lemmas.List.FromFn.{length-map-range_with_len, get_or-map-range_with_len}
 use Rattle.op_base.specs.declared.message.Message.{Message}
-use Rattle.causal_model.specs.Journal.{with_own}
-use Rattle.causal_model.specs.Receiving.{State, start}
+use Rattle.causal_model.specs.State.{with_own, State, start}
 use Rattle.causal_model.proofs.States.{start_is_state}
 use Rattle.world_model.specs.Laws.{OpeningIsWorld, OpeningHasSize}
 use Rattle.world_model.specs.World.{PlainWorld, size_of, opening, replica_of, sent_by, with_state, with_sent}

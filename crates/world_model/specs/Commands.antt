@@ -2,10 +2,10 @@
 use Rattle.std.specs.Prelude.{ℕ, ◌<◌, Bool, true, false, List, [], ◌∷◌, IsTrue, All}
 use Rattle.op_base.specs.Valid.{is_valid_update}
 use Rattle.op_base.specs.declared.operation.Update.{Update}
-use Rattle.world_model.specs.Offering.{world_resent}
-use Rattle.world_model.specs.Raw.{world_rawed}
+use Rattle.world_model.specs.Offering.{resend_at}
+use Rattle.world_model.specs.Raw.{raw_at}
 use Rattle.world_model.specs.Settling.{world_settled}
-use Rattle.world_model.specs.World.{PlainWorld, size_of, sending_at, world_sending, beating_at, world_beating, world_given}
+use Rattle.world_model.specs.World.{PlainWorld, size_of, local_at, beat_at, give_at}
 
 -- at a replica an update is sent, or a beat made, or the message of a member and a number given, or a member's outbox or
 -- bytes offered; or the world settles
@@ -33,11 +33,11 @@ is_raw command = false
 
 -- the world after a command
 abbrev pub after_command : PlainWorld → WorldCommand → PlainWorld
-after_command world (sends_at r update) = world_sending world r (sending_at world r update)
-after_command world (beats_at r) = world_beating world r (beating_at world r)
-after_command world (gives r k seq) = world_given world r k seq
-after_command world (resends r k) = world_resent world r k
-after_command world (raws r bytes) = world_rawed world r bytes
+after_command world (sends_at r update) = (local_at r update world).1
+after_command world (beats_at r) = (beat_at r world).1
+after_command world (gives r k seq) = (give_at r k seq world).1
+after_command world (resends r k) = (resend_at r k world).1
+after_command world (raws r bytes) = (raw_at r bytes world).1
 after_command world settles = world_settled world
 
 -- each of the commands can be run where it comes

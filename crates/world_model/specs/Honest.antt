@@ -1,27 +1,11 @@
 -- Honest worlds: plain worlds that are as they are where no frame was forged. It is asked of a world as it stands, and not
 -- of how it came to be.
-use Rattle.std.specs.Prelude.{◌≡◌, ◌↔◌, ℕ, ◌<◌, List, ◌∷◌, ◌++◌, All, Contains}
+use Rattle.std.specs.Prelude.{◌↔◌, ℕ, ◌<◌, List, All, Contains}
 use Rattle.op_base.specs.declared.message.Message.{Message}
-use Rattle.op_base.specs.declared.operation.Op.{Op}
-use Rattle.op_base.specs.declared.operation.Op.TheVariants as op
 use Rattle.causal_model.specs.History.{History, Event, events_from}
-use Rattle.causal_model.specs.Sending.{sends, sending, beats, beating}
+use Rattle.causal_model.specs.Sending.{KeepsRule}
 use Rattle.world_model.specs.World.{PlainWorld, size_of, replica_of, sent_by}
 use Rattle.world_model.specs.Worlds.{IsWorld, KeepsWorld}
-
--- ---- what keeps the rule of sending
-
--- the rule of sending gives this message at messages: a beat gives it where it is a no-op, else its update does
-abbrev pub RuleGives : ℕ → ℕ → ℕ → ℕ → List Message → Message → Op → Type 0
-RuleGives n w limit me before m op.NoOp = beating n w limit me before ≡ beats m
-RuleGives n w limit me before m (op.Update u) = sending n w limit me before u ≡ sends m
-
--- each own message among those that member me delivered is what the rule gives at those before it
-abbrev pub KeepsRule : ℕ → ℕ → ℕ → ℕ → List Message → Type 0
-KeepsRule n w limit me messages =
-    (before later : List Message) (m : Message) → messages ≡ before ++ m ∷ later → m.origin ≡ me → RuleGives n w limit me before m m.op
-
--- ---- worlds
 
 -- a message was sent: it stands whole among what its origin sent
 abbrev pub IsSentMessage : PlainWorld → Message → Type 0

@@ -39,6 +39,6 @@ sent_in (note ∷ notes) = sent_in notes
 
 -- journals of n members in one epoch: each is legal, and what it kept stands as sent in the journal of its origin
 pub record AreJournals (n w limit : ℕ) (journals : List (List Note)) : Type 0 where
-  pub legal : (r : ℕ) → r < n → IsLegal w limit n r (journal_of journals r)
+  pub legal : (r : ℕ) → r < n → IsLegal n w limit r (journal_of journals r)
   pub one_epoch : (r : ℕ) → r < n → All (λ note. ends_epoch note ≡ false) (journal_of journals r)
   pub kept : (r : ℕ) (m : Message) → r < n → Contains (journal_of journals r) (Kept m) → Contains (journal_of journals m.origin) (Sent m)

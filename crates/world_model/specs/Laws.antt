@@ -6,11 +6,11 @@ use Rattle.op_base.specs.declared.message.Message.{Message}
 use Rattle.op_base.specs.declared.name.ObjectId.{ObjectId}
 use Rattle.op_base.specs.declared.operation.Update.{Update}
 use Rattle.causal_model.specs.Counts.{is_carried, count_of}
-use Rattle.causal_model.specs.Laws.Events.{SameEvents}
-use Rattle.world_model.specs.World.{PlainWorld, size_of, opening, replica_of, sent_by, sending_at, world_sending, beating_at, world_beating, world_offered, sent_message, world_given}
-use Rattle.world_model.specs.Offering.{outbox_in, world_resent}
-use Rattle.world_model.specs.Raw.{world_rawed}
-use Rattle.world_model.specs.Settling.{round_of, rounds_within, most_rounds, world_settled, is_settled}
+use Rattle.causal_model.specs.History.{SameEvents}
+use Rattle.world_model.specs.World.{PlainWorld, size_of, opening, replica_of, sent_by, local_at, beat_at, offer_at, sent_message, give_at}
+use Rattle.world_model.specs.Offering.{outbox_in, resend_at}
+use Rattle.world_model.specs.Raw.{raw_at}
+use Rattle.world_model.specs.Settling.{round_of, rounds_within, most_rounds, world_settled, is_quiescent}
 use Rattle.world_model.specs.Showing.{answer_at, seen_at, lags_at}
 use Rattle.world_model.specs.Worlds.{IsWorld, KeepsWorld}
 
@@ -41,29 +41,29 @@ SentIsNumbered = (world : PlainWorld) (k seq : ℕ) → IsWorld world → k < si
 -- sending a valid update keeps a world
 abbrev pub SendingKeepsWorld : Type 0
 SendingKeepsWorld = (world : PlainWorld) (r : ℕ) (update : Update) → IsWorld world → r < size_of world → IsTrue (is_valid_update update)
-    → KeepsWorld world (world_sending world r (sending_at world r update))
+    → KeepsWorld world (local_at r update world).1
 
 -- so does a beat
 abbrev pub BeatingKeepsWorld : Type 0
-BeatingKeepsWorld = (world : PlainWorld) (r : ℕ) → IsWorld world → r < size_of world → KeepsWorld world (world_beating world r (beating_at world r))
+BeatingKeepsWorld = (world : PlainWorld) (r : ℕ) → IsWorld world → r < size_of world → KeepsWorld world (beat_at r world).1
 
 -- so does offering a message that fits the store and can be carried there
 abbrev pub OfferingKeepsWorld : Type 0
 OfferingKeepsWorld = (world : PlainWorld) (r : ℕ) (m : Message) → IsWorld world → r < size_of world → IsTrue (fits (size_of world) m) → IsTrue (is_carried world.limit m)
-    → KeepsWorld world (world_offered world r m)
+    → KeepsWorld world (offer_at r m world).1
 
 -- so does giving a message, whether or not it was sent
 abbrev pub GivingKeepsWorld : Type 0
-GivingKeepsWorld = (world : PlainWorld) (r k seq : ℕ) → IsWorld world → r < size_of world → KeepsWorld world (world_given world r k seq)
+GivingKeepsWorld = (world : PlainWorld) (r k seq : ℕ) → IsWorld world → r < size_of world → KeepsWorld world (give_at r k seq world).1
 
 -- so does offering an outbox
 abbrev pub ResendingKeepsWorld : Type 0
-ResendingKeepsWorld = (world : PlainWorld) (r k : ℕ) → IsWorld world → r < size_of world → KeepsWorld world (world_resent world r k)
+ResendingKeepsWorld = (world : PlainWorld) (r k : ℕ) → IsWorld world → r < size_of world → KeepsWorld world (resend_at r k world).1
 
 -- so does offering bytes, whatever they are
 abbrev pub RawingKeepsWorld : Type 0
 RawingKeepsWorld = (world : PlainWorld) (r : ℕ) (bytes : List ℕ) → IsWorld world → r < size_of world → All (λ b. b < 256) bytes
-    → KeepsWorld world (world_rawed world r bytes)
+    → KeepsWorld world (raw_at r bytes world).1
 
 -- so does settling
 abbrev pub SettlingKeepsWorld : Type 0
@@ -82,7 +82,7 @@ MoreRoundsAreNone = (world : PlainWorld) (more : ℕ) → IsWorld world → roun
 
 -- a world is settled exactly where all replicas show equal counts
 abbrev pub SettledIsEqualCounts : Type 0
-SettledIsEqualCounts = (world : PlainWorld) → (is_settled world ≡ true) ↔ ((r : ℕ) → r < size_of world → seen_at world r ≡ seen_at world 0)
+SettledIsEqualCounts = (world : PlainWorld) → (is_quiescent world ≡ true) ↔ ((r : ℕ) → r < size_of world → seen_at world r ≡ seen_at world 0)
 
 -- ---- answers
 

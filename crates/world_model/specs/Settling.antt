@@ -6,10 +6,13 @@ use Rattle.std.specs.Cmp.Lexicographic.{pointwise}
 use Rattle.op_base.specs.declared.outcome.Step.{Step}
 use Rattle.op_base.specs.declared.outcome.Step.TheVariants as step
 use Rattle.causal_model.specs.Counts.{members}
-use Rattle.causal_model.specs.Receiving.{counted}
-use Rattle.causal_model.specs.Sending.{Beating, beats, quiet, held, beat_ended}
-use Rattle.world_model.specs.World.{PlainWorld, size_of, replica_of, with_state, with_sent, beating_at}
+use Rattle.causal_model.specs.State.{counted}
+use Rattle.causal_model.specs.declared.outcome.Beat.{Beat}
+use Rattle.causal_model.specs.declared.outcome.Beat.TheVariants as beat
+use Rattle.world_model.specs.World.{PlainWorld, size_of, replica_of, with_state, with_sent, beat_at}
 use Rattle.world_model.specs.Offering.{Offered, offered_between}
+use Rattle.world_model.specs.declared.outcome.Settle.{Settle}
+use Rattle.world_model.specs.declared.outcome.Settle.TheVariants as settle
 
 -- a world in the midst of a round, and whether a message was delivered or a no-op sent in it
 pub record Round : Type 0 where
@@ -33,15 +36,13 @@ after_offer r round k = if r == k then round else with_offered round r (offered_
 abbrev pub after_offers : Round → ℕ → Round
 after_offers round r = fold (after_offer r) round (members (size_of round.world))
 
--- what comes of a beat of replica r
-abbrev pub with_beat : Round → ℕ → Beating → Round
-with_beat round r (beats m) = record { world = with_sent round.world r m; moved = true }
-with_beat round r quiet = round
-with_beat round r held = round
-with_beat round r beat_ended = round
+-- a replica made a beat
+abbrev pub with_beat : Round → ℕ → Beat → Round
+with_beat round r (beat.Sent m) = record { world = with_sent round.world r m; moved = true }
+with_beat round r answer = round
 
 abbrev pub after_beat : Round → ℕ → Round
-after_beat round r = with_beat round r (beating_at round.world r)
+after_beat round r = with_beat round r (beat_at r round.world).0
 
 -- a round: to each replica upwards all other outboxes are offered, and then each makes a beat
 abbrev pub offers_made : PlainWorld → Round
@@ -65,5 +66,9 @@ abbrev pub world_settled : PlainWorld → PlainWorld
 world_settled world = rounds_within (most_rounds world) world
 
 -- whether all replicas have delivered as many messages of each member
-abbrev pub is_settled : PlainWorld → Bool
-is_settled world = list_all (λ s. pointwise nat_eq (counted s.history) (counted (replica_of world 0).history)) world.replicas
+abbrev pub is_quiescent : PlainWorld → Bool
+is_quiescent world = list_all (λ s. pointwise nat_eq (counted s.history) (counted (replica_of world 0).history)) world.replicas
+
+-- settling: whether the world then is so, and that world
+abbrev pub settle_at : PlainWorld → Settle × PlainWorld
+settle_at world = let after = world_settled world in (if is_quiescent after then settle.Settled else settle.Unsettled, after)

@@ -7,11 +7,11 @@ use Rattle.op_base.specs.declared.message.Message.{Message}
 use Rattle.op_base.specs.declared.name.ObjectId.{ObjectId}
 use Rattle.op_base.specs.declared.outcome.Answer.{Answer}
 use Rattle.op_base.specs.declared.tag.MessageId.{MessageId}
-use Rattle.causal_model.specs.CellSteps.{log_of}
+use Rattle.causal_model.specs.Log.{log_of}
 use Rattle.causal_model.specs.Counts.{members}
 use Rattle.causal_model.specs.History.{events}
 use Rattle.causal_model.specs.Query.{answer}
-use Rattle.causal_model.specs.Receiving.{counted}
+use Rattle.causal_model.specs.State.{counted}
 use Rattle.causal_model.specs.Sending.{outbox_of}
 use Rattle.causal_model.specs.Settled.{settled_items}
 use Rattle.causal_model.specs.Stability.{known_vector, stable_vector, unstable_noops}

@@ -1,13 +1,20 @@
 -- The plain world: replicas that keep every message that they deliver, and the messages that they sent. It has no matrix,
 -- no mark, no frame and no pruned log. What a plain replica is, is a state of the rules of sending and receiving.
-use Rattle.std.specs.Prelude.{ℕ, List, [], ◌∷◌, ◌++◌, length, map, slice_set, Option, Some, None}
+use Rattle.std.specs.Prelude.{ℕ, Bool, true, false, List, [], ◌∷◌, ◌++◌, fold, length, map, slice_set, Option, Some, None}
 use Rattle.std.specs.List.{slice_index_or, find}
 use Rattle.op_base.specs.declared.message.Message.{Message}
 use Rattle.op_base.specs.declared.operation.Update.{Update}
 use Rattle.causal_model.specs.Counts.{members}
-use Rattle.causal_model.specs.Journal.{with_own}
-use Rattle.causal_model.specs.Receiving.{State, start, has_id, Receiving, old, again, far, accepts, receiving}
-use Rattle.causal_model.specs.Sending.{Sending, sends, busy, ended, sending, Beating, beats, quiet, held, beat_ended, beating}
+use Rattle.causal_model.specs.Early.{has_id}
+use Rattle.causal_model.specs.Receiving.{receive_rule}
+use Rattle.causal_model.specs.Sending.{local_messages, beat_messages, local_rule, beat_rule}
+use Rattle.causal_model.specs.State.{State, start, with_own}
+use Rattle.causal_model.specs.declared.outcome.Beat.{Beat}
+use Rattle.causal_model.specs.declared.outcome.Local.{Local}
+use Rattle.causal_model.specs.declared.outcome.Receive.{Receive}
+use Rattle.causal_model.specs.declared.outcome.Receive.TheVariants as receive
+use Rattle.world_model.specs.declared.outcome.Given.{Given}
+use Rattle.world_model.specs.declared.outcome.Given.TheVariants as given
 
 -- a plain world: the window and the limit of its store, a state for each member, and for each the messages that it sent,
 -- oldest first
@@ -41,70 +48,47 @@ abbrev pub with_sent : PlainWorld → ℕ → Message → PlainWorld
 with_sent world r m =
     record { w = world.w; limit = world.limit; replicas = slice_set world.replicas r (with_own (replica_of world r) m); sent = slice_set world.sent r (sent_by world r ++ m ∷ []) }
 
--- ---- sending
+-- the world once a replica sent messages
+abbrev pub with_all_sent : ℕ → PlainWorld → List Message → PlainWorld
+with_all_sent r world messages = fold (λ world m. with_sent world r m) world messages
 
--- what comes of sending an update at a replica
-abbrev pub sending_at : PlainWorld → ℕ → Update → Sending
-sending_at world r update =
-    let s = replica_of world r in sending s.history.present.n world.w world.limit s.history.present.me s.history.present.messages update
+-- ---- the rules of a world: what comes of a command, and the world after it
 
--- the world after it
-abbrev pub world_sending : PlainWorld → ℕ → Sending → PlainWorld
-world_sending world r (sends m) = with_sent world r m
-world_sending world r busy = world
-world_sending world r ended = world
+-- sending an update at a replica
+abbrev pub local_at : ℕ → Update → PlainWorld → Local × PlainWorld
+local_at r update world =
+    let answer = (local_rule world.w world.limit update (replica_of world r)).0 in
+    (answer, with_all_sent r world (local_messages answer))
 
--- what comes of sending a no-op at a replica
-abbrev pub beating_at : PlainWorld → ℕ → Beating
-beating_at world r =
-    let s = replica_of world r in beating s.history.present.n world.w world.limit s.history.present.me s.history.present.messages
+-- sending a no-op at a replica
+abbrev pub beat_at : ℕ → PlainWorld → Beat × PlainWorld
+beat_at r world =
+    let answer = (beat_rule world.w world.limit (replica_of world r)).0 in
+    (answer, with_all_sent r world (beat_messages answer))
 
--- the world after it
-abbrev pub world_beating : PlainWorld → ℕ → Beating → PlainWorld
-world_beating world r (beats m) = with_sent world r m
-world_beating world r quiet = world
-world_beating world r held = world
-world_beating world r beat_ended = world
-
--- ---- receiving
-
--- what comes of a message that is offered to a replica
-abbrev pub receiving_at : PlainWorld → ℕ → Message → Receiving
-receiving_at world r m = receiving world.w (replica_of world r) m
-
--- the state after receiving: the one after the steps where the message was accepted, else the one before
-abbrev pub state_received : State → Receiving → State
-state_received s (accepts steps after) = after
-state_received s old = s
-state_received s again = s
-state_received s far = s
-
--- the world after a message was offered to a replica
-abbrev pub world_offered : PlainWorld → ℕ → Message → PlainWorld
-world_offered world r m = with_state world r (state_received (replica_of world r) (receiving_at world r m))
-
--- ---- giving
+-- offering a message to a replica
+abbrev pub offer_at : ℕ → Message → PlainWorld → Receive × PlainWorld
+offer_at r m world = let got = receive_rule world.w m (replica_of world r) in (got.0, with_state world r got.1)
 
 -- the message of a member and a number that was sent
 abbrev pub sent_message : PlainWorld → ℕ → ℕ → Option Message
 sent_message world k seq = find (has_id (record { origin = k; seq = seq })) (sent_by world k)
 
--- what comes of giving a message to a replica: none was sent, or it is received
-pub data Giving : Type 0 where
-  unsent : Giving
-  got : Receiving → Giving
+-- giving a message to a replica, where one was sent
+abbrev pub give_of : ℕ → PlainWorld → Option Message → Given × PlainWorld
+give_of r world None = (given.Unsent, world)
+give_of r world (Some m) = let made = offer_at r m world in (given.Got made.0, made.1)
 
-abbrev pub giving_of : PlainWorld → ℕ → Option Message → Giving
-giving_of world r None = unsent
-giving_of world r (Some m) = got (receiving_at world r m)
+-- whether the frame of a message is read to give it: not where its id tells that it isn't accepted, nor where none was sent
+abbrev pub wants_frame : Receive → Bool
+wants_frame receive.Old = false
+wants_frame receive.Again = false
+wants_frame answer = true
 
-abbrev pub world_given_of : PlainWorld → ℕ → Option Message → PlainWorld
-world_given_of world r None = world
-world_given_of world r (Some m) = world_offered world r m
+abbrev pub takes_frame : Given → Bool
+takes_frame given.Unsent = false
+takes_frame (given.Got answer) = wants_frame answer
 
--- giving the sent message of member k with a number to replica r, and the world after it
-abbrev pub giving : PlainWorld → ℕ → ℕ → ℕ → Giving
-giving world r k seq = giving_of world r (sent_message world k seq)
-
-abbrev pub world_given : PlainWorld → ℕ → ℕ → ℕ → PlainWorld
-world_given world r k seq = world_given_of world r (sent_message world k seq)
+-- giving the message of member k with a number to replica r
+abbrev pub give_at : ℕ → ℕ → ℕ → PlainWorld → Given × PlainWorld
+give_at r k seq world = give_of r world (sent_message world k seq)

@@ -1,8 +1,8 @@
 -- What each command keeps of a plain world: every world that commands lead to is one, and others may be.
 use Rattle.std.specs.Prelude.{◌≡◌, ℕ, ◌<◌, ◌≤◌, ◌==◌, List, [], length, filter, None}
 use Rattle.op_base.specs.declared.message.Message.{Message}
-use Rattle.causal_model.specs.Laws.States.{next_of}
-use Rattle.causal_model.specs.Receiving.{State}
+use Rattle.causal_model.specs.Receiving.{next_of}
+use Rattle.causal_model.specs.State.{State}
 use Rattle.causal_model.specs.States.{IsState}
 use Rattle.world_model.specs.World.{PlainWorld, size_of, replica_of, sent_by}
 

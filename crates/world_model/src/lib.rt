@@ -5,12 +5,14 @@
 #![tactic(auto)]
 
 mod laws;
+mod outcome;
 mod worked;
 
 pub use laws::{
     a_member_lags_where_a_message_is_unstable, an_opening_is_a_world, commands_keep_worlds,
     replicas_show_what_they_have, sent_messages_are_numbered, settling_ends,
 };
+pub use outcome::{Given, RawGot, Resent, Settle};
 pub use worked::{
     a_remove_waits_for_its_add, an_add_is_given_and_asked_for, an_add_settles, bytes_are_offered,
     each_waits_for_the_other,

@@ -1,24 +1,22 @@
 -- How answers come from settled cells and the log, and how large they are. Each statement is the contract of a function of
 -- laws/answers.rt.
-use Rattle.std.specs.Prelude.{◌≡◌, ◌↔◌, ℕ, ◌≤◌, ◌^◌, Bool, ◌||◌, List, map, filter, IsTrue, AllPairs, Contains, Option, Some, None, ◌+ℤ◌}
+use Rattle.std.specs.Prelude.{◌≡◌, ◌↔◌, ℕ, ◌≤◌, ◌^◌, Bool, ◌||◌, List, map, filter, IsTrue, Contains, Option, Some, None, ◌+ℤ◌}
 use Rattle.std.specs.List.{list_any}
-use Rattle.std.specs.declared.cmp.Ordering.TheVariants.{Less}
 use Rattle.op_base.specs.Object.{same_object}
-use Rattle.op_base.specs.Order.{text_cmp}
 use Rattle.op_base.specs.declared.name.ObjectId.{ObjectId}
 use Rattle.op_base.specs.declared.name.Kind.TheVariants.{Counter, RCounter}
 use Rattle.op_base.specs.declared.message.Message.{Message}
 use Rattle.op_base.specs.declared.operation.Act.{Act}
 use Rattle.op_base.specs.declared.operation.Update.{Update}
 use Rattle.op_base.specs.declared.outcome.Item.{Item}
-use Rattle.causal_model.specs.Acts.{value_of}
-use Rattle.causal_model.specs.Covering.{store_keeps, same_value}
+use Rattle.causal_model.specs.Acts.{value_of, same_value}
+use Rattle.causal_model.specs.Covering.{store_keeps}
 use Rattle.causal_model.specs.Items.{cell_in}
 use Rattle.causal_model.specs.History.{History, Event, events, is_history, is_limited}
-use Rattle.causal_model.specs.Query.{is_act_on, counter_sum, rcounter_sum, total_of, values_that, IsWithin}
+use Rattle.causal_model.specs.Query.{TextsRise, is_act_on, counter_sum, rcounter_sum, total_of, values_that, IsWithin}
 use Rattle.causal_model.specs.Settled.{has_settled, has_pending, settled_cell}
 use Rattle.causal_model.specs.Parts.{has, has_by_parts, has_uncovered, has_logged, ArePartsOf}
-use Rattle.causal_model.specs.CellSteps.{log_of}
+use Rattle.causal_model.specs.Log.{log_of}
 
 -- ---- from the log and the settled cells
 
@@ -57,9 +55,6 @@ SumFromParts = (w : ℕ) (h : History) (object : ObjectId) (entries : List Messa
     × (object.kind ≡ RCounter → rcounter_sum object (events h) ≡ (cell_in items object None).sum +ℤ total_of object (map (λ m. m.op) entries)))
 
 -- ---- the values of an answer
-
-abbrev pub TextsRise : List (List ℕ) → Type 0
-TextsRise values = AllPairs (λ (a b : List ℕ). text_cmp a b ≡ Less) values
 
 -- they rise in byte order
 abbrev pub ValuesRise : Type 0

@@ -6,10 +6,12 @@ use Rattle.op_base.specs.declared.name.ObjectId.{ObjectId}
 use Rattle.op_base.specs.declared.name.Kind.{Kind}
 use Rattle.op_base.specs.declared.name.Kind.TheVariants.{AwSet, RwSet, EwFlag, DwFlag, MvReg, Counter, RCounter}
 use Rattle.op_base.specs.declared.outcome.Item.{Item}
-use Rattle.causal_model.specs.CellSteps.{cell_uncovered, cell_with, cell_settled, is_put_in, log_of, stripped_of, cell_absorbed, cell_moved}
+use Rattle.causal_model.specs.CellSteps.{cell_uncovered, cell_with, cell_settled, is_put_in, cell_absorbed, cell_moved}
+use Rattle.causal_model.specs.Log.{log_of, stripped_of}
 use Rattle.causal_model.specs.History.{History, no_history, with_message, is_history, is_limited}
-use Rattle.causal_model.specs.Items.{cell_in, AreApart, Rise, is_filled, zero_cell}
-use Rattle.causal_model.specs.Query.{share_of, IsWithin}
+use Rattle.causal_model.specs.Items.{AreFilled, cell_in, AreApart, Rise, is_filled, zero_cell}
+use Rattle.causal_model.specs.Query.{IsWithin}
+use Rattle.causal_model.specs.Acts.{share_of}
 use Rattle.causal_model.specs.Settled.{sum_cell, settled_cell, settled_items}
 
 -- ---- one message more
@@ -81,9 +83,6 @@ RisingItemsAreApart = (items : List Item) → Rise items → AreApart items
 -- maps of filled items with equal cells have equal lengths, and are equal lists where both rise
 abbrev pub SameCells : List Item → List Item → Type 0
 SameCells xs ys = (object : ObjectId) (value : Option (List ℕ)) → cell_in xs object value ≡ cell_in ys object value
-
-abbrev pub AreFilled : List Item → Type 0
-AreFilled items = All (λ item. IsTrue (is_filled item.cell)) items
 
 abbrev pub SameCellsSameLength : Type 0
 SameCellsSameLength = (xs ys : List Item) → AreApart xs → AreApart ys → AreFilled xs → AreFilled ys → SameCells xs ys → length xs ≡ length ys

@@ -9,16 +9,14 @@ use Rattle.op_base.specs.Valid.{is_valid}
 use Rattle.op_base.specs.declared.message.Message.{Message}
 use Rattle.op_base.specs.declared.operation.Update.{Update}
 use Rattle.op_base.specs.declared.operation.Op.{Op}
-use Rattle.op_base.specs.declared.operation.Op.TheVariants as op
 use Rattle.causal_model.specs.Order.{happened_before, same_id}
 use Rattle.causal_model.specs.Counts.{members, count_of, counts, is_deliverable, is_carried, are_carried}
 use Rattle.causal_model.specs.Stability.{last_tag, known_vector, minimum, stable_count, stable_vector, is_stable, carries_operation, unstable_messages, unstable_of, unstable_operations, unstable_noops, noop_window}
 use Rattle.causal_model.specs.Crook.{tag_of, regress_of, unclosed_at, unclosed_of}
 use Rattle.causal_model.specs.Chapter.{is_next, is_chapter}
 use Rattle.causal_model.specs.Covering.{store_keeps, store_covers}
-use Rattle.causal_model.specs.Log.{is_covered_by, is_uncovered, kept_log}
-use Rattle.causal_model.specs.CellSteps.{pruned_log}
-use Rattle.causal_model.specs.Sending.{own_message, is_noop_due, outbox_of}
+use Rattle.causal_model.specs.Log.{is_covered_by, is_uncovered, kept_log, pruned_log}
+use Rattle.causal_model.specs.Sending.{own_message, HasRoom, is_noop_due, outbox_of}
 
 -- ---- before anything was delivered
 
@@ -34,11 +32,6 @@ NothingYet = (keeps : Update → Bool) (covers : Update → Update → Bool) (n 
 abbrev pub ChapterGrows : Type 0
 ChapterGrows = (n w me : ℕ) (ms : List Message) (m : Message)
     → is_chapter n w me (ms ++ m ∷ []) ≡ (is_chapter n w me ms && is_next n w me ms m)
-
--- the window has room for an own operation, or the no-op window for a no-op
-abbrev pub HasRoom : ℕ → ℕ → ℕ → List Message → Op → Type 0
-HasRoom n w me ms op.NoOp = unstable_noops n me ms me < noop_window n w
-HasRoom n w me ms (op.Update u) = unstable_operations n me ms me < w
 
 -- where there is room, a member's own message is the next that it delivers: it is deliverable, and not crooked
 abbrev pub OwnMessageIsNext : Type 0

@@ -1,17 +1,17 @@
 -- What holds of the events of a history and of their order, and of the queries that are asked of them. Each statement is
 -- the contract of a function of laws/events.rt.
-use Rattle.std.specs.Prelude.{◌≡◌, ◌⊎◌, ◌↔◌, ℕ, ◌*◌, ◌<◌, ◌≤◌, Bool, true, false, not, ◌&&◌, ◌||◌, ◌==◌, ◌+ℤ◌, if◌then◌else◌, List, [], ◌∷◌, ◌++◌, length, slice_get, filter, IsTrue, AllPairs, Contains, Option, Some}
+use Rattle.std.specs.Prelude.{◌≡◌, ◌⊎◌, ℕ, ◌*◌, ◌<◌, ◌≤◌, Bool, true, false, not, ◌&&◌, ◌||◌, ◌==◌, ◌+ℤ◌, if◌then◌else◌, List, [], ◌∷◌, ◌++◌, length, slice_get, filter, IsTrue, AllPairs, Contains, Option, Some}
 use Rattle.std.specs.List.{list_any}
 use Rattle.op_base.specs.declared.message.Message.{Message}
 use Rattle.op_base.specs.declared.name.ObjectId.{ObjectId}
 use Rattle.op_base.specs.declared.name.Kind.TheVariants.{RCounter}
 use Rattle.op_base.specs.declared.operation.Act.{Act}
-use Rattle.causal_model.specs.Acts.{is_clear}
+use Rattle.causal_model.specs.Acts.{is_clear, share_of}
 use Rattle.causal_model.specs.Covering.{store_covers}
 use Rattle.causal_model.specs.Log.{is_covered_by, is_uncovered}
 use Rattle.causal_model.specs.Order.{same_id, is_followed}
-use Rattle.causal_model.specs.History.{History, Event, events, epoch_of, with_message, is_before, is_history, is_limited}
-use Rattle.causal_model.specs.Query.{is_act_on, is_live, share_of, rcounter_sum, counter_sum, answer}
+use Rattle.causal_model.specs.History.{History, Event, events, SameEvents, epoch_of, with_message, is_before, is_history, is_limited}
+use Rattle.causal_model.specs.Query.{is_act_on, is_live, rcounter_sum, counter_sum, answer}
 use Rattle.causal_model.specs.Settled.{is_stable_event, is_uncovered_event, has_settled, has_pending}
 use Rattle.causal_model.specs.Parts.{has, has_by_uncovered, uncovered_answer}
 
@@ -59,10 +59,6 @@ LiveGoesUp = (w : ℕ) (h : History) (object : ObjectId) (a b : Event) → IsTru
     → IsTrue (is_live object (events h) a) → IsTrue (is_before a b) → IsTrue (is_live object (events h) b)
 
 -- ---- queries
-
--- two histories have the same events
-abbrev pub SameEvents : History → History → Type 0
-SameEvents g h = (e : Event) → (Contains (events g) e ↔ Contains (events h) e)
 
 -- two histories of the same events, in any two orders and of any two members, answer every object alike
 abbrev pub SameEventsAnswerAlike : Type 0

@@ -7,23 +7,19 @@ use Rattle.op_base.specs.declared.message.Message.{Message}
 use Rattle.op_base.specs.declared.name.ObjectId.{ObjectId}
 use Rattle.op_base.specs.declared.operation.Op.{Op}
 use Rattle.op_base.specs.declared.operation.Update.{Update}
-use Rattle.op_base.specs.declared.outcome.Step.{Step}
-use Rattle.causal_model.specs.CellSteps.{log_of}
+use Rattle.causal_model.specs.Log.{log_of}
 use Rattle.causal_model.specs.Counts.{count_of, is_deliverable, is_carried}
 use Rattle.causal_model.specs.History.{epoch_of, events, is_all_stable}
 use Rattle.causal_model.specs.Stability.{noop_window}
 use Rattle.causal_model.specs.Query.{answer}
 use Rattle.causal_model.specs.Settled.{settled_cell, settled_items}
-use Rattle.causal_model.specs.Sending.{own_message, sending, beating}
-use Rattle.causal_model.specs.Receiving.{State, start, counted, is_old, is_again, is_far, stands_before, next_early, crook_after, step_of, state_with, steps, with_early, accepts, receiving}
-use Rattle.causal_model.specs.Journal.{with_own, regrouped, state_after, replay, sending_notes, beating_notes, receiving_notes, IsGroup, AreGroups, notes_of, IsLegal}
+use Rattle.causal_model.specs.Sending.{own_message, HasRoom, local_rule, beat_rule}
+use Rattle.causal_model.specs.State.{State, start, counted, with_own}
+use Rattle.causal_model.specs.Early.{stands_before, is_again}
+use Rattle.causal_model.specs.Receiving.{is_old, is_far, next_early, next_of, crook_after, step_of, state_with, steps, with_early, receive_rule}
+use Rattle.causal_model.specs.Journal.{regrouped, state_after, replay, local_notes, beat_notes, receive_notes, IsGroup, AreGroups, notes_of, IsLegal}
 use Rattle.causal_model.specs.States.{AreEarly, IsState}
-use Rattle.causal_model.specs.Laws.Delivery.{HasRoom}
 use Rattle.causal_model.specs.declared.note.Note.{Note}
-
--- the early message that is taken next, by what a state has
-abbrev pub next_of : State → Option Message
-next_of s = next_early s.history.present.n (counted s.history) s.early
 
 -- ---- the steps of receiving
 
@@ -94,11 +90,16 @@ RegroupKeepsState = (w limit n me : ℕ) (s : State) → IsState w limit s → n
 
 -- ---- journals
 
--- what receiving notes makes of a state the state that it leaves
+-- what a call notes makes of a state the state that it leaves
+abbrev pub SendingReplays : Type 0
+SendingReplays = (w limit : ℕ) (s : State) (update : Update) → state_after s (local_notes (local_rule w limit update s).0) ≡ (local_rule w limit update s).1
+
+abbrev pub BeatingReplays : Type 0
+BeatingReplays = (w limit : ℕ) (s : State) → state_after s (beat_notes (beat_rule w limit s).0) ≡ (beat_rule w limit s).1
+
 abbrev pub ReceivingReplays : Type 0
-ReceivingReplays = (w limit : ℕ) (s : State) (m : Message) (made : List Step) (after : State) → IsState w limit s
-    → IsTrue (fits s.history.present.n m) → IsTrue (is_carried limit m)
-    → receiving w s m ≡ accepts made after → state_after s (receiving_notes m (accepts made after)) ≡ after
+ReceivingReplays = (w limit : ℕ) (s : State) (m : Message) → IsState w limit s → IsTrue (fits s.history.present.n m) → IsTrue (is_carried limit m)
+    → state_after s (receive_notes m (receive_rule w m s).0) ≡ (receive_rule w m s).1
 
 -- a group keeps what a state is, and leaves no early message that can be delivered
 abbrev pub GroupKeepsState : Type 0
@@ -112,13 +113,13 @@ GroupsGrow = (w limit : ℕ) (s : State) (groups : List (List Note)) (group : Li
 
 -- a legal list of notes gives a state, in which no early message can be delivered
 abbrev pub LegalIsState : Type 0
-LegalIsState = (w limit n me : ℕ) (notes : List Note) → n ≤ 16 → me < n → IsLegal w limit n me notes
+LegalIsState = (n w limit me : ℕ) (notes : List Note) → n ≤ 16 → me < n → IsLegal n w limit me notes
     → IsState w limit (replay n me notes) × (next_of (replay n me notes) ≡ None)
 
 -- legal notes followed by a group at what they give are legal
 abbrev pub LegalGrows : Type 0
-LegalGrows = (w limit n me : ℕ) (notes group : List Note) → IsLegal w limit n me notes → IsGroup w limit (replay n me notes) group
-    → IsLegal w limit n me (notes ++ group)
+LegalGrows = (n w limit me : ℕ) (notes group : List Note) → IsLegal n w limit me notes → IsGroup w limit (replay n me notes) group
+    → IsLegal n w limit me (notes ++ group)
 
 -- a call notes nothing at a state, or one group
 abbrev pub IsGroupOrNone : ℕ → ℕ → State → List Note → Type 0
@@ -127,17 +128,16 @@ IsGroupOrNone w limit s notes = (notes ≡ []) ⊎ IsGroup w limit s notes
 -- sending a valid update does so
 abbrev pub SendingNotesOneGroup : Type 0
 SendingNotesOneGroup = (w limit : ℕ) (s : State) (update : Update) → IsTrue (is_valid_update update)
-    → IsGroupOrNone w limit s (sending_notes (sending s.history.present.n w limit s.history.present.me s.history.present.messages update))
+    → IsGroupOrNone w limit s (local_notes (local_rule w limit update s).0)
 
 -- so does sending a no-op
 abbrev pub BeatingNotesOneGroup : Type 0
-BeatingNotesOneGroup = (w limit : ℕ) (s : State)
-    → IsGroupOrNone w limit s (beating_notes (beating s.history.present.n w limit s.history.present.me s.history.present.messages))
+BeatingNotesOneGroup = (w limit : ℕ) (s : State) → IsGroupOrNone w limit s (beat_notes (beat_rule w limit s).0)
 
 -- so does receiving a message of the store that can be carried there
 abbrev pub ReceivingNotesOneGroup : Type 0
 ReceivingNotesOneGroup = (w limit : ℕ) (s : State) (m : Message) → IsTrue (fits s.history.present.n m) → IsTrue (is_carried limit m)
-    → IsGroupOrNone w limit s (receiving_notes m (receiving w s m))
+    → IsGroupOrNone w limit s (receive_notes m (receive_rule w m s).0)
 
 -- ---- the end of an epoch
 

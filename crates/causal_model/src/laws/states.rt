@@ -1,6 +1,6 @@
 //! Laws of the states that a replica can be in, of the steps of receiving, of journals and of the end of an epoch.
 
-ghost use Rattle.causal_model.specs.Laws.States.{StepsOfNone, StepsOfOneMore, NoneIsNextAfterSteps, StepsTakeMessagesOut, NextIsOfTheLowest, EqualSetsAreEqualLists, EarlyIsBounded, AllEarlyIsBounded, StartIsState, StepKeepsState, AcceptKeepsState, OwnKeepsState, RegroupKeepsState, ReceivingReplays, GroupKeepsState, GroupsGrow};
+ghost use Rattle.causal_model.specs.Laws.States.{StepsOfNone, StepsOfOneMore, NoneIsNextAfterSteps, StepsTakeMessagesOut, NextIsOfTheLowest, EqualSetsAreEqualLists, EarlyIsBounded, AllEarlyIsBounded, StartIsState, StepKeepsState, AcceptKeepsState, OwnKeepsState, RegroupKeepsState, SendingReplays, BeatingReplays, ReceivingReplays, GroupKeepsState, GroupsGrow};
 ghost use Rattle.causal_model.specs.Laws.States.{LegalIsState, LegalGrows, SendingNotesOneGroup, BeatingNotesOneGroup, ReceivingNotesOneGroup, RegroupKeepsEvents, RegroupKeepsItems};
 
 /// The steps of receiving go on, one after the other, until no early message can be delivered, and each takes one out.
@@ -31,7 +31,9 @@ pub fn calls_keep_states()
 /// What calls note replays to the state that they leave, groups of notes can be put after each other, and legal notes
 /// give a state.
 pub fn journals_are_of_groups()
-    ensures replays { ReceivingReplays }
+    ensures sending { SendingReplays }
+    ensures beating { BeatingReplays }
+    ensures receiving { ReceivingReplays }
     ensures keeps { GroupKeepsState }
     ensures grow { GroupsGrow }
     ensures legal { LegalIsState }

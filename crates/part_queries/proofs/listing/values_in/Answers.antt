@@ -1,7 +1,7 @@
 use Rattle.std.proofs.Common.{◌≡◌, ◌↔◌, IsTrue, Contains, map, ap, sym, subst, ◌∙◌}
 use Rattle.std.specs.List.{filter, list_any}
 use Rattle.std.proofs.lemmas.List.{take_all}
-use Rattle.causal_model.specs.Laws.Answers.{TextsRise}
+use Rattle.causal_model.specs.Query.{TextsRise}
 use Rattle.causal_model.specs.Parts.{is_in}
 use Rattle.part_queries.specs.Finds.{puts_in, takes_out}
 use Rattle.part_queries.proofs.Listed.{value_in, is_kept, listed_rise, listed_exactly}

@@ -2,7 +2,7 @@ use Rattle.std.proofs.Common.{◌≤◌, length, arith}
 use denote.Struct.Props.{props}
 use Rattle.std.proofs.Math.Logic.{∥∥₁_elim}
 use Rattle.replica_core.specs.Rules.{fields_of}
-use Rattle.replica_node.proofs.Few.{narrow_by_test, early_are_few}
+use Rattle.replica_node.proofs.Stands.{narrow_by_test, early_are_few}
 use Rattle.replica_node.proofs.node.most_notes.Goals as goal
 
 pub overflow_add-result : goal.overflow_add-result

@@ -1,7 +1,7 @@
 use Rattle.std.proofs.Common.{◌<◌, length, sym, ap, ◌∙◌, arith}
 use Rattle.std.specs.List.{find, list_any}
 use Rattle.std.specs.Option.{is_some}
-use Rattle.causal_model.specs.Receiving.{has_id}
+use Rattle.causal_model.specs.Early.{has_id}
 use Rattle.causal_buffer.specs.Buffer.{Buffer}
 use Rattle.causal_buffer.specs.Queue.{messages}
 use Rattle.causal_buffer.proofs.Kept.{any_in_queue, some_copied}

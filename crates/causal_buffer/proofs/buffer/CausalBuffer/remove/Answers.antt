@@ -2,7 +2,7 @@ use Rattle.std.proofs.Common.{◌<◌, length, set, sym, ap, subst, ◌∙◌, a
 use Rattle.std.specs.List.{find}
 use Rattle.causal_buffer.specs.Queue.{messages}
 use Rattle.std.proofs.lemmas.List.{length-set}
-use Rattle.causal_model.specs.Receiving.{has_id, without}
+use Rattle.causal_model.specs.Early.{has_id, without}
 use Rattle.causal_buffer.specs.Buffer.{Buffer, with_messages, AreAhead, AreNear}
 use Rattle.causal_buffer.proofs.Kept.{kept_at, kept_set, kept_without, find_in_queue, without_in_queue, step_keeps_ahead, step_keeps_near}
 use Rattle.causal_buffer.proofs.Standing.{takes_next, keeps_step}

@@ -1,7 +1,7 @@
 use Rattle.std.proofs.Common.{◌≡◌, ◌+◌, ◌<◌, length, refl, sym, ap, ◌∙◌, None, arith}
 use Rattle.std.specs.Option.{option_copied}
 use Rattle.std.proofs.lemmas.List.{get_or_default, get_or_past}
-use Rattle.causal_model.specs.Receiving.{has_id}
+use Rattle.causal_model.specs.Early.{has_id}
 use Rattle.causal_model.proofs.Finds.{none_found}
 use Rattle.causal_buffer.specs.Queue.{messages}
 use Rattle.causal_buffer.proofs.Places.{below_from, past_from, found_at, none_has_id}

@@ -3,7 +3,7 @@ use Rattle.std.specs.List.{find}
 use Rattle.std.proofs.lemmas.List.{get_or_default, get_or_past, set_past}
 use Rattle.std.proofs.lemmas.List.Elements.{All-filter}
 use Rattle.op_base.specs.Message.{number}
-use Rattle.causal_model.specs.Receiving.{has_id, without}
+use Rattle.causal_model.specs.Early.{has_id, without}
 use Rattle.causal_model.proofs.Finds.{none_found}
 use Rattle.causal_buffer.specs.Queue.{standing, messages}
 use Rattle.causal_buffer.proofs.Parts.{all_stay}

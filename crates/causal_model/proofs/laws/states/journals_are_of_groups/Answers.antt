@@ -1,8 +1,14 @@
-use Rattle.causal_model.proofs.Journals.{receiving_replays, group_keeps_state, groups_grow, legal_is_state, legal_grows}
+use Rattle.causal_model.proofs.Journals.{sending_replays, beating_replays, receiving_replays, group_keeps_state, groups_grow, legal_is_state, legal_grows}
 use Rattle.causal_model.proofs.laws.states.journals_are_of_groups.Goals as goal
 
-pub returns-clause-replays : goal.returns-clause-replays
-returns-clause-replays c = receiving_replays
+pub returns-clause-sending : goal.returns-clause-sending
+returns-clause-sending c = sending_replays
+
+pub returns-clause-beating : goal.returns-clause-beating
+returns-clause-beating c = beating_replays
+
+pub returns-clause-receiving : goal.returns-clause-receiving
+returns-clause-receiving c = λ w limit s m is fit carried. receiving_replays w limit s m is fit carried
 
 pub returns-clause-keeps : goal.returns-clause-keeps
 returns-clause-keeps c = group_keeps_state

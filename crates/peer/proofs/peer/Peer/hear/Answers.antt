@@ -1,11 +1,13 @@
 use Rattle.std.proofs.Common.{sym, subst}
-use Rattle.causal_model.specs.Receiving.{State}
+use Rattle.causal_model.specs.Follows.{Follows}
 use Rattle.replica_core.specs.Rules.{StandsFor}
 use Rattle.replica_core.specs.declared.replica.Replica.{Replica}
-use Rattle.replica_core.proofs.Bounds.{is_bounded}
-use Rattle.peer.specs.Rules.{AnswersHear}
+use Rattle.peer.specs.Calls.{is_read}
+use Rattle.peer.specs.Rules.{hear_rule}
 use Rattle.peer.specs.declared.answers.Heard.{Heard}
-use Rattle.peer.proofs.Hears.{frame_is_carried, answers_hear}
+use Rattle.peer.specs.declared.answers.Heard.TheVariants as heard
+use Rattle.peer.proofs.Hears.{frame_is_carried, heard_follows}
+use Rattle.peer.proofs.Stands.{is_bounded}
 use Rattle.peer.proofs.peer.Peer.hear.Goals as goal
 
 pub returns-in-Err-Frame-clause-bounded : goal.returns-in-Err-Frame-clause-bounded
@@ -21,7 +23,8 @@ receive-requires-clause-carried c =
 
 pub returns-clause-answer : goal.returns-clause-answer
 returns-clause-answer c =
-    subst (λ (r : Replica). (s : State) → StandsFor r s → AnswersHear r s c.args.bytes.now c.heard_of.result c.receive.new.self) c.self.view_is (λ s stands.
     let r = c.self.inside.replica in
-    subst (λ (x : Heard). AnswersHear r s c.args.bytes.now x c.receive.new.self) (sym c.heard_of.ensures)
-    (answers_hear r s c.args.bytes.now c.in-Ok.message c.receive.result c.receive.new.self c.in-Ok.ensures.found (c.receive.ensures.answer s stands)))
+    let bytes = c.args.bytes.now in
+    subst (λ (r : Replica). Follows StandsFor heard.NoMemory is_read (hear_rule r.n r.w r.limit bytes) r c.heard_of.result c.receive.new.self) c.self.view_is
+    (subst (λ (x : Heard). Follows StandsFor heard.NoMemory is_read (hear_rule r.n r.w r.limit bytes) r x c.receive.new.self) (sym c.heard_of.ensures)
+    (heard_follows r c.receive.new.self bytes c.in-Ok.message c.receive.result c.in-Ok.ensures.found c.receive.ensures.answer))

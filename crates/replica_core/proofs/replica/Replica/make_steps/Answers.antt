@@ -15,7 +15,6 @@ loop-step-preserved c =
     let step = c.in-Some.step in
     record {
       settings = same_settings_after old now new making.settings c.in-Some.ensures.settings;
-      spare = c.in-Some.ensures.spare;
       room = omega (arith, making.room, c.in-Some.ensures.fewer, ap length c.push_reserved.ensures.items, length_push made step, c.push_reserved.ensures.capacity);
       are_made = λ s stands.
           let has = making.are_made s stands in

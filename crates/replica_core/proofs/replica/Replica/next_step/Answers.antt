@@ -4,7 +4,7 @@ use Rattle.op_base.specs.Message.{fits}
 use Rattle.causal_model.specs.Receiving.{crook_after}
 use Rattle.causal_buffer.specs.Buffer.{Buffer}
 use Rattle.replica_core.specs.Rules.{fields_of}
-use Rattle.replica_core.proofs.Stands.{length-counts_in, length-rows_in, length-held_in, of_me_in, buffer_n_in, ahead_in}
+use Rattle.replica_core.proofs.Stands.{length-counts_in, length-rows_in, length-held_in, of_me_in, buffer_n_in, ahead_in, items_room_in}
 use Rattle.replica_core.proofs.Takes.{state_without, not_crooked, is_crooked, without_stands, is_taken, check_tells, delivered_is_state, is_step_of_delivered, is_step_of_dropped, next_is_found_in, taken_fits_in, taken_entries_in, taken_member_in, taken_is_of_other_in, fewer_are_left_in, length-stable_in}
 use Rattle.replica_core.proofs.replica.Replica.next_step.Goals as goal
 
@@ -78,6 +78,12 @@ step-requires-clause-sender c =
     let r = c.args.self.now in
     (taken_is_of_other_in (fields_of r) r.stands c.in_ok-id.id c.in_ok-id.ensures.in_state c.in-Some.message c.in-Some.ensures.in_state, c.stable_after-stable.ensures.least)
 
+pub step-requires-clause-room : goal.step-requires-clause-room
+step-requires-clause-room c =
+    let r = c.args.self.now in
+    let fewer = fewer_are_left_in (fields_of r) r.stands c.in_ok-id.id c.in_ok-id.ensures.in_state c.in-Some.message c.in-Some.ensures.in_state in
+    omega (arith, fewer, items_room_in (fields_of r) r.stands, ap (λ (b : Buffer). length b.early) c.remove.ensures.others)
+
 pub returns-in-Ok-clause-step : goal.returns-in-Ok-clause-step
 returns-in-Ok-clause-step c = λ s stands.
     let r = c.args.self.now in
@@ -96,12 +102,6 @@ returns-in-Ok-clause-fewer c =
     let fewer = fewer_are_left_in (fields_of r) r.stands c.in_ok-id.id c.in_ok-id.ensures.in_state c.in-Some.message c.in-Some.ensures.in_state in
     omega (arith, fewer, ap (λ (b : Buffer). length b.early) c.remove.ensures.others, ap (λ (b : Buffer). length b.early) c.step.ensures.buffer)
 
-pub returns-in-Ok-clause-spare : goal.returns-in-Ok-clause-spare
-returns-in-Ok-clause-spare c =
-    let r = c.args.self.now in
-    let fewer = fewer_are_left_in (fields_of r) r.stands c.in_ok-id.id c.in_ok-id.ensures.in_state c.in-Some.message c.in-Some.ensures.in_state in
-    omega (arith, fewer, c.requires, c.step.ensures.spare, ap (λ (b : Buffer). length b.early) c.remove.ensures.others, ap (λ (b : Buffer). length b.early) c.step.ensures.buffer)
-
 pub returns-in-Err-clause-step : goal.returns-in-Err-clause-step
 returns-in-Err-clause-step c = λ s stands.
     let r = c.args.self.now in
@@ -117,9 +117,3 @@ returns-in-Err-clause-fewer c =
     let r = c.args.self.now in
     let fewer = fewer_are_left_in (fields_of r) r.stands c.in_ok-id.id c.in_ok-id.ensures.in_state c.in-Some.message c.in-Some.ensures.in_state in
     omega (arith, fewer, ap (λ (b : Buffer). length b.early) c.remove.ensures.others)
-
-pub returns-in-Err-clause-spare : goal.returns-in-Err-clause-spare
-returns-in-Err-clause-spare c =
-    let r = c.args.self.now in
-    let fewer = fewer_are_left_in (fields_of r) r.stands c.in_ok-id.id c.in_ok-id.ensures.in_state c.in-Some.message c.in-Some.ensures.in_state in
-    omega (arith, fewer, c.requires, ap (λ (b : Buffer). length b.early) c.remove.ensures.others)

@@ -1,53 +1,24 @@
-use Rattle.std.proofs.Common.{◌≡◌, ◌≢◌, List, [], length, vec_len, sym, ap, subst, ◌∙◌, arith}
-use Rattle.std.proofs.lemmas.Bool.{eqb-true, eqb-false}
-use Rattle.std.proofs.lemmas.List.{nil_from_length}
-use Rattle.op_base.specs.declared.outcome.Step.{Step}
-use Rattle.replica_core.specs.Rules.{Accepts}
+use Rattle.std.proofs.Common.{sym, subst, ◌∙◌}
+use Rattle.causal_model.specs.Follows.{Follows}
+use Rattle.causal_model.specs.Receiving.{is_accepted, receive_rule}
+use Rattle.causal_model.specs.declared.outcome.Receive.TheVariants as receive
+use Rattle.replica_core.specs.Rules.{StandsFor}
 use Rattle.replica_core.proofs.Bounds.{is_bounded}
-use Rattle.replica_core.proofs.Receives.{new_in, apart_in, near_in, receives_accepted}
+use Rattle.replica_core.proofs.Receives.{no_refusal, accepted_follows, lacking_accepts}
 use Rattle.replica_core.proofs.replica.Replica.receive.Goals as goal
 
-pub returns-in-Some-Old-clause-bounded : goal.returns-in-Some-Old-clause-bounded
-returns-in-Some-Old-clause-bounded c = is_bounded _
-
-pub returns-in-Some-Again-clause-bounded : goal.returns-in-Some-Again-clause-bounded
-returns-in-Some-Again-clause-bounded c = is_bounded _
-
-pub returns-in-Some-Far-clause-bounded : goal.returns-in-Some-Far-clause-bounded
-returns-in-Some-Far-clause-bounded c = is_bounded _
-
-pub take_in-requires-clause-new : goal.take_in-requires-clause-new
-take_in-requires-clause-new c = new_in c.args.self.now c.args.message c.in-None.ensures
-
-pub take_in-requires-clause-apart : goal.take_in-requires-clause-apart
-take_in-requires-clause-apart c = apart_in c.args.self.now c.args.message c.in-None.ensures
-
-pub take_in-requires-clause-near : goal.take_in-requires-clause-near
-take_in-requires-clause-near c = near_in c.args.self.now c.args.message c.in-None.ensures
-
-pub returns-in-Err-clause-bounded : goal.returns-in-Err-clause-bounded
-returns-in-Err-clause-bounded c = is_bounded _
+pub returns-in-Some-clause-bounded : goal.returns-in-Some-clause-bounded
+returns-in-Some-clause-bounded c = is_bounded _
 
 pub returns-in-Ok-clause-answer : goal.returns-in-Ok-clause-answer
-returns-in-Ok-clause-answer c = λ s stands.
+returns-in-Ok-clause-answer c =
     let r = c.args.self.now in
-    let made = c.in-Ok.steps in
-    let empty : vec_len made ≡ 0 = eqb-true (vec_len made) 0 (sym c.if-is_empty.ensures) in
-    let none : made.items ≡ [] = nil_from_length made.items (omega (arith, empty, made.ok.0)) in
-    subst (λ (all : List Step). Accepts r s c.args.message all c.take_in.new.self) none (receives_accepted r s stands c.args.message (c.in-None.ensures s stands) made.items c.take_in.new.self (c.in-Ok.ensures.steps s stands))
+    let m = c.args.message in
+    let none = no_refusal c.refusal.result c.in_default.not-Some in
+    subst (λ a. Follows StandsFor receive.NoMemory is_accepted (receive_rule r.w m) r a c.accept.new.self) (sym c.accepted.ensures)
+    (accepted_follows r m c.accept.new.self (λ s stands. sym none ∙ c.refusal.ensures s stands) c.in-Ok.steps c.in-Ok.ensures.steps)
 
-pub returns-in-Ok-clause-bounded : goal.returns-in-Ok-clause-bounded
-returns-in-Ok-clause-bounded c = is_bounded _
-
-pub returns-clause-answer : goal.returns-clause-answer
-returns-clause-answer c = λ s stands.
-    let r = c.args.self.now in
-    let made = c.in-Ok.steps in
-    let some : vec_len made ≢ 0 = eqb-false (vec_len made) 0 (sym c.if-is_empty.ensures) in (
-      λ none. some (omega (arith, ap length (sym c.from_vec.ensures ∙ none), made.ok.0)),
-      subst (λ (all : List Step). Accepts r s c.args.message all c.take_in.new.self) (sym c.from_vec.ensures)
-          (receives_accepted r s stands c.args.message (c.in-None.ensures s stands) made.items c.take_in.new.self (c.in-Ok.ensures.steps s stands)),
-    )
-
-pub returns-clause-bounded : goal.returns-clause-bounded
-returns-clause-bounded c = is_bounded _
+pub returns-in-Err-clause-answer : goal.returns-in-Err-clause-answer
+returns-in-Err-clause-answer c =
+    let none = no_refusal c.refusal.result c.in_default.not-Some in
+    lacking_accepts c.args.self.now c.args.message c.accept.new.self (λ s stands. sym none ∙ c.refusal.ensures s stands) c.in-Err.ensures.refused

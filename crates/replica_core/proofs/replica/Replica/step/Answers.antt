@@ -1,9 +1,8 @@
-use Rattle.std.proofs.Common.{List, length, slice_set, refl, sym, ap, ◌∙◌, arith}
+use Rattle.std.proofs.Common.{List, length, slice_set, refl, sym, ap, subst, ◌∙◌, arith}
 use Rattle.std.proofs.Math.Logic.{∥∥₁_map}
 use Rattle.std.proofs.lemmas.List.{length-set}
 use Rattle.std.proofs.lemmas.List.FromFn.{length-map-range_with_len}
-use Rattle.causal_model.specs.Journal.{with_own}
-use Rattle.causal_model.specs.Receiving.{State}
+use Rattle.causal_model.specs.State.{with_own, State}
 use Rattle.causal_model.specs.Stability.{minimum}
 use Rattle.causal_model.specs.States.{IsState}
 use Rattle.outbox.specs.Sent.{Sent}
@@ -13,21 +12,40 @@ use Rattle.tag_window.specs.Window.{Window}
 use Rattle.tag_window.specs.declared.held.Held.{Held}
 use Rattle.replica_core.specs.Rules.{fields_of}
 use Rattle.replica_core.specs.Standing.{Standing}
+use Rattle.replica_core.specs.Steps.{IsSender}
 use Rattle.replica_core.proofs.Ranges.{AreNumbers-from_test}
-use Rattle.replica_core.proofs.Stands.{length-counts_in, length-rows_in, length-held_in}
+use Rattle.replica_core.proofs.Stands.{length-counts_in, length-rows_in, length-held_in, of_me_in}
 use Rattle.replica_core.proofs.StepParts.{origin_in, length-tag_in, window_room_in, window_next_in, outbox_room_in, outbox_fits_in, outbox_next_in, outbox_n_in, stable_with, ready_with, all_stand}
 use Rattle.replica_core.proofs.replica.Replica.step.Goals as goal
 use Rattle.replica_core.proofs.replica.Replica.step.Goals.{After-settle}
 
-pub note-sent-requires-clause-origin : goal.note-sent-requires-clause-origin
-note-sent-requires-clause-origin c =
+pub note-requires-clause-origin : goal.note-requires-clause-origin
+note-requires-clause-origin c =
     let r = c.args.self.now in
     omega (arith, origin_in (fields_of r) c.args.message c.requires.next, length-rows_in (fields_of r) r.stands)
 
-pub note-sent-requires-clause-entries : goal.note-sent-requires-clause-entries
-note-sent-requires-clause-entries c =
+pub note-requires-clause-entries : goal.note-requires-clause-entries
+note-requires-clause-entries c =
     let r = c.args.self.now in
     omega (arith, length-tag_in (fields_of r) c.args.message c.requires.next, length-rows_in (fields_of r) r.stands)
+
+pub note-requires-clause-sender : goal.note-requires-clause-sender
+note-requires-clause-sender c =
+    let r = c.args.self.now in
+    subst (λ me. IsSender me r.matrix c.args.message c.args.sender) (sym (of_me_in (fields_of r) r.stands)) c.requires.sender
+
+pub note-requires-clause-room : goal.note-requires-clause-room
+note-requires-clause-room c =
+    let r = c.args.self.now in
+    outbox_room_in (fields_of r) c.args.message c.requires.next (AreNumbers-from_test r.me r.n r.w r.limit r.numbers).wide
+
+pub note-requires-clause-fits : goal.note-requires-clause-fits
+note-requires-clause-fits c = λ own. outbox_fits_in (fields_of c.args.self.now) c.args.message c.requires.next
+
+pub note-requires-clause-next : goal.note-requires-clause-next
+note-requires-clause-next c =
+    let r = c.args.self.now in
+    outbox_next_in (fields_of r) c.args.message c.requires.next (AreNumbers-from_test r.me r.n r.w r.limit r.numbers).wide
 
 pub at-requires : goal.at-requires
 at-requires c =
@@ -59,29 +77,14 @@ push-requires-clause-next c =
     let r = c.args.self.now in
     window_next_in (fields_of r) c.args.message c.requires.next (AreNumbers-from_test r.me r.n r.w r.limit r.numbers).wide
 
-pub send_again-requires-clause-room : goal.send_again-requires-clause-room
-send_again-requires-clause-room c =
-    let r = c.args.self.now in
-    outbox_room_in (fields_of r) c.args.message c.requires.next c.note-sent.result c.note-sent.ensures.sent (AreNumbers-from_test r.me r.n r.w r.limit r.numbers).wide
-
-pub send_again-requires-clause-fits : goal.send_again-requires-clause-fits
-send_again-requires-clause-fits c =
-    let r = c.args.self.now in
-    outbox_fits_in (fields_of r) c.args.message c.requires.next c.note-sent.result c.note-sent.ensures.sent
-
-pub send_again-requires-clause-next : goal.send_again-requires-clause-next
-send_again-requires-clause-next c =
-    let r = c.args.self.now in
-    outbox_next_in (fields_of r) c.args.message c.requires.next c.note-sent.result c.note-sent.ensures.sent (AreNumbers-from_test r.me r.n r.w r.limit r.numbers).wide
-
 pub drop_stable-requires : goal.drop_stable-requires
 drop_stable-requires c =
     let r = c.args.self.now in
     omega (
       arith,
       ap length c.stable-stable.ensures.least,
-      length-map-range_with_len (λ member. minimum (column_of c.note-sent.new.matrix.rows member)) 0 (length c.note-sent.new.matrix.rows),
-      c.note-sent.ensures.members,
+      length-map-range_with_len (λ member. minimum (column_of c.note.new.matrix.rows member)) 0 (length c.note.new.matrix.rows),
+      c.note.ensures.members,
       length-rows_in (fields_of r) r.stands,
       ap (λ (w : Window). length w.held) c.push.ensures.held,
       length-set {A = List Held},
@@ -94,10 +97,10 @@ drop_stable-requires-2 c =
     omega (
       arith,
       ap length c.stable-stable.ensures.least,
-      length-map-range_with_len (λ member. minimum (column_of c.note-sent.new.matrix.rows member)) 0 (length c.note-sent.new.matrix.rows),
-      c.note-sent.ensures.members,
+      length-map-range_with_len (λ member. minimum (column_of c.note.new.matrix.rows member)) 0 (length c.note.new.matrix.rows),
+      c.note.ensures.members,
       length-rows_in (fields_of r) r.stands,
-      ap (λ (o : Sent). o.n) c.send_again.ensures,
+      ap (λ (o : Sent). o.n) c.note.ensures.outbox,
       outbox_n_in (fields_of r) c.args.message c.requires.next,
     )
 
@@ -110,19 +113,19 @@ settle-requires-clause-ready c =
       r.limit,
       x.0.history,
       ready_with (fields_of r) x.0 c.args.message x.1 x.2 numbers.wide numbers.most c.stable-before.result c.stable-stable.result c.stable-before.ensures.known
-          (stable_with (fields_of r) x.0 c.args.message x.1 x.2 c.note-sent.new.matrix c.stable-stable.result c.note-sent.ensures.known c.stable-stable.ensures.known),
+          (stable_with (fields_of r) x.0 c.args.message x.1 x.2 c.note.new.matrix c.stable-stable.result c.note.ensures.known c.stable-stable.ensures.known),
     ))
 
 -- once all parts have the message, the fields stand for the state with it
 after : (c : After-settle) (s : State) → Standing (fields_of c.args.self.now) s → IsState c.args.self.now.w c.args.self.now.limit (with_own s c.args.message)
-    → Standing (record (fields_of c.args.self.now) { counts = c.set.new.self; matrix = c.note-sent.new.matrix; window = c.drop_stable.new.self; log = c.settle.new.log; items = shown c.settle.new.items; outbox = c.drop_stable-2.new.self; due = c.is_due-self.result }) (with_own s c.args.message)
+    → Standing (record (fields_of c.args.self.now) { counts = c.set.new.self; matrix = c.note.new.matrix; window = c.drop_stable.new.self; log = c.settle.new.log; items = shown c.settle.new.items; outbox = c.drop_stable-2.new.self; due = c.is_due-self.result }) (with_own s c.args.message)
 after c =
     let r = c.args.self.now in
     let m = c.args.message in
     let numbers = AreNumbers-from_test r.me r.n r.w r.limit r.numbers in
-    all_stand (fields_of r) m numbers.wide numbers.most _ _ _ _ _ _ _ _ _ _ _ _ (c.set.ensures ∙ ap (slice_set r.counts m.origin) c.at.ensures) c.note-sent.ensures.known c.stable-before.ensures.known c.stable-stable.ensures.known
-    (λ messages. c.push.ensures.with r.n r.w r.me messages m refl refl (sym c.is_noop.ensures)) c.drop_stable.ensures.of c.note-sent.ensures.sent c.send_again.ensures c.drop_stable-2.ensures.dropped c.drop_stable-2.ensures.sent
-    (c.settle.ensures.are_of r.w r.limit) c.settle.ensures.room c.is_due-self.ensures
+    all_stand (fields_of r) m numbers.wide numbers.most _ _ _ _ _ _ _ _ _ _ _ (c.set.ensures ∙ ap (slice_set r.counts m.origin) c.at.ensures) c.note.ensures.known c.stable-before.ensures.known c.stable-stable.ensures.known
+    (λ messages. c.push.ensures.with r.n r.w r.me messages m refl refl (sym c.is_noop.ensures)) c.drop_stable.ensures.of c.note.ensures.outbox c.drop_stable-2.ensures.dropped c.drop_stable-2.ensures.sent
+    (c.settle.ensures.are_of r.w r.limit) c.settle.ensures.room c.requires.room c.settle.ensures.spare c.is_due-self.ensures
 
 pub invariant_of-self : goal.invariant_of-self
 invariant_of-self c = record {

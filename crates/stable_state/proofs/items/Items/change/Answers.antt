@@ -2,10 +2,10 @@ use Rattle.std.proofs.Common.{◌≡◌, ◌^◌, ◌+ℤ◌, true, ap, sym, sub
 use Rattle.std.specs.List.{HoldsAt}
 use Rattle.op_base.specs.declared.outcome.Cell.{Cell}
 use Rattle.op_base.specs.declared.outcome.Item.{Item}
-use Rattle.causal_model.specs.Acts.{value_of}
+use Rattle.causal_model.specs.Acts.{value_of, amount_of}
 use Rattle.causal_model.specs.CellSteps.{with_act}
 use Rattle.causal_model.specs.Items.{cell_in, is_at}
-use Rattle.causal_model.specs.Query.{amount_of, IsWithin}
+use Rattle.causal_model.specs.Query.{IsWithin}
 use Rattle.stable_state.specs.Picked.{is_place}
 use Rattle.stable_state.specs.Places.{IsGapFor}
 use Rattle.stable_state.proofs.Changes.{cell_changed, cell_found, cell_put, cell_replaced_at}

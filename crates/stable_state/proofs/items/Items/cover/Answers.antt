@@ -1,8 +1,7 @@
 use Rattle.std.proofs.Common.{ap, sym, subst, ◌∙◌}
 use Rattle.op_base.specs.declared.operation.Op.TheVariants as op
 use Rattle.causal_model.specs.CellSteps.{covers_place, cell_uncovered}
-use Rattle.causal_model.specs.Items.{cell_in, Rise}
-use Rattle.causal_model.specs.Laws.Cells.{AreFilled}
+use Rattle.causal_model.specs.Items.{cell_in, Rise, AreFilled}
 use Rattle.stable_state.proofs.Spans.{cell_without, rise_without, filled_without}
 use Rattle.stable_state.proofs.Moves.{covered_is_absorbed}
 use Rattle.stable_state.proofs.items.Items.cover.Goals as goal

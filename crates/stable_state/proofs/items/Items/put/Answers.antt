@@ -1,7 +1,6 @@
 use Rattle.std.proofs.Common.{◌≡◌, sym, subst, ◌∙◌, if◌then◌else◌}
 use Rattle.std.proofs.lemmas.Bool.{cond-true}
-use Rattle.causal_model.specs.Items.{is_filled, Rise}
-use Rattle.causal_model.specs.Laws.Cells.{AreFilled}
+use Rattle.causal_model.specs.Items.{is_filled, Rise, AreFilled}
 use Rattle.stable_state.specs.Shelf.{put_at}
 use Rattle.stable_state.proofs.Changes.{filled_put}
 use Rattle.stable_state.proofs.items.Items.put.Goals as goal

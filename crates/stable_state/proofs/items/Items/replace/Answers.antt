@@ -1,7 +1,6 @@
 use Rattle.std.proofs.Common.{◌≡◌, sym, subst, ◌∙◌}
 use Rattle.std.proofs.lemmas.Bool.{cond-true, cond-false}
-use Rattle.causal_model.specs.Items.{is_filled, Rise}
-use Rattle.causal_model.specs.Laws.Cells.{AreFilled}
+use Rattle.causal_model.specs.Items.{is_filled, Rise, AreFilled}
 use Rattle.stable_state.specs.Picked.{replaced}
 use Rattle.stable_state.proofs.Changes.{rise_at, filled_at}
 use Rattle.stable_state.proofs.items.Items.replace.Goals as goal

@@ -1,27 +1,31 @@
-use Rattle.std.proofs.Common.{rules, ◌≡◌, ◌≢◌, ◌<◌, ◌≤◌, ◌-◌, List, ℕ, length, map, slice_index_or, sym, subst, arith}
+use Rattle.std.proofs.Common.{rules, ◌≡◌, ◌≢◌, ◌<◌, ◌≤◌, ◌-◌, IsTrue, List, ℕ, length, map, slice_index_or, refl, sym, subst, arith}
 use Rattle.std.proofs.Props.{props}
 use Rattle.std.proofs.Math.Logic.{∥∥₁_elim, ∥∥₁_map}
+use Rattle.causal_model.specs.declared.outcome.Receive.TheVariants as receive
+use Rattle.world_model.specs.Commands as world_command
+use Rattle.world_model.specs.Honest.{IsHonest}
+use Rattle.world_model.specs.World.{takes_frame, give_at}
+use Rattle.world_model.specs.declared.outcome.Given.TheVariants as given
+use Rattle.honest_worlds.proofs.Commands.{commands_keep_honest}
+use Rattle.world.specs.Answers.{ShowsPlain}
+use Rattle.world.specs.Honest.{is_fair_given}
+use Rattle.world.proofs.Follow.{some_is_left, follows_keeps, follows_answers}
+use Rattle.world.proofs.Honest.{give_is_fair}
 use Rattle.world.proofs.Givings.{none_is_given, none_at_0, none_is_past, message_given, replies_give}
 use Rattle.world.proofs.Nodes.{n_shown, size_shown}
-use Rattle.world.proofs.Replies.{receive_leaves}
-use Rattle.world.specs.Answers.{ShowsPlain}
-use Rattle.world.specs.declared.answers.Given.TheVariants as given
-use Rattle.world.proofs.Honest.{give_is_fair}
 use Rattle.world.proofs.Nodes.{member_shown}
 use Rattle.world.proofs.world.World.give.Goals as goal
 
 pub returns-then-seq-eq0-clause-answer : goal.returns-then-seq-eq0-clause-answer
 returns-then-seq-eq0-clause-answer c plain shows =
     let nodes = c.args.self.now.nodes.items in
-    (none_is_given plain c.args.r c.args.k c.args.seq (none_at_0 nodes (map (λ row. row.items) c.args.self.now.sent.items) plain shows c.args.k c.requires.of c.args.seq c.if-seq-eq0.true), shows)
+    none_is_given plain c.args.r c.args.k c.args.seq (ShowsPlain c.args.self.now) (none_at_0 nodes (map (λ row. row.items) c.args.self.now.sent.items) plain shows c.args.k c.requires.of c.args.seq c.if-seq-eq0.true) shows
 
 pub returns-then-seq-len-clause-answer : goal.returns-then-seq-len-clause-answer
 returns-then-seq-len-clause-answer c plain shows =
-    let past : length c.index-frames.result.now.items < c.args.seq = search rules in (
-      none_is_given plain c.args.r c.args.k c.args.seq
-          (none_is_past (λ row. row.items) c.args.self.now.nodes.items c.args.self.now.sent.items plain shows c.args.k c.index-frames.result.now c.requires.of c.index-frames.ensures c.args.seq past),
-      shows,
-    )
+    let past : length c.index-frames.result.now.items < c.args.seq = search rules in
+    none_is_given plain c.args.r c.args.k c.args.seq (ShowsPlain c.args.self.now)
+    (none_is_past (λ row. row.items) c.args.self.now.nodes.items c.args.self.now.sent.items plain shows c.args.k c.index-frames.result.now c.requires.of c.index-frames.ensures c.args.seq past) shows
 
 pub offer_frame-requires-clause-of : goal.offer_frame-requires-clause-of
 offer_frame-requires-clause-of c =
@@ -49,9 +53,8 @@ invariant_of-self-2 c =
     let is = subst (λ (x : List ℕ). x ≡ slice_index_or row.items (c.args.seq - 1) x) (sym c.as_slice-frame.ensures) c.index.ensures in
     record {
       shows = ∥∥₁_map c.args.self.now.shows (λ x.
-          let answers = replies_give (λ row. row.items) c.args.self.now.nodes.items c.args.self.now.sent.items x.0 x.1 c.args.k row c.requires.of c.index-frames.ensures c.args.r node (record { low = c.requires.to; at = c.index_mut.ensures.value }) c.args.seq some most c.as_slice-frame.result.now is
-          c.offer_frame.new.node c.offer_frame.ensures.same c.offer_frame.result c.offer_frame.ensures.answer in
-          receive_leaves x.0 c.args.r answers.0 _ c.offer_frame.result answers.2);
+          some_is_left (given.Got receive.NoMemory) takes_frame (give_at c.args.r c.args.k c.args.seq x.0) x.0 (given.Got c.offer_frame.result) _ (replies_give (λ row. row.items) c.args.self.now.nodes.items c.args.self.now.sent.items x.0 x.1 c.args.k row c.requires.of c.index-frames.ensures c.args.r node (record { low = c.requires.to; at = c.index_mut.ensures.value }) c.args.seq some most c.as_slice-frame.result.now is
+          c.offer_frame.new.node c.offer_frame.ensures.same c.offer_frame.result c.offer_frame.ensures.answer));
     }
 
 pub returns-clause-answer : goal.returns-clause-answer
@@ -64,26 +67,20 @@ returns-clause-answer c plain shows =
     replies_give (λ row. row.items) c.args.self.now.nodes.items c.args.self.now.sent.items plain shows c.args.k row c.requires.of c.index-frames.ensures c.args.r node (record { low = c.requires.to; at = c.index_mut.ensures.value }) c.args.seq some most c.as_slice-frame.result.now is
     c.offer_frame.new.node c.offer_frame.ensures.same c.offer_frame.result c.offer_frame.ensures.answer
 
-pub returns-then-seq-eq0-clause-honest : goal.returns-then-seq-eq0-clause-honest
-returns-then-seq-eq0-clause-honest c old =
-    (give_is_fair old.0 c.args.r c.args.k c.args.seq given.Unsent _ old.2 (member_shown c.args.self.now.nodes.items _ old.0 old.1 c.args.r c.requires.to) (returns-then-seq-eq0-clause-answer c old.0 old.1)).leaves
-
 pub returns-then-seq-eq0-clause-fair : goal.returns-then-seq-eq0-clause-fair
-returns-then-seq-eq0-clause-fair c old =
-    (give_is_fair old.0 c.args.r c.args.k c.args.seq given.Unsent (ShowsPlain c.args.self.now) old.2 (member_shown c.args.self.now.nodes.items _ old.0 old.1 c.args.r c.requires.to) (returns-then-seq-eq0-clause-answer c old.0 old.1)).fair_is
-
-pub returns-then-seq-len-clause-honest : goal.returns-then-seq-len-clause-honest
-returns-then-seq-len-clause-honest c old =
-    (give_is_fair old.0 c.args.r c.args.k c.args.seq given.Unsent _ old.2 (member_shown c.args.self.now.nodes.items _ old.0 old.1 c.args.r c.requires.to) (returns-then-seq-len-clause-answer c old.0 old.1)).leaves
+returns-then-seq-eq0-clause-fair c old = refl
 
 pub returns-then-seq-len-clause-fair : goal.returns-then-seq-len-clause-fair
-returns-then-seq-len-clause-fair c old =
-    (give_is_fair old.0 c.args.r c.args.k c.args.seq given.Unsent (ShowsPlain c.args.self.now) old.2 (member_shown c.args.self.now.nodes.items _ old.0 old.1 c.args.r c.requires.to) (returns-then-seq-len-clause-answer c old.0 old.1)).fair_is
+returns-then-seq-len-clause-fair c old = refl
 
 pub returns-clause-honest : goal.returns-clause-honest
-returns-clause-honest c old =
-    (give_is_fair old.0 c.args.r c.args.k c.args.seq (given.Got c.offer_frame.result) _ old.2 (member_shown c.args.self.now.nodes.items _ old.0 old.1 c.args.r c.requires.to) (returns-clause-answer c old.0 old.1)).leaves
+returns-clause-honest c =
+    follows_keeps (given.Got receive.NoMemory) (give_at c.args.r c.args.k c.args.seq) IsHonest (ShowsPlain c.args.self.now) _ (given.Got c.offer_frame.result) takes_frame
+    (λ plain shows honest. (commands_keep_honest plain (world_command.gives c.args.r c.args.k c.args.seq) honest (member_shown c.args.self.now.nodes.items _ plain shows c.args.r c.requires.to) refl).0)
+    (returns-clause-answer c)
 
 pub returns-clause-fair : goal.returns-clause-fair
-returns-clause-fair c old =
-    (give_is_fair old.0 c.args.r c.args.k c.args.seq (given.Got c.offer_frame.result) _ old.2 (member_shown c.args.self.now.nodes.items _ old.0 old.1 c.args.r c.requires.to) (returns-clause-answer c old.0 old.1)).fair_is
+returns-clause-fair c =
+    follows_answers (given.Got receive.NoMemory) (give_at c.args.r c.args.k c.args.seq) IsHonest (ShowsPlain c.args.self.now) _ (given.Got c.offer_frame.result) takes_frame (λ answer. IsTrue (is_fair_given answer)) refl
+    (λ plain shows honest. give_is_fair plain c.args.r c.args.k c.args.seq honest (member_shown c.args.self.now.nodes.items _ plain shows c.args.r c.requires.to))
+    (returns-clause-answer c)

@@ -1,6 +1,6 @@
 use Rattle.std.proofs.Common.{◌≡◌, map, ap, sym, subst, ◌∙◌, None}
 use Rattle.std.specs.Prelude.{◌↔◌, []}
-use Rattle.causal_model.specs.Receiving.{State}
+use Rattle.causal_model.specs.State.{State}
 use Rattle.world_model.specs.Offering.{outbox_in}
 use Rattle.world_model.specs.Showing.{lagging, lags_at}
 use Rattle.world_model.specs.World.{PlainWorld, replica_of}

@@ -1,5 +1,5 @@
-use Rattle.std.proofs.Common.{◌≤◌, arith, ◌≡◌, ◌<◌, length, map, ap, sym, subst, ◌∙◌}
-use Rattle.causal_model.specs.Receiving.{State}
+use Rattle.std.proofs.Common.{arith, ◌≡◌, ◌<◌, length, map, ap, sym, subst, ◌∙◌}
+use Rattle.causal_model.specs.State.{State}
 use Rattle.causal_model.specs.Stability.{unstable_noops}
 use Rattle.replica_core.specs.declared.replica.Replica.{Replica}
 use Rattle.world.specs.Shows.{state_of}

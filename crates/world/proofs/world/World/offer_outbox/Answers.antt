@@ -5,7 +5,7 @@ use Rattle.std.proofs.Math.Logic.{∥∥₁_map}
 use Rattle.world_model.specs.Offering.{Offered}
 use Rattle.world.specs.Shows.{NotedNode, Shows}
 use Rattle.world.specs.Steps.{OffersBetween, CanBeOffered}
-use Rattle.world.proofs.Outboxes.{can_be_offered, own_outbox, own_resent, outbox_comes, comes_made, comes_world, comes_some, comes_leaves}
+use Rattle.world.proofs.Outboxes.{can_be_offered, own_outbox, own_resent, outbox_offers, offers_made, offers_world, offers_some, offers_leave}
 use Rattle.world.proofs.world.World.offer_outbox.Goals as goal
 
 pub returns-then-r-k-clause-made : goal.returns-then-r-k-clause-made
@@ -23,25 +23,25 @@ offer_between-requires-clause-fit c =
 
 pub invariant_of-self : goal.invariant_of-self
 invariant_of-self c = record {
-  shows = ∥∥₁_map c.args.self.now.shows (λ x. comes_leaves x.0 c.args.r c.args.k c.offer_between.result _
-      (outbox_comes c.args.self.now.nodes.items (map (λ row. row.items) c.args.self.now.sent.items) x.0 x.1 c.args.r c.args.k c.requires.to c.requires.of (with_items c.args.self.now.nodes c.offer_between.new.nodes).items c.offer_between.result (subst (λ (l : List NotedNode). OffersBetween c.args.self.now.nodes.items c.args.r c.args.k c.offer_between.result l) (sym (with_items_is c.args.self.now.nodes c.offer_between.new.nodes (c.offer_between.auto.nodes ∙ c.deref_mut.ensures.len)))
+  shows = ∥∥₁_map c.args.self.now.shows (λ x. offers_leave x.0 c.args.r c.args.k c.offer_between.result _
+      (outbox_offers c.args.self.now.nodes.items (map (λ row. row.items) c.args.self.now.sent.items) x.0 x.1 c.args.r c.args.k c.requires.to c.requires.of (with_items c.args.self.now.nodes c.offer_between.new.nodes).items c.offer_between.result (subst (λ (l : List NotedNode). OffersBetween c.args.self.now.nodes.items c.args.r c.args.k c.offer_between.result l) (sym (with_items_is c.args.self.now.nodes c.offer_between.new.nodes (c.offer_between.auto.nodes ∙ c.deref_mut.ensures.len)))
       (subst (λ (l : List NotedNode). OffersBetween l c.args.r c.args.k c.offer_between.result c.offer_between.new.nodes) c.deref_mut.ensures.value c.offer_between.ensures.offered))));
 }
 
 pub returns-clause-made : goal.returns-clause-made
 returns-clause-made c plain shows =
-    comes_made plain c.args.r c.args.k c.offer_between.result _
-    (outbox_comes c.args.self.now.nodes.items (map (λ row. row.items) c.args.self.now.sent.items) plain shows c.args.r c.args.k c.requires.to c.requires.of (with_items c.args.self.now.nodes c.offer_between.new.nodes).items c.offer_between.result (subst (λ (l : List NotedNode). OffersBetween c.args.self.now.nodes.items c.args.r c.args.k c.offer_between.result l) (sym (with_items_is c.args.self.now.nodes c.offer_between.new.nodes (c.offer_between.auto.nodes ∙ c.deref_mut.ensures.len)))
+    offers_made plain c.args.r c.args.k c.offer_between.result _
+    (outbox_offers c.args.self.now.nodes.items (map (λ row. row.items) c.args.self.now.sent.items) plain shows c.args.r c.args.k c.requires.to c.requires.of (with_items c.args.self.now.nodes c.offer_between.new.nodes).items c.offer_between.result (subst (λ (l : List NotedNode). OffersBetween c.args.self.now.nodes.items c.args.r c.args.k c.offer_between.result l) (sym (with_items_is c.args.self.now.nodes c.offer_between.new.nodes (c.offer_between.auto.nodes ∙ c.deref_mut.ensures.len)))
     (subst (λ (l : List NotedNode). OffersBetween l c.args.r c.args.k c.offer_between.result c.offer_between.new.nodes) c.deref_mut.ensures.value c.offer_between.ensures.offered)))
 
 pub returns-clause-world : goal.returns-clause-world
 returns-clause-world c plain shows =
-    comes_world plain c.args.r c.args.k c.offer_between.result _
-    (outbox_comes c.args.self.now.nodes.items (map (λ row. row.items) c.args.self.now.sent.items) plain shows c.args.r c.args.k c.requires.to c.requires.of (with_items c.args.self.now.nodes c.offer_between.new.nodes).items c.offer_between.result (subst (λ (l : List NotedNode). OffersBetween c.args.self.now.nodes.items c.args.r c.args.k c.offer_between.result l) (sym (with_items_is c.args.self.now.nodes c.offer_between.new.nodes (c.offer_between.auto.nodes ∙ c.deref_mut.ensures.len)))
+    offers_world plain c.args.r c.args.k c.offer_between.result _
+    (outbox_offers c.args.self.now.nodes.items (map (λ row. row.items) c.args.self.now.sent.items) plain shows c.args.r c.args.k c.requires.to c.requires.of (with_items c.args.self.now.nodes c.offer_between.new.nodes).items c.offer_between.result (subst (λ (l : List NotedNode). OffersBetween c.args.self.now.nodes.items c.args.r c.args.k c.offer_between.result l) (sym (with_items_is c.args.self.now.nodes c.offer_between.new.nodes (c.offer_between.auto.nodes ∙ c.deref_mut.ensures.len)))
     (subst (λ (l : List NotedNode). OffersBetween l c.args.r c.args.k c.offer_between.result c.offer_between.new.nodes) c.deref_mut.ensures.value c.offer_between.ensures.offered)))
 
 pub returns-clause-some : goal.returns-clause-some
 returns-clause-some c plain shows =
-    comes_some plain c.args.r c.args.k c.offer_between.result _
-    (outbox_comes c.args.self.now.nodes.items (map (λ row. row.items) c.args.self.now.sent.items) plain shows c.args.r c.args.k c.requires.to c.requires.of (with_items c.args.self.now.nodes c.offer_between.new.nodes).items c.offer_between.result (subst (λ (l : List NotedNode). OffersBetween c.args.self.now.nodes.items c.args.r c.args.k c.offer_between.result l) (sym (with_items_is c.args.self.now.nodes c.offer_between.new.nodes (c.offer_between.auto.nodes ∙ c.deref_mut.ensures.len)))
+    offers_some plain c.args.r c.args.k c.offer_between.result _
+    (outbox_offers c.args.self.now.nodes.items (map (λ row. row.items) c.args.self.now.sent.items) plain shows c.args.r c.args.k c.requires.to c.requires.of (with_items c.args.self.now.nodes c.offer_between.new.nodes).items c.offer_between.result (subst (λ (l : List NotedNode). OffersBetween c.args.self.now.nodes.items c.args.r c.args.k c.offer_between.result l) (sym (with_items_is c.args.self.now.nodes c.offer_between.new.nodes (c.offer_between.auto.nodes ∙ c.deref_mut.ensures.len)))
     (subst (λ (l : List NotedNode). OffersBetween l c.args.r c.args.k c.offer_between.result c.offer_between.new.nodes) c.deref_mut.ensures.value c.offer_between.ensures.offered)))

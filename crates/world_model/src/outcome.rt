@@ -1,8 +1,8 @@
-//! What the calls of a world answer.
+//! What comes of a world's commands.
 
+use causal_model::Receive;
 use frame_codec::FrameFault;
 use op_base::StepList;
-use replica_core::Receive;
 
 /// What comes of giving a message to a replica.
 #[derive(Debug, PartialEq, Eq, Drop)]
@@ -33,7 +33,7 @@ pub enum RawGot {
     Bad(FrameFault),
     /// They are a frame, and this is what the replica answered to its message.
     Got(Receive),
-    /// There is no memory to read them. Nothing was offered.
+    /// There is no memory, to read them or to take their message in. Nothing changed.
     NoMemory,
 }
 

@@ -1,27 +1,9 @@
-//! What the calls of a replica answer.
+//! What comes of sending and receiving.
 
-use op_base::{Message, NoMemory, StepList};
+ghost use Rattle.std.specs.Prelude.{◌≡◌};
+ghost use Rattle.causal_model.specs.Receiving.{accepted, refused};
 
-/// Why a replica wasn't made.
-#[derive(Clone, Copy, Debug, PartialEq, Eq)]
-pub enum CreateFault {
-    /// A number is out of its range: 1 to 16 members, a window of 1 to 64, a limit of 1 to 1000000, a member below the
-    /// number of members.
-    BadNumbers,
-    /// There is no memory.
-    NoMemory,
-}
-
-impl From<NoMemory> for CreateFault {
-    ghost use Rattle.std.specs.Prelude.{◌≡◌};
-    ghost use Rattle.replica_core.specs.declared.answers.CreateFault.TheVariants as faults;
-
-    ghost from_gives = { λ _ e. e ≡ faults.NoMemory };
-
-    fn from(_error: NoMemory) -> CreateFault {
-        CreateFault::NoMemory
-    }
-}
+use op_base::{Message, StepList};
 
 /// What comes of sending an operation.
 #[derive(Debug, PartialEq, Eq, Drop)]
@@ -68,6 +50,19 @@ pub enum Receive {
     NoMemory,
 }
 
+impl Receive {
+    /// The answer to a message that was accepted, by the steps that then were made.
+    pub fn accepted(steps: StepList) -> Receive
+        ensures { result ≡ accepted steps }
+    {
+        if steps.as_slice().is_empty() {
+            Receive::Kept
+        } else {
+            Receive::Took(steps)
+        }
+    }
+}
+
 /// Why a message isn't accepted.
 #[derive(Clone, Copy, Debug, PartialEq, Eq)]
 pub enum Refusal {
@@ -77,4 +72,17 @@ pub enum Refusal {
     Again,
     /// It is too far ahead, by its number or by own messages that it has seen and that weren't sent.
     Far,
+}
+
+impl Refusal {
+    /// The answer to a message that isn't accepted.
+    pub fn answer(self) -> Receive
+        ensures { result ≡ refused self }
+    {
+        match self {
+            Refusal::Old => Receive::Old,
+            Refusal::Again => Receive::Again,
+            Refusal::Far => Receive::Far,
+        }
+    }
 }

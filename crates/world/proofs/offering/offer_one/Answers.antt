@@ -1,0 +1,33 @@
+use Rattle.std.proofs.Common.{rules, ◌≡◌, ◌++◌, List, None, true, inr, sym, ap, subst, ◌∙◌}
+use Rattle.op_base.specs.declared.outcome.Step.{Step}
+use Rattle.causal_model.specs.Receiving.{refusal_of}
+use Rattle.causal_model.specs.State.{State}
+use Rattle.replica_core.specs.Rules.{StandsFor}
+use Rattle.replica_core.specs.declared.replica.Replica.{Replica}
+use Rattle.world_model.specs.Offering.{Offered}
+use Rattle.world.specs.Shows.{state_of}
+use Rattle.world.proofs.Offers.{on_err, one_is_accepted}
+use Rattle.world.proofs.offering.offer_one.Goals as goal
+
+pub returns-in_err-extend_from_slice-clause-some : goal.returns-in_err-extend_from_slice-clause-some
+returns-in_err-extend_from_slice-clause-some c =
+    let node = c.args.node.now in
+    let made = c.args.made.now in
+    let m = c.args.message.now in
+    let none : c.refusal.result ≡ None = search rules in
+    let refused = subst (λ (x : Replica). (s : State) → StandsFor x s → c.refusal.result ≡ refusal_of x.w s m) c.replica.ensures c.refusal.ensures in
+    let more = one_is_accepted node c.accept.new.self made.steps.items made.kept m c.in_ok-message.message c.in_ok-steps.steps c.in_ok-message.ensures c.requires.fits c.requires.carried
+    (sym (refused (state_of node) node.stands) ∙ none) c.in_ok-steps.ensures.steps c.accept.ensures.first c.in_ok-steps.ensures.noted in
+    on_err c.from_residual-in_err-extend_from_slice.result _ (inr (ap (λ (o : Offered). o.state) more))
+
+pub returns-clause-made : goal.returns-clause-made
+returns-clause-made c =
+    let node = c.args.node.now in
+    let made = c.args.made.now in
+    let m = c.args.message.now in
+    let none : c.refusal.result ≡ None = search rules in
+    let refused = subst (λ (x : Replica). (s : State) → StandsFor x s → c.refusal.result ≡ refusal_of x.w s m) c.replica.ensures c.refusal.ensures in
+    let more = one_is_accepted node c.accept.new.self made.steps.items made.kept m c.in_ok-message.message c.in_ok-steps.steps c.in_ok-message.ensures c.requires.fits c.requires.carried
+    (sym (refused (state_of node) node.stands) ∙ none) c.in_ok-steps.ensures.steps c.accept.ensures.first c.in_ok-steps.ensures.noted in
+    let steps : c.extend_from_slice.new.self.items ≡ made.steps.items ++ c.in_ok-steps.steps = search rules in
+    ap (λ (l : List Step). let o : Offered = record { state = state_of c.accept.new.self; steps = l; kept = true } in o) steps ∙ more
