@@ -1,33 +1,62 @@
-//! Worked stores: what a replica answers. Expected answers come from the rules, worked by hand.
+//! What no clause says: that calls answer where there is memory, that a window and a log hold as many as their numbers say, and
+//! that a replica has the fields that are named here and no others.
 
-mod play;
-mod tables;
+ghost use Rattle.std.specs.Prelude.{IsTrue, nat_le};
+ghost use Rattle.std.specs.List.{list_all};
 
-use crate::tests::play::{Stop, first_wrong, receive, update};
-use crate::tests::tables::TABLES;
-use crate::{Beat, CreateFault, Local, Replica};
+use crate::{Beat, CreateFault, Local, Receive, Replica};
 use causal_model::ItemView;
-use op_base::{Answer, Message, ObjectId, Op, Tag};
+use op_base::{Act, Answer, Message, ObjectId, Op, Tag, Update, operations_are_valid};
 use std::alloc::Global;
 use std::test::Fail;
 
-#[test]
-fn each_row_has_its_answer(rt: HostRuntime) -> Result<(), Fail> {
-    let alloc = rt.alloc();
-    for table in TABLES {
-        let wrong = match first_wrong(&rt, alloc, &table) {
-            // a row has no memory of its own: the table is played once more
-            Err(Stop::NoMemory) => first_wrong(&rt, alloc, &table)?,
-            wrong => wrong?,
-        };
-        assert_eq!(rt; wrong, None);
+/// The counter of every test.
+fn counter(alloc: Global) -> Result<ObjectId, Fail> {
+    Ok(ObjectId::read(alloc, b"rcounter:c")?)
+}
+
+/// Adds an amount to it.
+fn more(alloc: Global, amount: u32) -> Result<Update, Fail> {
+    Ok(
+        Update::new(counter(alloc)?, Act::Inc(amount))
+            .ok()
+            .ok_or("a counter has no such act")?,
+    )
+}
+
+/// What it is at a replica.
+fn sum(replica: &Replica, alloc: Global) -> Result<Answer, Fail> {
+    Ok(replica.answer(alloc, &counter(alloc)?)?)
+}
+
+/// Whether no number of a timestamp is above the limit.
+fn is_within(tag: &Tag, limit: u32) -> bool
+    ensures { IsTrue result → IsTrue (list_all (λ e. nat_le e limit) tag.now) }
+{
+    for x in 0..tag.members() {
+        if tag.at(x) > limit {
+            return false;
+        }
     }
-    Ok(())
+    true
+}
+
+/// What a replica answers to a message, where it is one of its store.
+fn receive(replica: &mut Replica, alloc: Global, message: Message) -> Result<Receive, Fail> {
+    let n = replica.n;
+    if message.tag.members() != n || message.origin >= n || message.tag.at(message.origin) == 0 {
+        return Err("the message is of another store".into());
+    }
+    if !is_within(&message.tag, replica.limit) {
+        return Err("the message is above the limit".into());
+    }
+    operations_are_valid(&message.op);
+    Ok(replica.receive(alloc, message))
 }
 
 /// How many updates a replica sends, of 100 at most, until it answers something else.
 fn sent_until(replica: &mut Replica, alloc: Global, end: Local) -> Result<Option<u32>, Fail> {
-    let update = update(alloc, "rcounter:c", "inc", "1")?;
+    let update = more(alloc, 1)?;
     for sent in 0..100 {
         match replica.local(alloc, &update) {
             Local::Sent(_) => {}
@@ -37,14 +66,9 @@ fn sent_until(replica: &mut Replica, alloc: Global, end: Local) -> Result<Option
     Ok(None)
 }
 
-/// What the counter is at a replica.
-fn sum(replica: &Replica, alloc: Global) -> Result<Answer, Fail> {
-    Ok(replica.answer(alloc, &ObjectId::read(alloc, b"rcounter:c")?)?)
-}
-
 /// Fills the windows of the members from 1 to 15 at a replica of a store of sixteen.
 fn fill(replica: &mut Replica, alloc: Global) -> Result<(), Fail> {
-    let update = update(alloc, "rcounter:c", "inc", "2")?;
+    let update = more(alloc, 2)?;
     for origin in 1..16 {
         for seq in 1..65 {
             let mut tag = Tag::zero(16);
@@ -57,11 +81,29 @@ fn fill(replica: &mut Replica, alloc: Global) -> Result<(), Fail> {
 }
 
 #[test]
+fn calls_answer_where_there_is_memory(rt: HostRuntime) -> Result<(), Fail> {
+    let alloc = rt.alloc();
+    let mut store = Replica::create(alloc, 0, 2, 1, 9)?;
+    let mut other = Replica::create(alloc, 1, 2, 1, 9)?;
+    let Local::Sent(message) = store.local(alloc, &more(alloc, 5)?) else {
+        return Err("there is room".into());
+    };
+    assert!(rt; matches!(receive(&mut other, alloc, message)?, Receive::Took(_)));
+    assert_eq!(rt; sum(&other, alloc)?, Answer::Sum(5));
+    let Beat::Sent(noop) = other.beat(alloc) else {
+        return Err("a no-op is due".into());
+    };
+    assert!(rt; matches!(receive(&mut store, alloc, noop)?, Receive::Took(_)));
+    // the operation is settled, and there is room again
+    assert_eq!(rt; (store.log.len(), store.items.len()), (0, 1));
+    assert!(rt; matches!(store.local(alloc, &more(alloc, 1)?), Local::Sent(_)));
+    Ok(())
+}
+
+#[test]
 fn sixteen_members_fill_their_windows(rt: HostRuntime) -> Result<(), Fail> {
     let alloc = rt.alloc();
-    let mut store = Replica::create(alloc, 0, 16, 64, 1000000)
-        .ok()
-        .ok_or("it is made")?;
+    let mut store = Replica::create(alloc, 0, 16, 64, 1000000)?;
     fill(&mut store, alloc)?;
     assert_eq!(rt; store.log.len(), 960);
     // it hears none of them acknowledged, and sends as many
@@ -76,12 +118,10 @@ fn one_that_hears_nothing_sends_up_to_its_window_and_its_limit(
     rt: HostRuntime,
 ) -> Result<(), Fail> {
     let alloc = rt.alloc();
-    let mut deaf = Replica::create(alloc, 15, 16, 64, 1000000)
-        .ok()
-        .ok_or("it is made")?;
+    let mut deaf = Replica::create(alloc, 15, 16, 64, 1000000)?;
     assert_eq!(rt; sent_until(&mut deaf, alloc, Local::Busy)?, Some(64));
     assert!(rt; deaf.beat(alloc) == Beat::Quiet && sum(&deaf, alloc)? == Answer::Sum(64));
-    let mut alone = Replica::create(alloc, 0, 1, 1, 3).ok().ok_or("it is made")?;
+    let mut alone = Replica::create(alloc, 0, 1, 1, 3)?;
     assert_eq!(rt; sent_until(&mut alone, alloc, Local::End)?, Some(3));
     assert_eq!(rt; alone.log.len(), 0);
     Ok(())

@@ -1,7 +1,7 @@
 use Rattle.std.proofs.Common.{nat_le, get_or, le-leb, arith}
 use Rattle.std.proofs.lemmas.List.{get_or_default}
 use Rattle.std.proofs.lemmas.List.Sums.{list_all-from_AllPass}
-use Rattle.replica_core.proofs.tests.play.is_within.Goals as goal
+use Rattle.replica_core.proofs.tests.is_within.Goals as goal
 
 pub returns : goal.returns
 returns c = λ t.
