@@ -1,6 +1,6 @@
 -- Messages of one origin with rising numbers, of which the stable ones stand in front.
-use Rattle.std.proofs.Common.{◌≡◌, ℕ, zero, suc, ◌<◌, ◌≤◌, Bool, true, false, not, List, [], ◌∷◌, length, drop, get_or, refl, sym, ap, ◌∙◌, inl, inr, arith}
-use Rattle.std.specs.Prelude.{AllPairs}
+use Rattle.std.proofs.Common.{◌≡◌, ℕ, zero, suc, ◌<◌, ◌≤◌, ◌-◌, Bool, true, false, not, List, [], ◌∷◌, length, drop, get_or, refl, sym, ap, ◌∙◌, inl, inr, arith}
+use Rattle.std.specs.Prelude.{AllPairs, nat_le}
 use Rattle.std.proofs.lemmas.List.{get_or_default}
 use Rattle.std.specs.List.{filter}
 use Rattle.std.proofs.lemmas.Bool.{cond-false, cases_lt, le-leb, leb-true, false_from_ne_true}
@@ -44,3 +44,21 @@ module _ (stable : List ℕ) (ms : List Message) where
   -- where all are stable, none is left
   pub none_unstable : (i : ℕ) → length ms ≤ i → ((k : ℕ) (e : Message) → k < i → is_stable stable (get_or ms k e) ≡ true) → drop i ms ≡ unstable_in stable ms
   none_unstable i past before = drop-is-filter (λ m. not (is_stable stable m)) ms i (λ k e less within. ap not (before k e less)) (λ k e past' within. absurd (omega (arith, past, past', within)))
+
+-- no number is above that of the newest message
+pub newest_is_highest : (ms : List Message) (seq : ℕ) (newest : Message) → AllPairs ComesAfter ms → newest ≡ get_or ms (length ms - 1) newest → number newest ≤ seq
+    → (k : ℕ) (d : Message) → k < length ms → number (get_or ms k d) ≤ seq
+newest_is_highest ms seq newest rise is upto k d within = elim (cases_lt k (length ms - 1)) [
+  | inl before ↦ omega (arith, (rise k (length ms - 1) d before (omega (arith, within))).rises, upto, ap number (get_or_default ms (length ms - 1) d newest (omega (arith, within)) ∙ sym is))
+  | inr last ↦
+      let same : k ≡ length ms - 1 = omega (arith, last, within) in
+      omega (arith, upto, ap (λ j. number (get_or ms j d)) same, ap number (get_or_default ms (length ms - 1) d newest (omega (arith, within)) ∙ sym is))
+]
+
+-- a message with no greater number stands in front of each that has none greater
+pub up_to-first : (ms : List Message) (seq : ℕ) → AllPairs ComesAfter ms → (i j : ℕ) (d : Message) → i ≤ j → j < length ms
+    → nat_le (number (get_or ms j d)) seq ≡ true → nat_le (number (get_or ms i d)) seq ≡ true
+up_to-first ms seq rise i j d order within upto = elim (cases_lt i j) [
+  | inl before ↦ le-leb (number (get_or ms i d)) seq (omega (arith, (rise i j d before within).rises, leb-true (number (get_or ms j d)) seq upto))
+  | inr same ↦ let is : i ≡ j = omega (arith, order, same) in ap (λ k. nat_le (number (get_or ms k d)) seq) is ∙ upto
+]

@@ -1,5 +1,5 @@
 -- Messages that a member has sent, in a store of n members with a window w.
-use Rattle.std.specs.Prelude.{◌≡◌, ℕ, ◌+◌, ◌<◌, List, not, filter}
+use Rattle.std.specs.Prelude.{◌≡◌, ℕ, ◌+◌, ◌<◌, ◌≤◌, List, take, drop, not, filter, All}
 use Rattle.op_base.specs.Message.{number}
 use Rattle.op_base.specs.declared.message.Message.{Message}
 use Rattle.op_base.specs.declared.operation.Op.TheVariants as op
@@ -27,3 +27,10 @@ IsHusk m = m.op ≡ op.NoOp
 -- the messages that aren't stable where these are the stable counts
 abbrev pub unstable_in : List ℕ → List Message → List Message
 unstable_in stable messages = filter (λ m. not (is_stable stable m)) messages
+
+-- of messages, those with a number above one: they stand behind all the others
+pub record AreAbove (seq : ℕ) (messages above : List Message) : Type 0 where
+  pub others : ℕ
+  pub are_behind : above ≡ drop others messages
+  pub have_not : All (λ m. number m ≤ seq) (take others messages)
+  pub have : All (λ m. seq < number m) above

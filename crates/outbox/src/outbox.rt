@@ -1,12 +1,12 @@
 //! A member's own messages that aren't stable.
 
-ghost use Rattle.std.specs.Prelude.{◌≡◌, ◌≢◌, ℕ, ◌<◌, ◌≤◌, List, [], ◌∷◌, ◌++◌, length, drop, take, IsTrue, IfOk, All, AllPairs};
-ghost use Rattle.op_base.specs.Message.{fits};
+ghost use Rattle.std.specs.Prelude.{◌≡◌, ◌≢◌, ℕ, ◌<◌, ◌≤◌, List, [], ◌∷◌, ◌++◌, length, drop, take, nat_le, IsTrue, IfOk, All, AllPairs};
+ghost use Rattle.op_base.specs.Message.{fits, number};
 ghost use Rattle.op_base.specs.declared.message.Message.{Message};
 ghost use Rattle.causal_model.specs.Chapter.{is_chapter};
 ghost use Rattle.causal_model.specs.Sending.{outbox_of};
 ghost use Rattle.causal_model.specs.Stability.{stable_vector};
-ghost use Rattle.outbox.specs.Sent.{ComesAfter, IsHusk, room_of, unstable_in};
+ghost use Rattle.outbox.specs.Sent.{ComesAfter, IsHusk, AreAbove, room_of, unstable_in};
 
 use causal_model::{MOST_WINDOW, most_unstable};
 use op_base::{MOST_MEMBERS, Message, NoMemory, Op, Tag};
@@ -98,6 +98,51 @@ impl Outbox {
         ensures { result.now ≡ self.now.messages }
     {
         &self.kept[self.gone..]
+    }
+
+    /// The messages with a number above this one, oldest first: those that a replica with so many messages of the member lacks.
+    /// However many are left out, finding the others costs a few looks.
+    pub fn messages_above(&self, seq: u32) -> &[Message]
+        ensures { AreAbove seq self.now.messages result.now }
+    {
+        let kept = &self.kept;
+        above(&kept[self.gone..], seq)
+    }
+}
+
+/// Those of messages that have a number above this one.
+fn above(messages: &[Message], seq: u32) -> &[Message]
+    requires rise { AllPairs ComesAfter messages.now }
+    ensures { AreAbove seq messages.now result.now }
+{
+    &messages[count_up_to(messages, seq)..]
+}
+
+/// How many messages in front have a number up to this one. Where it is that of the newest or a greater one, one look tells.
+fn count_up_to(sent: &[Message], seq: u32) -> usize
+    requires rise { AllPairs ComesAfter sent.now }
+    ensures some { result ≤ length sent.now }
+    ensures front { All (λ m. number m ≤ seq) (take result sent.now) }
+    ensures rest { All (λ m. seq < number m) (drop result sent.now) }
+{
+    match sent.last() {
+        Some(newest) if number(newest) <= seq => sent.len(),
+        _ => sent.partition_point(
+            |message: &Message| -> bool
+                ensures { result ≡ nat_le (number message.now) seq }
+            { number(message) <= seq },
+        ),
+    }
+}
+
+/// A message's number, and 0 where its origin is no member.
+fn number(message: &Message) -> u32
+    ensures { result ≡ number message.now }
+{
+    if message.origin < message.tag.members() {
+        message.tag.at(message.origin)
+    } else {
+        0
     }
 }
 

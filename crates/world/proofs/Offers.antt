@@ -1,24 +1,31 @@
 -- Messages that are offered to a node, one after the other.
-use Rattle.std.proofs.Common.{◌≡◌, ℕ, ◌<◌, ◌+◌, ◌-◌, List, [], ◌∷◌, ◌++◌, length, take, map, slice_index_or, slice_set, All, Bool, IsTrue, true, ◌||◌, append-nil, Option, Some, None, Result, Ok, Err, ◌⊎◌, inl, inr, sym, ap, subst, ◌∙◌, arith}
+use Rattle.std.proofs.Common.{◌≡◌, ℕ, ◌<◌, ◌≤◌, ◌+◌, ◌-◌, List, [], ◌∷◌, ◌++◌, length, take, drop, take-append-drop, map, slice_index_or, slice_set, All, Bool, IsTrue, true, ◌||◌, append-nil, Option, Some, None, Result, Ok, Err, ◌==◌, ◌⊎◌, inl, inr, sym, ap, subst, ◌∙◌, arith}
 use Rattle.std.specs.Prelude.{OnErr, IfOk, slice_get}
+use Rattle.std.specs.List.{fold}
 use Rattle.std.proofs.Math.Bool.{or-false, or-true}
+use Rattle.std.proofs.Math.Seq.{take-add}
+use Rattle.std.proofs.lemmas.Bool.{cond-true, le-leb}
 use Rattle.std.proofs.Math.Logic.{∥∥₁_elim}
 use Rattle.std.proofs.Props.{props}
 use Rattle.std.proofs.lemmas.List.{take_more, length-append, get_or_append_left, get_or-append_right}
+use Rattle.std.proofs.lemmas.List.Elements.{All-head, All-tail, All-take}
 use Rattle.std.proofs.lemmas.List.Sums.{fold-append}
 use Rattle.std.proofs.lemmas.Option.{slice_get-get_or}
-use Rattle.op_base.specs.Message.{fits}
+use Rattle.op_base.specs.Message.{fits, number}
+use Rattle.op_base.specs.Timestamp.{entry}
 use Rattle.op_base.specs.declared.memory.NoMemory.{NoMemory}
 use Rattle.op_base.specs.declared.message.Message.{Message}
 use Rattle.op_base.specs.declared.outcome.Step.{Step}
 use Rattle.causal_model.specs.Counts.{is_carried}
 use Rattle.causal_model.specs.Journal.{state_noted, state_after, step_note}
-use Rattle.causal_model.specs.Receiving.{steps, with_early, refusal_of, refused, accepted, steps_of, is_accepted, receive_by}
-use Rattle.causal_model.specs.State.{State, start}
+use Rattle.causal_model.specs.Receiving.{is_old, steps, with_early, refusal_of, refused, accepted, steps_of, is_accepted, receive_by}
+use Rattle.causal_model.specs.State.{State, start, counted}
 use Rattle.causal_model.specs.declared.note.Note.TheVariants.{Kept}
 use Rattle.causal_model.specs.declared.outcome.Refusal.{Refusal}
+use Rattle.causal_model.specs.declared.outcome.Refusal.TheVariants as refusal
 use Rattle.causal_model.proofs.Journals.{accepting_replays}
 use Rattle.causal_model.proofs.Outcomes.{steps_of_accepted, accepted_is_accepted, steps_of_refused, refused_is_not_accepted}
+use Rattle.outbox.specs.Sent.{AreAbove}
 use Rattle.replica_node.specs.Nodes.{state_by}
 use Rattle.world_model.specs.Offering.{Offered, offered, offered_more, none_offered}
 use Rattle.world.specs.Shows.{NotedNode, state_of}
@@ -28,6 +35,10 @@ use Rattle.world.specs.declared.offering.Offers.{Offers}
 pub on_err : {T E : Type 0} (result : Result T E) (P : Type 0) → P → OnErr result P
 on_err (Ok x) P p = tt
 on_err (Err e) P p = p
+
+pub on_err_with : {T E : Type 0} (result : Result T E) (P Q : Type 0) → (P → Q) → OnErr result P → OnErr result Q
+on_err_with (Ok x) P Q f p = tt
+on_err_with (Err e) P Q f p = f p
 
 pub same_twice : (a b c : NotedNode) → SameNode a b → SameNode b c → SameNode a c
 same_twice a b c one two = record { first = two.first ∙ one.first; n = two.n ∙ one.n; w = two.w ∙ one.w; limit = two.limit ∙ one.limit }
@@ -92,6 +103,52 @@ module _ (w v : ℕ) (s : State) (ms : List Message) (i : ℕ) (m : Message) (lo
   some_offered new (inl is) = (i, is ∙ ap (λ (o : Offered). o.state) before)
   some_offered new (inr is) = (i + 1, is ∙ ap (λ (o : Offered). o.state) one_offered)
 
+-- an old message is refused
+pub old_is_refused : (w : ℕ) (s : State) (m : Message) → is_old s.history.present.me (counted s.history) m ≡ true → refusal_of w s m ≡ Some refusal.Old
+old_is_refused w s m old = cond-true (is_old s.history.present.me (counted s.history) m) (Some refusal.Old) _ old
+
+-- old messages in front change nothing: what comes of those behind them is what comes of all
+module _ (w : ℕ) (s : State) where
+  abbrev Refused : Message → Type 0
+  Refused m = refusal_of w s m ≡ Some refusal.Old
+
+  pub none_accepted : (ms : List Message) → All Refused ms → offered w s ms ≡ none_offered s
+  none_accepted [] old = λ i. none_offered s
+  none_accepted (m ∷ ms) old =
+      ap (λ o. fold (offered_more w) o ms) (sym (refused_offer w (none_offered s) m refusal.Old (All-head Refused m ms old))) ∙ none_accepted ms (All-tail Refused m ms old)
+
+  module _ (count : ℕ) (ms : List Message) (old : All Refused (take count ms)) where
+    behind : (xs : List Message) → offered w s (take count ms ++ xs) ≡ offered w s xs
+    behind xs = fold-append (offered_more w) (none_offered s) (take count ms) xs ∙ ap (λ o. fold (offered_more w) o xs) (none_accepted (take count ms) old)
+
+    pub all_behind : offered w s (drop count ms) ≡ offered w s ms
+    all_behind = sym (behind (drop count ms)) ∙ ap (offered w s) (take-append-drop count ms)
+
+    pub some_behind : (j : ℕ) → offered w s (take j (drop count ms)) ≡ offered w s (take (count + j) ms)
+    some_behind j = sym (behind (take j (drop count ms))) ∙ sym (ap (offered w s) (take-add count j ms))
+
+module _ (node : NotedNode) (of : ℕ) (ms above : List Message) (delivered : ℕ) (delivered_is : delivered ≡ entry node.inner.counts of) (own : All (λ m. m.origin ≡ of) ms) (are : AreAbove delivered ms above) where
+  -- what a node has delivered is old there
+  delivered_is_old : (m : Message) → m.origin ≡ of → number m ≤ delivered → refusal_of node.inner.w (state_of node) m ≡ Some refusal.Old
+  delivered_is_old m from upto =
+      let h = (state_of node).history in
+      let counted_is : delivered ≡ entry (counted h) m.origin = delivered_is ∙ ap (λ counts. entry counts of) node.stands.counts ∙ ap (entry (counted h)) (sym from) in
+      old_is_refused node.inner.w (state_of node) m
+      (ap (λ b. (m.origin == h.present.me) || b) (le-leb (number m) (entry (counted h) m.origin) (omega (arith, upto, counted_is))) ∙ or-true (m.origin == h.present.me))
+
+  front_is_old : All (λ m. refusal_of node.inner.w (state_of node) m ≡ Some refusal.Old) (take are.others ms)
+  front_is_old = λ k d l. delivered_is_old (slice_index_or (take are.others ms) k d) (All-take (λ m. m.origin ≡ of) are.others ms own k d l) (are.have_not k d l)
+
+  -- so what comes of those that it lacks is what comes of all
+  pub all_lacking : offered node.inner.w (state_of node) above ≡ offered node.inner.w (state_of node) ms
+  all_lacking = ap (offered node.inner.w (state_of node)) are.are_behind ∙ all_behind node.inner.w (state_of node) are.others ms front_is_old
+
+  pub some_lacking : (new : NotedNode) → OffersSome node.inner.w (state_of node) above new → OffersSome node.inner.w (state_of node) ms new
+  some_lacking new some = (
+    are.others + some.0,
+    some.1 ∙ ap (λ xs. (offered node.inner.w (state_of node) (take some.0 xs)).state) are.are_behind ∙ ap (λ (o : Offered). o.state) (some_behind node.inner.w (state_of node) are.others ms front_is_old some.0),
+  )
+
 -- what comes of messages at a node, where all or some were offered
 pub offers_to : (node new : NotedNode) (ms : List Message) (result : Result Offers NoMemory) → IfOk result (λ made. offered_at new made ≡ offered node.inner.w (state_of node) ms)
     → OnErr result (OffersSome node.inner.w (state_of node) ms new) → SameNode node new → OffersTo node ms result new
@@ -100,6 +157,16 @@ offers_to node new ms (Err e) all some same = (same, some)
 
 -- two nodes that stand at two places
 module _ (nodes : List NotedNode) (r k : ℕ) (to of : NotedNode) (to_is : slice_get nodes r ≡ Some to) (of_is : slice_get nodes k ≡ Some of) (ms : List Message) (same : ms ≡ of.inner.outbox.messages) where
+  pub own_between : ∥ CanBeOffered nodes r k ∥₁ → All (λ m. m.origin ≡ k) ms
+  own_between can = λ i d l. ∥∥₁_elim can (search props) (λ x.
+      let there : x.other ≡ of = let e = x.is_other in cc in
+      subst (λ l. All (λ m. m.origin ≡ k) l) (ap (λ o. o.inner.outbox.messages) there ∙ sym same) x.own i d l)
+
+  pub of_store_between : ∥ CanBeOffered nodes r k ∥₁ → k < to.inner.n
+  of_store_between can = ∥∥₁_elim can (search props) (λ x.
+      let here : x.node ≡ to = let e = x.is_node in cc in
+      subst (λ n. k < n) (ap (λ o. o.inner.n) here) x.of_store)
+
   pub fit_between : ∥ CanBeOffered nodes r k ∥₁ → All (λ m. IsTrue (fits to.inner.n m)) ms
   fit_between can = λ i d l. ∥∥₁_elim can (search props) (λ x.
       let here : x.node ≡ to = let e = x.is_node in cc in

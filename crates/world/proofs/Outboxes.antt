@@ -1,7 +1,8 @@
 -- What offering an outbox makes of a world.
-use Rattle.std.proofs.Common.{◌≡◌, ℕ, ◌<◌, ◌==◌, not, Bool, true, IsTrue, List, [], ◌∷◌, length, take, All, inl, inr, slice_set, Some, Result, Ok, Err, refl, sym, ap, subst, ◌∙◌, arith}
+use Rattle.std.proofs.Common.{◌≡◌, ℕ, ◌<◌, ◌==◌, not, Bool, true, IsTrue, List, [], ◌∷◌, length, take, All, inl, inr, slice_index_or, slice_set, Some, Result, Ok, Err, refl, sym, ap, subst, ◌∙◌, arith}
 use Rattle.std.specs.Prelude.{OnErr, IfOk}
 use Rattle.std.specs.List.{filter, fold}
+use Rattle.std.proofs.lemmas.Bool.{eqb-true}
 use Rattle.std.proofs.lemmas.List.{set-get_or, length-set, get_or-set_same}
 use Rattle.std.proofs.lemmas.List.Elements.{All-filter, All-head, All-tail, All-take, filter_passes}
 use Rattle.std.proofs.lemmas.Option.{slice_get_cases}
@@ -25,7 +26,7 @@ use Rattle.world.specs.Steps.{OffersTo, OffersBetween, CanBeOffered, HasOffered}
 use Rattle.world.specs.declared.offering.Offers.{Offers as Made}
 use Rattle.world.proofs.Nodes.{StandsAt, within, state_shown, w_shown, limit_shown, n_shown}
 use Rattle.world.proofs.Changes.{set_twice, changed_shows}
-use Rattle.world.proofs.Offers.{refused_offer}
+use Rattle.world.proofs.Offers.{none_accepted}
 
 module _ (nodes : List NotedNode) (rows : List (List (List ℕ))) (plain : PlainWorld) (shows : Shows nodes rows plain) where
   -- a node's outbox is that of the plain replica, and its messages are of the store
@@ -49,6 +50,12 @@ module _ (nodes : List NotedNode) (rows : List (List (List ℕ))) (plain : Plain
         All-filter own (λ m. IsTrue (is_carried plain.limit m)) (filter lies h.messages) (All-filter lies (λ m. IsTrue (is_carried plain.limit m)) h.messages (messages_carried n plain.w plain.limit k s replica)),
       )
 
+  outbox_is_own : (k : ℕ) → k < size_of plain → All (λ m. m.origin ≡ k) (outbox_in (replica_of plain k))
+  outbox_is_own k low = λ i d l.
+      let h = (replica_of plain k).history.present in
+      let own : Message → Bool = λ m. m.origin == h.me in
+      eqb-true _ h.me (filter_passes own (filter (λ m. not (is_stable (stable_vector h.n h.me h.messages) m)) h.messages) i d l) ∙ (shows.is_world.replicas k low).of_member
+
   pub can_be_offered : (r k : ℕ) → r < length nodes → k < length nodes → CanBeOffered nodes r k
   can_be_offered r k low under =
       elim (slice_get_cases nodes r).1 [
@@ -65,6 +72,8 @@ module _ (nodes : List NotedNode) (rows : List (List (List ℕ))) (plain : Plain
                 other = of;
                 is_node = here.2;
                 is_other = there.2;
+                of_store = subst (λ n. k < n) (sym (n_shown nodes rows plain shows r to to_stands)) (within nodes rows plain shows k of of_stands);
+                own = subst (λ ms. All (λ m. m.origin ≡ k) ms) (sym same) (outbox_is_own k (within nodes rows plain shows k of of_stands));
                 fit = subst (λ n. All (λ m. IsTrue (fits n m)) of.inner.outbox.messages) (sym (n_shown nodes rows plain shows r to to_stands)) (subst (λ ms. All (λ m. IsTrue (fits (size_of plain) m)) ms) (sym same) parts.0);
                 carried = subst (λ limit. All (λ m. IsTrue (is_carried limit m)) of.inner.outbox.messages) (sym (limit_shown nodes rows plain shows r to to_stands)) (subst (λ ms. All (λ m. IsTrue (is_carried plain.limit m)) ms) (sym same) parts.1);
               }
@@ -92,12 +101,6 @@ module _ (nodes : List NotedNode) (rows : List (List (List ℕ))) (plain : Plain
 own_is_old : (w : ℕ) (s : State) (m : Message) → (m.origin == s.history.present.me) ≡ true → refusal_of w s m ≡ Some refusal.Old
 own_is_old w s m own = rw own refl
 
-none_accepted : (w : ℕ) (s : State) (ms : List Message) → All (λ m. (m.origin == s.history.present.me) ≡ true) ms → offered w s ms ≡ none_offered s
-none_accepted w s [] own = refl
-none_accepted w s (m ∷ ms) own =
-    let first = sym (refused_offer w (none_offered s) m refusal.Old (own_is_old w s m (All-head (λ y. (y.origin == s.history.present.me) ≡ true) m ms own))) in
-    ap (λ o. fold (offered_more w) o ms) first ∙ none_accepted w s ms (All-tail (λ y. (y.origin == s.history.present.me) ≡ true) m ms own)
-
 -- a replica accepts none of its own outbox
 pub own_outbox : (plain : PlainWorld) (r k : ℕ) → r ≡ k → offered_between plain r k ≡ none_offered (replica_of plain r)
 own_outbox plain r k same =
@@ -105,7 +108,7 @@ own_outbox plain r k same =
     let h = s.history.present in
     let own : Message → Bool = λ m. m.origin == h.me in
     ap (λ i. offered plain.w s (outbox_in (replica_of plain i))) (sym same)
-    ∙ none_accepted plain.w s (outbox_in s) (λ i d l. filter_passes own (filter (λ m. not (is_stable (stable_vector h.n h.me h.messages) m)) h.messages) i d l)
+    ∙ none_accepted plain.w s (outbox_in s) (λ i d l. own_is_old plain.w s (slice_index_or (outbox_in s) i d) (filter_passes own (filter (λ m. not (is_stable (stable_vector h.n h.me h.messages) m)) h.messages) i d l))
 
 pub own_resent : (plain : PlainWorld) (r k : ℕ) → r ≡ k → (resend_at r k plain).1 ≡ plain
 own_resent plain r k same =

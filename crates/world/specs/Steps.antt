@@ -1,5 +1,5 @@
 -- What the nodes of a world are left with by the parts of its calls.
-use Rattle.std.specs.Prelude.{◌≡◌, ℕ, List, [], map, take, slice_get, slice_set, IsTrue, Some, Result, Ok, Err, All}
+use Rattle.std.specs.Prelude.{◌≡◌, ℕ, ◌<◌, List, [], map, take, slice_get, slice_set, IsTrue, Some, Result, Ok, Err, All}
 use Rattle.op_base.specs.Message.{id_of, fits}
 use Rattle.op_base.specs.declared.memory.NoMemory.{NoMemory}
 use Rattle.op_base.specs.declared.message.Message.{Message}
@@ -69,12 +69,14 @@ pub record HasOffered (o : Offered) (made : Offers) : Type 0 where
   pub steps : made.steps.items ≡ o.steps
   pub kept : made.kept ≡ o.kept
 
--- the outbox of a node at place k can be offered to the one at place r: its messages are of the store
+-- the outbox of a node at place k can be offered to the one at place r: its messages are member k's, of the store
 pub record CanBeOffered (nodes : List NotedNode) (r k : ℕ) : Type 0 where
   pub node : NotedNode
   pub other : NotedNode
   pub is_node : slice_get nodes r ≡ Some node
   pub is_other : slice_get nodes k ≡ Some other
+  pub of_store : k < node.inner.n
+  pub own : All (λ m. m.origin ≡ k) other.inner.outbox.messages
   pub fit : All (λ m. IsTrue (fits node.inner.n m)) other.inner.outbox.messages
   pub carried : All (λ m. IsTrue (is_carried node.inner.limit m)) other.inner.outbox.messages
 

@@ -11,6 +11,7 @@ ghost use Rattle.world.specs.Steps.{SameNode, OffersSome, OffersBetween, CanBeOf
 
 use crate::world::World;
 use op_base::{Message, NoMemory, Step, StepList};
+use outbox::Outbox;
 use replica_node::{Journal, Node};
 use std::alloc::Global;
 use world_model::Resent;
@@ -58,7 +59,7 @@ impl World {
                 kept: false,
             });
         }
-        offer_between(alloc, &mut self.nodes, r as usize, k as usize)
+        offer_between(alloc, &mut self.nodes, r, k)
     }
 }
 
@@ -79,8 +80,8 @@ fn resent_of(made: Offers) -> Resent
 fn offer_between(
     alloc: Global,
     nodes: &mut [Node<Journal>],
-    r: usize,
-    k: usize,
+    r: u8,
+    k: u8,
 ) -> Result<Offers, NoMemory>
     requires to { r < length nodes.old }
     requires of { k < length nodes.old }
@@ -89,12 +90,31 @@ fn offer_between(
     ensures offered { OffersBetween nodes.old r k result nodes.new }
 {
     if r < k {
-        let (low, high) = nodes.split_at_mut(k);
-        offer_messages(alloc, &mut low[r], high[0].replica().outbox.messages())
+        let (low, high) = nodes.split_at_mut(k as usize);
+        offer_lacking(alloc, &mut low[r as usize], &high[0].replica().outbox, k)
     } else {
-        let (low, high) = nodes.split_at_mut(r);
-        offer_messages(alloc, &mut high[0], low[k].replica().outbox.messages())
+        let (low, high) = nodes.split_at_mut(r as usize);
+        offer_lacking(alloc, &mut high[0], &low[k as usize].replica().outbox, k)
     }
+}
+
+/// Offers the outbox of another member to a node. Messages that the node has delivered are old there, and aren't looked at.
+fn offer_lacking(
+    alloc: Global,
+    node: &mut Node<Journal>,
+    outbox: &Outbox,
+    of: u8,
+) -> Result<Offers, NoMemory>
+    requires of { of < node.old.inner.n }
+    requires own { All (λ m. m.origin ≡ of) outbox.now.messages }
+    requires fit { All (λ m. IsTrue (fits node.old.inner.n m)) outbox.now.messages }
+    requires carried { All (λ m. IsTrue (is_carried node.old.inner.limit m)) outbox.now.messages }
+    ensures made { IfOk result (λ made. offered_at node.new made ≡ offered node.old.inner.w (state_of node.old) outbox.now.messages) }
+    ensures some { OnErr result (OffersSome node.old.inner.w (state_of node.old) outbox.now.messages node.new) }
+    ensures same { SameNode node.old node.new }
+{
+    let delivered = node.replica().counts.at(of);
+    offer_messages(alloc, node, outbox.messages_above(delivered))
 }
 
 /// Offers messages to a node, one after the other. On `NoMemory` the first of them were offered.
