@@ -6,3 +6,4 @@ pub mod Runs
 pub mod Laws
 pub mod Honest
 pub mod HonestLaws
+pub mod Worked

@@ -8,5 +8,6 @@ mod reply;
 mod runner;
 #[cfg(test)]
 mod tests;
+pub mod worked;
 
 pub use runner::Runner;
