@@ -2,3 +2,4 @@ pub mod Words
 pub mod Feeding
 pub mod Run
 pub mod Statuses
+pub mod Worked

@@ -9,6 +9,7 @@ mod run;
 #[cfg(test)]
 mod tests;
 mod words;
+mod worked;
 
 use run::{Status, run};
 use std::process::ExitCode;
