@@ -16,8 +16,8 @@ use smallvec::SmallVec;
 use std::alloc::{AllocError, Global};
 use std::cmp::Ordering;
 use std::error::Error;
-use std::fmt;
 use std::marker::Model;
+use std::{fmt, str};
 
 /// A key has at most so many bytes.
 pub const MOST_KEY_BYTES: usize = 32;
@@ -296,6 +296,7 @@ impl Key {
         ensures key { IfOk result (λ key. key ≡ bytes.now) }
         ensures valid { OnOk result (IsTrue (is_key bytes.now)) }
         ensures refused { Refuses (key_fault bytes.now) result }
+        ensures memory { IfErr result (λ fault. fault ≢ NameFault.NoMemory) }
     {
         match key_fault(bytes) {
             Some(fault) => Err(fault),
@@ -321,6 +322,14 @@ impl Key {
         ensures valid { IsTrue (is_key self.now) }
     {
         &self.bytes[..self.len as usize]
+    }
+
+    /// The bytes, as text.
+    pub fn as_str(&self) -> &str
+        ensures { result.now ≡ self.now }
+    {
+        // All of them are ASCII.
+        unsafe { str::from_utf8_unchecked(self.as_slice()) }
     }
 
     /// An equal key. It takes no memory.
@@ -358,6 +367,14 @@ impl Value {
         self.bytes.as_slice()
     }
 
+    /// The bytes, as text.
+    pub fn as_str(&self) -> &str
+        ensures { result.now ≡ self.now }
+    {
+        // `read` asked whether they are UTF-8.
+        unsafe { str::from_utf8_unchecked(self.as_slice()) }
+    }
+
     /// An equal value. `NoMemory` leaves nothing behind.
     pub fn copy(&self, alloc: Global) -> Result<Value, NoMemory>
         ensures { IfOk result (λ copy. copy ≡ self.now) }
@@ -380,7 +397,7 @@ impl ObjectId {
     }
 
     /// Reads an object's text: a kind's word, a colon and a key. The refusals are `NoType` and then the key's, with
-    /// places counted in the key; `NoMemory` comes after them.
+    /// places counted in the key. It takes no memory.
     pub fn read(alloc: Global, bytes: &[u8]) -> Result<ObjectId, NameFault>
         ensures kind { IfOk result (λ object. Some object.kind ≡ kind_of (kind_part bytes.now)) }
         ensures key { IfOk result (λ object. object.key ≡ key_part bytes.now) }
@@ -388,6 +405,7 @@ impl ObjectId {
         ensures object { IfOk result (λ object. object_of bytes.now ≡ Some object) }
         ensures refused { Refuses (object_fault bytes.now) result }
         ensures none { IfErr result (λ fault. fault ≢ NameFault.NoMemory → object_of bytes.now ≡ None) }
+        ensures memory { IfErr result (λ fault. fault ≢ NameFault.NoMemory) }
     {
         let (kind, key) = parts(bytes);
         let kind = Kind::read(kind).ok_or(NameFault::NoType)?;
@@ -395,9 +413,9 @@ impl ObjectId {
         Ok(ObjectId { kind, key })
     }
 
-    /// An equal name. `NoMemory` leaves nothing behind.
+    /// An equal name. It takes no memory.
     pub fn copy(&self, alloc: Global) -> Result<ObjectId, NoMemory>
-        ensures { IfOk result (λ copy. copy ≡ self.now) }
+        ensures { result ≡ Ok self.now }
     {
         Ok(ObjectId {
             kind: self.kind,
@@ -418,7 +436,7 @@ impl PartialEq for Key {
     ghost laws = { partial_equiv_from_equiv nat_list_eq_equiv };
 
     fn eq(&self, other: &Key) -> bool {
-        self.as_slice() == other.as_slice()
+        self.as_str() == other.as_str()
     }
 }
 
@@ -446,7 +464,7 @@ impl Ord for Key {
     ghost matches_eq = { texts_ties };
 
     fn cmp(&self, other: &Key) -> Ordering {
-        self.as_slice().cmp(other.as_slice())
+        self.as_str().cmp(other.as_str())
     }
 }
 
@@ -456,7 +474,7 @@ impl PartialEq for Value {
     ghost laws = { partial_equiv_from_equiv nat_list_eq_equiv };
 
     fn eq(&self, other: &Value) -> bool {
-        self.bytes.as_slice() == other.bytes.as_slice()
+        self.as_str() == other.as_str()
     }
 }
 
@@ -484,6 +502,6 @@ impl Ord for Value {
     ghost matches_eq = { texts_ties };
 
     fn cmp(&self, other: &Value) -> Ordering {
-        self.bytes.as_slice().cmp(other.bytes.as_slice())
+        self.as_str().cmp(other.as_str())
     }
 }
