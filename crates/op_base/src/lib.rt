@@ -18,7 +18,9 @@ pub use laws::{items_are_in_one_order, names_are_exactly_what_is_read};
 pub use list::{ByteList, IdList, ListOf, MessageList, StepList, Text, ValueList};
 pub use memory::NoMemory;
 pub use message::{Entry, Message};
-pub use name::{Key, Kind, MOST_KEY_BYTES, MOST_VALUE_BYTES, NameFault, ObjectId, Value};
+pub use name::{
+    Key, Kind, MOST_KEY_BYTES, MOST_VALUE_BYTES, NameFault, ObjectId, VALUE_BYTES_IN_PLACE, Value,
+};
 pub use operation::{Act, Op, Update};
 pub use order::item_order;
 pub use outcome::{Answer, Cell, Crook, Item, Step};

@@ -2,7 +2,8 @@
 //!
 //! Their texts are this project's own profile. UTF-8 is tested by `simdutf8`.
 
-ghost use Rattle.std.specs.Prelude.{◌≡◌, ◌≢◌, IfOk, IfErr, OnOk, IsTrue, position, not, Some, Ok};
+ghost use Rattle.std.specs.Prelude.{◌≡◌, ◌≢◌, ◌≤◌, length, IfOk, IfErr, OnOk, IsOk, IsTrue, position, not, Some, Ok};
+ghost use Rattle.op_base.specs.declared.name.TheConstants.{VALUE_BYTES_IN_PLACE};
 ghost use Rattle.std.specs.List.{list_all};
 ghost use Rattle.std.specs.Prelude.{nat_eq, refl};
 ghost use Rattle.std.specs.Str.{is_utf8};
@@ -26,7 +27,7 @@ pub const MOST_KEY_BYTES: usize = 32;
 pub const MOST_VALUE_BYTES: usize = 4096;
 
 /// A value of at most so many bytes stands in the value itself, a longer one in an allocation.
-const VALUE_BYTES_IN_PLACE: usize = 24;
+pub const VALUE_BYTES_IN_PLACE: usize = 24;
 
 /// The type of an object. Objects of different kinds never meet.
 #[derive(Clone, Copy, Debug, PartialEq, Eq, PartialOrd, Ord, Hash)]
@@ -345,11 +346,13 @@ impl Key {
 
 impl Value {
     /// Reads a value: all of the bytes. The refusals are `Empty`, `TooLong` (above 4096 bytes), `BadByte` with the
-    /// first place of a byte that no value has, and `NotUtf8`, in this order; `NoMemory` comes after them.
+    /// first place of a byte that no value has, and `NotUtf8`, in this order; `NoMemory` comes after them, and only where the value doesn't stand in
+    /// place.
     pub fn read(alloc: Global, bytes: &[u8]) -> Result<Value, NameFault>
         ensures value { IfOk result (λ value. value ≡ bytes.now) }
         ensures valid { OnOk result (IsTrue (is_value bytes.now)) }
         ensures refused { Refuses (value_fault bytes.now) result }
+        ensures in_place { length bytes.now ≤ VALUE_BYTES_IN_PLACE → IfErr result (λ fault. fault ≢ NameFault.NoMemory) }
     {
         match value_fault(bytes) {
             Some(fault) => Err(fault),
@@ -375,9 +378,10 @@ impl Value {
         unsafe { str::from_utf8_unchecked(self.as_slice()) }
     }
 
-    /// An equal value. `NoMemory` leaves nothing behind.
+    /// An equal value. One that stands in place takes no memory; `NoMemory` leaves nothing behind.
     pub fn copy(&self, alloc: Global) -> Result<Value, NoMemory>
-        ensures { IfOk result (λ copy. copy ≡ self.now) }
+        ensures copy { IfOk result (λ copy. copy ≡ self.now) }
+        ensures in_place { length self.now ≤ VALUE_BYTES_IN_PLACE → IsOk result }
     {
         Ok(Value {
             bytes: SmallVec::from_slice(alloc, self.bytes.as_slice())?,
