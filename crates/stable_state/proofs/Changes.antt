@@ -16,7 +16,7 @@ use Rattle.causal_model.specs.Acts.{value_of}
 use Rattle.causal_model.specs.CellSteps.{with_act, cell_with}
 use Rattle.causal_model.specs.Items.{zero_cell, is_at, cell_in, is_filled, Rise, AreFilled}
 use Rattle.stable_state.specs.Picked.{ArePicked, is_place, replaced}
-use Rattle.stable_state.specs.Places.{with_cell, marked_of, IsGapFor}
+use Rattle.stable_state.specs.Places.{with_cell, IsGapFor}
 use Rattle.stable_state.specs.Shelf.{put_at, without_span}
 use Rattle.stable_state.specs.Slots.{no_item}
 use Rattle.stable_state.proofs.Cells.{place_itself, same_place}
@@ -46,9 +46,6 @@ cell_of_one items from to item picked object value =
 
 abbrev Filled : Item → Type 0
 Filled item = IsTrue (is_filled item.cell)
-
-abbrev is_marked : Item → Bool
-is_marked item = item.cell.off
 
 -- ---- one item more
 
@@ -116,15 +113,6 @@ module _ (items : List Item) (place : ℕ) (item : Item) (rise : Rise items) (wi
     filled_replaced each = cond_both (is_filled cell) (with_cell place cell items) (without_span place (place + 1) items) AreFilled
         (λ t. subst AreFilled (sym split) (All-append Filled (take place items) (record item { cell = cell } ∷ drop (place + 1) items) (All-take Filled place items each) (All-cons Filled (record item { cell = cell }) (drop (place + 1) items) t (All-drop Filled (place + 1) items each))))
         (λ _. All-append Filled (take place items) (drop (place + 1) items) (All-take Filled place items each) (All-drop Filled (place + 1) items each))
-
-    -- without an off mark in the cell, the marked items are those before and those behind
-    pub marked_replaced : cell.off ≡ false → marked_of (replaced place cell items) ≡ marked_of (take place items) ++ marked_of (drop (place + 1) items)
-    marked_replaced off = cond_both (is_filled cell) (with_cell place cell items) (without_span place (place + 1) items)
-        (λ new. marked_of new ≡ marked_of (take place items) ++ marked_of (drop (place + 1) items))
-        (λ _. ap marked_of split
-        ∙ filter-append is_marked (take place items) (record item { cell = cell } ∷ drop (place + 1) items)
-        ∙ ap (λ xs. marked_of (take place items) ++ xs) (cond-false cell.off (record item { cell = cell } ∷ marked_of (drop (place + 1) items)) (marked_of (drop (place + 1) items)) off))
-        (λ _. filter-append is_marked (take place items) (drop (place + 1) items))
 
 -- the item that stands at a place
 module _ (items : List Item) (place : ℕ) (rise : Rise items) (within : place < length items) (cell : Cell) where

@@ -1,4 +1,3 @@
-pub mod Filters
 pub mod Slots
 pub mod Places
 pub mod Ordered
@@ -6,6 +5,8 @@ pub mod Cells
 pub mod Spans
 pub mod Changes
 pub mod Covers
+pub mod Touched
 pub mod Marks
+pub mod Waiting
 pub mod Moves
 pub mod Views

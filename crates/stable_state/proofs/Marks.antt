@@ -1,29 +1,26 @@
--- Off marks: which items wait, and what the marked items are when one of them loses its mark.
-use Rattle.std.proofs.Common.{◌≡◌, ℕ, ◌+◌, ◌-◌, ◌<◌, ◌≤◌, ◌&&◌, All, Bool, true, false, not, ◌||◌, List, [], ◌∷◌, ◌++◌, length, take, drop, get_or, suc, refl, sym, ap, subst, ◌∙◌, inl, inr, Option, arith}
-use Rattle.std.specs.List.{AllWithin, HoldsAt, Contains}
-use Rattle.std.specs.declared.cmp.Ordering.TheVariants.{Less}
-use Rattle.std.proofs.lemmas.Bool.{both_ways, cases_Bool, cases_lt, cond-true, cond-false, cond_both, and_right}
-use Rattle.std.proofs.lemmas.List.{drop_more, get_or_at, get_or-append_right, length-append, take-append-drop}
-use Rattle.std.proofs.lemmas.List.Elements.{All-contains_itself, All-filter, All-head, All-tail, filter-append, filter_passes}
-use Rattle.std.proofs.lemmas.List.Kept.{AllPairs-filter}
-use Rattle.op_base.specs.Order.{item_cmp}
+-- Off marks: which items wait, and what each cell is when what was touched is settled.
+use Rattle.std.proofs.Common.{◌≡◌, ℕ, ◌<◌, ◌&&◌, Bool, true, false, not, ◌||◌, List, [], length, get_or, refl, sym, ap, subst, ◌∙◌, inl, inr, Option, Some, None, if◌then◌else◌}
+use Rattle.std.specs.List.{HoldsAt}
+use Rattle.std.proofs.lemmas.Bool.{both_ways, cases_Bool, cond-true, cond-false, cond_both, and_parts, and_right, false_from_ne_true, false≢true, not-false, or_cases, or_left, or_right, or_parts}
+use Rattle.std.proofs.lemmas.List.{get_or_default}
 use Rattle.op_base.specs.declared.name.Kind.{Kind}
 use Rattle.op_base.specs.declared.name.Kind.TheVariants.{RwSet, DwFlag}
 use Rattle.op_base.specs.declared.name.ObjectId.{ObjectId}
 use Rattle.op_base.specs.declared.outcome.Cell.{Cell}
 use Rattle.op_base.specs.declared.outcome.Item.{Item}
 use Rattle.causal_model.specs.CellSteps.{cell_settled, marks_settled}
-use Rattle.causal_model.specs.Items.{zero_cell, is_at, cell_in, Rise}
-use Rattle.stable_state.specs.Picked.{is_place, replaced}
-use Rattle.stable_state.specs.Places.{marked_of, IsGapFor}
-use Rattle.stable_state.specs.Settling.{remove_wins, waits, IsSettled, IsLoose}
-use Rattle.stable_state.proofs.Cells.{place_itself, same_place}
-use Rattle.stable_state.proofs.Spans.{none_is_picked, only_place}
-use Rattle.stable_state.proofs.Changes.{cell_there, cell_replaced, marked_replaced}
+use Rattle.causal_model.specs.Items.{is_at, cell_in, Rise}
+use Rattle.stable_state.specs.Picked.{is_place}
+use Rattle.stable_state.specs.Settling.{remove_wins, can_lose_mark, waits, settled_by, IsSettledAt, AreSettled}
+use Rattle.stable_state.specs.Shelf.{Shelved}
+use Rattle.stable_state.specs.Slots.{no_item}
+use Rattle.stable_state.specs.Touched.{is_touched, KeepTouched, IsLast}
+use Rattle.stable_state.proofs.Cells.{same_place}
+use Rattle.stable_state.proofs.Changes.{cell_there}
 
 -- ---- one cell
 
-pending_stays : (cell : Cell) → marks_settled true cell ≡ cell
+pub pending_stays : (cell : Cell) → marks_settled true cell ≡ cell
 pending_stays cell = λ i. record { on = on cell.on cell.off i; off = off cell.off i; sum = cell.sum } where
   on : (a b : Bool) → (a && (not b || true)) ≡ a
   on true true = refl
@@ -50,13 +47,13 @@ settled_twice DwFlag false cell = unmarked_stays false (marks_settled false cell
 settled_twice kind pending cell = refl
 
 -- a cell without an off mark is settled
-unmarked_is_settled : (kind : Kind) (pending : Bool) (cell : Cell) → cell.off ≡ false → cell_settled kind pending cell ≡ cell
+pub unmarked_is_settled : (kind : Kind) (pending : Bool) (cell : Cell) → cell.off ≡ false → cell_settled kind pending cell ≡ cell
 unmarked_is_settled RwSet pending cell none = unmarked_stays pending cell none
 unmarked_is_settled DwFlag pending cell none = unmarked_stays pending cell none
 unmarked_is_settled kind pending cell none = refl
 
 module _ (pending : ObjectId → Option (List ℕ) → Bool) where
-  -- an item that waits is settled, and any other loses its mark
+  -- where an add is pending or a remove doesn't win all stays, and otherwise the off mark goes
   by_kind : (kind : Kind) (put : Bool) (cell : Cell) → ((not (remove_wins kind) || put) ≡ true → cell_settled kind put cell ≡ cell) × ((not (remove_wins kind) || put) ≡ false → cell_settled kind put cell ≡ marks_settled false cell)
   by_kind RwSet true cell = (λ _. pending_stays cell, λ f. absurd (both_ways true f refl))
   by_kind RwSet false cell = (λ t. absurd (both_ways false refl t), λ _. refl)
@@ -64,117 +61,139 @@ module _ (pending : ObjectId → Option (List ℕ) → Bool) where
   by_kind DwFlag false cell = (λ t. absurd (both_ways false refl t), λ _. refl)
   by_kind kind put cell = (λ _. refl, λ f. absurd (both_ways true f refl))
 
-  pub waiting_is_settled : (item : Item) → waits pending item ≡ true → IsSettled pending item
-  waiting_is_settled item = (by_kind item.object.kind (pending item.object item.value) item.cell).0
+  -- an item that waits is settled
+  pub waiting_is_settled : (item : Item) → waits pending item ≡ true → item.cell ≡ settled_by pending item.object item.value item.cell
+  waiting_is_settled item t =
+      let add = pending item.object item.value in
+      let stays = λ (s : (not (remove_wins item.object.kind) || add) ≡ true). sym ((by_kind item.object.kind add item.cell).0 s) in
+      elim (or_cases (not (can_lose_mark item)) add t) [
+        | inr is ↦ stays (or_right (not (remove_wins item.object.kind)) add is)
+        | inl keeps ↦ elim (cases_Bool item.cell.off) [
+          | inr none ↦ sym (unmarked_is_settled item.object.kind add item.cell none)
+          | inl off ↦ stays (or_left (not (remove_wins item.object.kind)) add (ap (λ b. not (b && remove_wins item.object.kind)) (sym off) ∙ keeps))
+        ]
+      ]
 
-  pub other_is_loose : (item : Item) → waits pending item ≡ false → IsLoose pending item
-  other_is_loose item = (by_kind item.object.kind (pending item.object item.value) item.cell).1
+  -- any other loses its off mark
+  pub other_is_loose : (item : Item) → waits pending item ≡ false → marks_settled false item.cell ≡ settled_by pending item.object item.value item.cell
+  other_is_loose item f =
+      let add = pending item.object item.value in
+      let both = or_parts (not (can_lose_mark item)) add f in
+      let wins = (and_parts item.cell.off (remove_wins item.object.kind) (not-false (can_lose_mark item) both.0)).1 in
+      sym ((by_kind item.object.kind add item.cell).1 (ap (λ b. not b || add) wins ∙ both.1))
 
-  -- where all marked items are settled, so is each cell
-  pub all_are_settled : (items : List Item) → All (IsSettled pending) (marked_of items) → (object : ObjectId) (value : Option (List ℕ))
-      → cell_settled object.kind (pending object value) (cell_in items object value) ≡ cell_in items object value
-  all_are_settled [] each object value = unmarked_is_settled object.kind (pending object value) zero_cell refl
-  all_are_settled (x ∷ xs) each object value = elim (cases_Bool x.cell.off) [
-    | inl t ↦
-        let all : All (IsSettled pending) (x ∷ marked_of xs) = subst (All (IsSettled pending)) (cond-true x.cell.off (x ∷ marked_of xs) (marked_of xs) t) each in
-        first (All-head (IsSettled pending) x (marked_of xs) all) (all_are_settled xs (All-tail (IsSettled pending) x (marked_of xs) all) object value)
-    | inr f ↦
-        let all : All (IsSettled pending) (marked_of xs) = subst (All (IsSettled pending)) (cond-false x.cell.off (x ∷ marked_of xs) (marked_of xs) f) each in
-        first (unmarked_is_settled x.object.kind (pending x.object x.value) x.cell f) (all_are_settled xs all object value)
-  ] where
-    first : IsSettled pending x → cell_settled object.kind (pending object value) (cell_in xs object value) ≡ cell_in xs object value
-        → cell_settled object.kind (pending object value) (cell_in (x ∷ xs) object value) ≡ cell_in (x ∷ xs) object value
-    first here rest = cond_both (is_at object value x) x.cell (cell_in xs object value) (λ cell. cell_settled object.kind (pending object value) cell ≡ cell)
-        (λ t.
-        let same = same_place x.object object x.value value t in
-        let other = sym same.0 in
-        let other_value = sym same.1 in
-        (λ i. cell_settled (other i).kind (pending (other i) (other_value i)) x.cell) ∙ here)
-        (λ _. rest)
+  -- ---- the cell at a place
 
--- ---- the marked items
+  module _ (items : List Item) (place : ℕ) (item : Item) (rise : Rise items) (within : place < length items) (at : get_or items place item ≡ item) where
+    abbrev here : ObjectId → Option (List ℕ) → Bool
+    here object value = is_place item.object item.value object value
 
-module _ (items : List Item) (place k : ℕ) (item : Item) (rise : Rise items) (within : place < length items) (at : get_or items place item ≡ item) (low : k < length (marked_of items)) (marked : get_or (marked_of items) k item ≡ item) where
-  abbrev is_marked : Item → Bool
-  is_marked x = x.cell.off
-
-  abbrev front : List Item
-  front = marked_of (take place items)
-
-  abbrev back : List Item
-  back = marked_of (drop (place + 1) items)
-
-  has_mark : item.cell.off ≡ true
-  has_mark = subst (λ (x : Item). x.cell.off ≡ true) marked (filter_passes is_marked items k item low)
-
-  marked_split : marked_of items ≡ front ++ item ∷ back
-  marked_split =
-      ap marked_of (sym (take-append-drop place items))
-      ∙ filter-append is_marked (take place items) (drop place items)
-      ∙ ap (λ xs. front ++ marked_of xs) (drop_more items place item within ∙ ap (λ (x : Item). x ∷ drop (place + 1) items) at)
-      ∙ ap (λ xs. front ++ xs) (cond-true item.cell.off (item ∷ back) back has_mark)
-
-  number : k ≡ length front
-  number =
-      let rises : Rise (marked_of items) = AllPairs-filter (λ (a b : Item). item_cmp a.object a.value b.object b.value ≡ Less) is_marked items rise in
-      let len : length (marked_of items) ≡ length front + suc (length back) = ap length marked_split ∙ length-append front (item ∷ back) in
-      let itself = place_itself item.object item.value in
-      let here : get_or (marked_of items) (length front) item ≡ item = ap (λ xs. get_or xs (length front) item) marked_split ∙ get_or_at front item back item (length front) refl in
-      let At : Item → Type 0 = λ x. is_at item.object item.value x ≡ true in
-      only_place item.object item.value (marked_of items) rises k (length front) item low (omega (arith, len)) (subst At (sym marked) itself) (subst At (sym here) itself)
-
-  module _ (cell : Cell) (off : cell.off ≡ false) where
-    pub marks_left : k ≤ length (marked_of (replaced place cell items))
-    marks_left = omega (arith, number, ap length (marked_replaced items place item rise within at cell off), length-append front back)
-
-    -- those behind it stay the marked items behind its number
-    pub marks_behind : (P : Item → Type 0) → AllWithin P (marked_of items) (k + 1) (length (marked_of items)) → AllWithin P (marked_of (replaced place cell items)) k (length (marked_of (replaced place cell items)))
-    marks_behind P each = λ j d l h.
-        let is = marked_replaced items place item rise within at cell off in
-        let old : get_or (marked_of items) (j + 1) d ≡ get_or back (j - k) d =
-        ap (λ xs. get_or xs (j + 1) d) marked_split
-        ∙ get_or-append_right front (item ∷ back) k (j + 1) d (sym number) (omega (arith, l))
-        ∙ ap (λ n. get_or (item ∷ back) n d) (let e : j + 1 - k ≡ suc (j - k) = omega (arith, l) in e) in
-        let new : get_or (marked_of (replaced place cell items)) j d ≡ get_or back (j - k) d =
-        ap (λ xs. get_or xs j d) is ∙ get_or-append_right front back k j d (sym number) l in
-        let more : j + 1 < length (marked_of items) = omega (arith, h, ap length marked_split, ap length is, length-append front (item ∷ back), length-append front back) in
-        subst P (old ∙ sym new) (each (j + 1) d (omega (arith, l)) more)
-
-  -- where it is loose, cells are settled to what they were
-  module _ (pending : ObjectId → Option (List ℕ) → Bool) (loose : IsLoose pending item) where
-    abbrev settled : ObjectId → Option (List ℕ) → Cell → Cell
-    settled object value cell = cell_settled object.kind (pending object value) cell
-
-    pub same_settled : (object : ObjectId) (value : Option (List ℕ)) → settled object value (cell_in (replaced place (marks_settled false item.cell) items) object value) ≡ settled object value (cell_in items object value)
-    same_settled object value =
-        ap (settled object value) (cell_replaced items place item rise within at (marks_settled false item.cell) object value)
-        ∙ cond_both (is_place item.object item.value object value) (marks_settled false item.cell) (cell_in items object value) (λ cell. settled object value cell ≡ settled object value (cell_in items object value))
-        (λ t.
+    cell_here : (object : ObjectId) (value : Option (List ℕ)) → here object value ≡ true → cell_in items object value ≡ item.cell
+    cell_here object value t =
         let same = same_place item.object object item.value value t in
-        let here : settled item.object item.value (marks_settled false item.cell) ≡ settled item.object item.value (cell_in items item.object item.value) =
-        ap (settled item.object item.value) (sym loose) ∙ settled_twice item.object.kind (pending item.object item.value) item.cell
-        ∙ ap (settled item.object item.value) (sym (cell_there items place item rise within at)) in
-        let P : ObjectId → Option (List ℕ) → Type 0 = λ o v. settled o v (marks_settled false item.cell) ≡ settled o v (cell_in items o v) in
-        subst (λ v. P object v) same.1 (subst (λ (o : ObjectId). P o item.value) same.0 here))
-        (λ _. refl)
+        (λ i. cell_in items (sym same.0 i) (sym same.1 i)) ∙ cell_there items place item rise within at
 
--- ---- where a marked item stands
+    -- where its cell is the settled one, and no other is changed
+    pub settled_there : (cell : Cell) (new : List Item) → cell ≡ settled_by pending item.object item.value item.cell
+        → ((object : ObjectId) (value : Option (List ℕ)) → cell_in new object value ≡ (if here object value then cell else cell_in items object value))
+        → IsSettledAt pending place items new
+    settled_there cell new is cells d object value =
+        subst (λ (x : Item). cell_in new object value ≡ (if is_at object value x then settled_by pending object value (cell_in items object value) else cell_in items object value)) (sym (get_or_default items place d item within ∙ at))
+        (cells object value ∙ elim (cases_Bool (here object value)) [
+          | inl t ↦
+              let same = same_place item.object object item.value value t in
+              cond-true (here object value) cell (cell_in items object value) t ∙ is
+              ∙ (λ i. settled_by pending (same.0 i) (same.1 i) item.cell) ∙ ap (settled_by pending object value) (sym (cell_here object value t))
+              ∙ sym (cond-true (here object value) (settled_by pending object value (cell_in items object value)) (cell_in items object value) t)
+          | inr f ↦
+              cond-false (here object value) cell (cell_in items object value) f
+              ∙ sym (cond-false (here object value) (settled_by pending object value (cell_in items object value)) (cell_in items object value) f)
+        ])
 
-module _ (items : List Item) (k : ℕ) (item : Item) (low : k < length (marked_of items)) (marked : get_or (marked_of items) k item ≡ item) where
-  marked_has : (P : Item → Type 0) → All P items → P item
-  marked_has P each = subst P marked (All-filter (λ (x : Item). x.cell.off) P items each k item low)
+    -- so it is where nothing is changed, and it waits
+    pub settled_already : waits pending item ≡ true → IsSettledAt pending place items items
+    settled_already t = settled_there item.cell items (waiting_is_settled item t) (λ object value. elim (cases_Bool (here object value)) [
+      | inl at_it ↦ cell_here object value at_it ∙ sym (cond-true (here object value) item.cell (cell_in items object value) at_it)
+      | inr f ↦ sym (cond-false (here object value) item.cell (cell_in items object value) f)
+    ])
 
-  -- it is there
-  pub marked_is_there : (place : ℕ) → IsGapFor item.object item.value items place → ⊥
-  marked_is_there place gap =
-      let picked = none_is_picked item.object item.value items place gap in
-      let Away : Item → Type 0 = λ x. is_place item.object item.value x.object x.value ≡ false in
-      let all : All Away items = λ j d l. elim (cases_lt j place) [ inl lt ↦ picked.before j d (omega arith) lt | inr le ↦ picked.after j d le l ] in
-      both_ways (is_place item.object item.value item.object item.value) (marked_has Away all) (place_itself item.object item.value)
+  -- ---- what was touched last, and what was touched
 
-  -- and it is what is found
-  pub marked_is_found : (place : ℕ) → Rise items → place < length items → HoldsAt (λ x. is_at item.object item.value x ≡ true) items place → get_or items place item ≡ item
-  marked_is_found place rise within found =
-      let there = marked_has (Contains items) (All-contains_itself items) in
-      let At : Item → Type 0 = λ x. is_at item.object item.value x ≡ true in
-      ap (λ j. get_or items j item) (only_place item.object item.value items rise place there.0 item within there.1 (found item) (subst At (sym there.2) (place_itself item.object item.value))) ∙ there.2
+  abbrev settled : ObjectId → Option (List ℕ) → Cell → Cell
+  settled object value cell = settled_by pending object value cell
+
+  twice : (object : ObjectId) (value : Option (List ℕ)) (cell : Cell) → settled object value (settled object value cell) ≡ settled object value cell
+  twice object value cell = settled_twice object.kind (pending object value) cell
+
+  -- nothing was settled yet
+  pub none_is_settled : (s : Shelved) → AreSettled pending s s
+  none_is_settled s = record { alike = λ object value. refl; settled = λ object value t. inl t; others = λ object value f. (f, refl) }
+
+  -- nothing stands where it was touched last
+  pub gone_is_settled : (old new : Shelved) → new.items ≡ old.items → IsLast old new.touched None → AreSettled pending old new
+  gone_is_settled old new is last = record {
+    alike = λ object value. ap (λ items. settled object value (cell_in items object value)) is;
+    settled = λ object value t. elim (last.last object value t) [
+      | inl still ↦ inl still
+      | inr zero ↦ inr (unmarked_is_settled object.kind (pending object value) (cell_in new.items object value) (ap (λ items. (cell_in items object value).off) is ∙ ap (λ (c : Cell). c.off) zero))
+    ];
+    others = λ object value f. (false_from_ne_true (is_touched new.touched object value) (λ t. both_ways (is_touched old.touched object value) f (last.fewer object value t)), ap (λ items. cell_in items object value) is);
+  }
+
+  -- the item that was touched last is settled
+  module _ (old mid new : Shelved) (place : ℕ) (last : IsLast old mid.touched (Some place)) (cells : IsSettledAt pending place old.items new.items) (keep : KeepTouched mid new) where
+    abbrev item : Item
+    item = get_or old.items place no_item
+
+    abbrev cell : ObjectId → Option (List ℕ) → Cell
+    cell object value = cell_in old.items object value
+
+    settled_now : (object : ObjectId) (value : Option (List ℕ)) → is_at object value item ≡ true → cell_in new.items object value ≡ settled object value (cell object value)
+    settled_now object value t = cells no_item object value ∙ cond-true (is_at object value item) (settled object value (cell object value)) (cell object value) t
+
+    pub last_is_settled : AreSettled pending old new
+    last_is_settled = record {
+      alike = λ object value.
+          ap (settled object value) (cells no_item object value)
+          ∙ cond_both (is_at object value item) (settled object value (cell object value)) (cell object value) (λ c. settled object value c ≡ settled object value (cell object value)) (λ _. twice object value (cell object value)) (λ _. refl);
+      settled = λ object value t. elim (last.last object value t) [
+        | inr at ↦ let now = settled_now object value (at no_item) in inr (ap (settled object value) now ∙ twice object value (cell object value) ∙ sym now)
+        | inl still ↦ elim (cases_Bool (cell_in new.items object value).off) [
+          | inl off ↦ inl (keep.stay object value still off)
+          | inr none ↦ inr (unmarked_is_settled object.kind (pending object value) (cell_in new.items object value) none)
+        ]
+      ];
+      others = λ object value f. (
+        false_from_ne_true (is_touched new.touched object value) (λ t. both_ways (is_touched old.touched object value) f (last.fewer object value (keep.fewer object value t))),
+        cells no_item object value ∙ cond-false (is_at object value item) (settled object value (cell object value)) (cell object value) (false_from_ne_true (is_at object value item) (λ t.
+            let same = same_place item.object object item.value value t in
+            both_ways (is_touched old.touched object value) f ((λ i. is_touched old.touched (sym same.0 i) (sym same.1 i)) ∙ last.at.touched no_item))),
+      );
+    }
+
+  -- step by step
+  pub settled_further : (a b c : Shelved) → AreSettled pending a b → AreSettled pending b c → AreSettled pending a c
+  settled_further a b c first second = record {
+    alike = λ object value. second.alike object value ∙ first.alike object value;
+    settled = λ object value t. elim (first.settled object value t) [
+      | inl still ↦ second.settled object value still
+      | inr done ↦ elim (cases_Bool (is_touched b.touched object value)) [
+        | inl still ↦ second.settled object value still
+        | inr not_now ↦ let same = (second.others object value not_now).1 in inr (ap (settled object value) same ∙ done ∙ sym same)
+      ]
+    ];
+    others = λ object value f. let one = first.others object value f in let other = second.others object value one.0 in (other.0, other.1 ∙ one.1);
+  }
+
+  -- until nothing is touched
+  pub all_are_settled : (old new : Shelved) → AreSettled pending old new → new.touched ≡ [] → (object : ObjectId) (value : Option (List ℕ))
+      → cell_in new.items object value ≡ (if is_touched old.touched object value then settled object value (cell_in old.items object value) else cell_in old.items object value)
+  all_are_settled old new are none object value =
+      let was = cell_in old.items object value in
+      elim (cases_Bool (is_touched old.touched object value)) [
+        | inr f ↦ (are.others object value f).1 ∙ sym (cond-false (is_touched old.touched object value) (settled object value was) was f)
+        | inl t ↦ elim (are.settled object value t) [
+          | inl still ↦ absurd (false≢true (sym (ap (λ touched. is_touched touched object value) none) ∙ still))
+          | inr done ↦ sym done ∙ are.alike object value ∙ sym (cond-true (is_touched old.touched object value) (settled object value was) was t)
+        ]
+      ]

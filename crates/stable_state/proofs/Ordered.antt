@@ -1,58 +1,42 @@
 -- Slots in order while an item is put in, some are let go, or one gets another cell.
 use Rattle.std.proofs.Common.{◌≡◌, ◌≢◌, ◌⊎◌, ℕ, zero, suc, ◌+◌, ◌<◌, ◌≤◌, true, false, All, Contains, List, [], ◌∷◌, ◌++◌, length, take, drop, get_or, set, cond, refl, sym, ap, subst, ◌∙◌, inl, inr, length-drop, length-append, length-take-le, drop-cons, arith}
 use Rattle.std.specs.Prelude.{Option, Some, None, unwrap_or, is_some, IsTrue, slice_range}
-use Rattle.std.specs.List.{filter, insert, remove, remove_range}
+use Rattle.std.specs.List.{insert, remove_range}
 use Rattle.std.proofs.lemmas.Bool.{both_ways, cases_eq, cases_lt}
 use Rattle.std.proofs.lemmas.List.{length-map, get_or_default, get_or-take, get_or-drop, take-map, drop-map, map-append, set_split, length-set, take-append-drop, get_or-set_same, get_or-set_other, get_or_past}
 use Rattle.std.proofs.lemmas.List.Edits.{length-insert, length-between, get_or-between}
 use Rattle.std.proofs.lemmas.List.Elements.{All-append, All-cons, All-take, All-drop, All-set}
 use Rattle.std.proofs.lemmas.List.Sums.{sum_by-set}
 use Rattle.op_base.specs.Order.{item_cmp}
+use Rattle.op_base.specs.declared.name.ObjectId.{ObjectId}
 use Rattle.op_base.specs.declared.outcome.Cell.{Cell}
 use Rattle.op_base.specs.declared.outcome.Item.{Item}
 use Rattle.causal_model.specs.Items.{is_filled, Rise}
 use Rattle.causal_model.proofs.Elements.{AllPairs-append}
 use Rattle.slab.specs.Slab.{Slab, get, ContainsKey, slab_len, with_value, Updates}
-use Rattle.stable_state.specs.Places.{marked_of, with_cell}
-use Rattle.stable_state.specs.Slots.{no_item, item_in, items_in, is_marked, IsOrdered}
-use Rattle.stable_state.proofs.Filters.{filter-map, filter_same, passing, filter-insert, filter-remove_range, filter_stays, filter_gains, filter_loses}
+use Rattle.stable_state.specs.Places.{with_cell}
+use Rattle.stable_state.specs.Slots.{no_item, item_in, items_in, IsOrdered}
+use Rattle.stable_state.specs.Touched.{is_one_at}
 use Rattle.stable_state.proofs.Places.{IsLess, AllPairs-take, AllPairs-drop}
-use Rattle.stable_state.proofs.Slots.{IsKept, items_kept, marks_agree, held_kept, item_is, item_at_place, slots_apart, items_in-insert, items_in-remove_range}
+use Rattle.stable_state.proofs.Slots.{IsKept, items_kept, held_kept, held_item, item_is, item_at_place, slots_apart, items_in-insert, items_in-remove_range}
 
 -- more room changes nothing else
-pub more_room : (old new : Slab Item) (order order' marked marked' : List ℕ) → old.capacity ≤ new.capacity → new ≡ record old { capacity = new.capacity } → order' ≡ order → marked' ≡ marked → IsOrdered old order marked → IsOrdered new order' marked'
-more_room old new order order' marked marked' more is order_is marked_is ordered =
-    subst (λ slots. IsOrdered slots order' marked') (sym is) (subst (λ xs. IsOrdered (record old { capacity = new.capacity }) xs marked') (sym order_is) (subst (IsOrdered (record old { capacity = new.capacity }) order) (sym marked_is)
-    (record { held = ordered.held; counted = ordered.counted; fits = omega (arith, ordered.fits, more); rise = ordered.rise; filled = ordered.filled; marks = ordered.marks })))
-
--- how many of the first items have an off mark, by their slots
-pub marks_in_front : (slots : Slab Item) (order : List ℕ) (items : List Item) (place : ℕ) → items_in slots order ≡ items → length (marked_of (take place items)) ≡ passing (is_marked slots) place order
-marks_in_front slots order items place is =
-    ap (λ xs. length (marked_of (take place xs))) (sym is)
-    ∙ ap (λ xs. length (marked_of xs)) (take-map (item_in slots) place order)
-    ∙ ap length (filter-map (item_in slots) (λ item. item.cell.off) (take place order))
-    ∙ length-map (filter (is_marked slots) (take place order)) (item_in slots)
+pub more_room : (old new : Slab Item) (order order' : List ℕ) → old.capacity ≤ new.capacity → new ≡ record old { capacity = new.capacity } → order' ≡ order → IsOrdered old order → IsOrdered new order'
+more_room old new order order' more is order_is ordered =
+    subst (λ slots. IsOrdered slots order') (sym is) (subst (IsOrdered (record old { capacity = new.capacity })) (sym order_is)
+    (record { held = ordered.held; counted = ordered.counted; fits = omega (arith, ordered.fits, more); rise = ordered.rise; filled = ordered.filled }))
 
 -- ---- an item is put into a slot that had none
 
-module _ (old new : Slab Item) (order marked : List ℕ) (place slot : ℕ) (item : Item) (ordered : IsOrdered old order marked) (within : place ≤ length order) (vacant : get old slot ≡ None) (changes : Updates old new slot (Some item)) where
+module _ (old new : Slab Item) (order : List ℕ) (place slot : ℕ) (item : Item) (ordered : IsOrdered old order) (within : place ≤ length order) (vacant : get old slot ≡ None) (changes : Updates old new slot (Some item)) where
   kept : All (IsKept old new) order
   kept k d l = changes.others (get_or order k d) (λ same. both_ways (is_some (get old (get_or order k d))) (ap is_some (ap (get old) same ∙ vacant)) (ordered.held k d l))
 
   pub items-insert : items_in new (insert order place slot) ≡ insert (items_in old order) place item
   items-insert = items_in-insert new order place slot ∙ (λ i. insert (items_kept old new order kept i) place (item_is new slot item changes.changed i))
 
-  marks-insert : filter (is_marked new) (insert order place slot) ≡ cond item.cell.off (insert marked (passing (is_marked old) place order) slot) marked
-  marks-insert =
-      let agree = marks_agree old new order kept in
-      let same : filter (is_marked new) order ≡ marked = filter_same (is_marked new) (is_marked old) order agree ∙ sym ordered.marks in
-      let front : passing (is_marked new) place order ≡ passing (is_marked old) place order = ap length (filter_same (is_marked new) (is_marked old) (take place order) (All-take (λ s. is_marked new s ≡ is_marked old s) place order agree)) in
-      let off : is_marked new slot ≡ item.cell.off = ap (λ o. (unwrap_or o no_item).cell.off) changes.changed in
-      filter-insert (is_marked new) place order slot ∙ (λ i. cond (off i) (insert (same i) (front i) slot) (same i))
-
-  pub ordered-insert : (marked' : List ℕ) → slab_len new ≡ slab_len old + 1 → slab_len old + 1 ≤ new.capacity → IsTrue (is_filled item.cell) → Rise (insert (items_in old order) place item)
-      → marked' ≡ cond item.cell.off (insert marked (passing (is_marked old) place order) slot) marked → IsOrdered new (insert order place slot) marked'
-  ordered-insert marked' len room filled rise marks =
+  pub ordered-insert : slab_len new ≡ slab_len old + 1 → slab_len old + 1 ≤ new.capacity → IsTrue (is_filled item.cell) → Rise (insert (items_in old order) place item) → IsOrdered new (insert order place slot)
+  ordered-insert len room filled rise =
       let held = held_kept old new order kept ordered.held in
       record {
         held = All-append (ContainsKey new) (take place order) (slot ∷ drop place order) (All-take (ContainsKey new) place order held) (All-cons (ContainsKey new) slot (drop place order) (ap is_some changes.changed) (All-drop (ContainsKey new) place order held));
@@ -63,13 +47,15 @@ module _ (old new : Slab Item) (order marked : List ℕ) (place slot : ℕ) (ite
             let P = λ (x : Item). IsTrue (is_filled x.cell) in
             let items = items_in old order in
             subst (All P) (sym items-insert) (All-append P (take place items) (item ∷ drop place items) (All-take P place items ordered.filled) (All-cons P item (drop place items) filled (All-drop P place items ordered.filled)));
-        marks = marks ∙ sym marks-insert;
       }
 
 -- ---- some items are let go
 
-module _ (old new : Slab Item) (order marked : List ℕ) (from to : ℕ) (ordered : IsOrdered old order marked) (le : from ≤ to) (within : to ≤ length order)
-    (others : (slot : ℕ) → (Contains (slice_range order from to) slot → ⊥) → get new slot ≡ get old slot) where
+module _ (old new : Slab Item) (order : List ℕ) (from to : ℕ) (ordered : IsOrdered old order) (le : from ≤ to) (within : to ≤ length order)
+    (each : (slot : ℕ) → (get new slot ≡ get old slot) ⊎ (Contains (slice_range order from to) slot × (get new slot ≡ None))) where
+  others : (slot : ℕ) → (Contains (slice_range order from to) slot → ⊥) → get new slot ≡ get old slot
+  others slot apart = elim (each slot) [ inl same ↦ same | inr gone ↦ absurd (apart gone.0) ]
+
   -- a slot of the order that stands elsewhere than in the span isn't in it
   away : (k d : ℕ) → k < length order → ((k < from) ⊎ (to ≤ k)) → IsKept old new (get_or order k d)
   away k d l where_is = others (get_or order k d) (λ found.
@@ -93,7 +79,7 @@ module _ (old new : Slab Item) (order marked : List ℕ) (from to : ℕ) (ordere
   pub items-remove : items_in new (remove_range order from to) ≡ remove_range (items_in old order) from to
   items-remove = items_kept old new (remove_range order from to) others_kept ∙ items_in-remove_range old order from to
 
-  pub ordered-remove : slab_len new + length (slice_range order from to) ≡ slab_len old → new.capacity ≡ old.capacity → IsOrdered new (remove_range order from to) (remove_range marked (passing (is_marked old) from order) (passing (is_marked old) to order))
+  pub ordered-remove : slab_len new + length (slice_range order from to) ≡ slab_len old → new.capacity ≡ old.capacity → IsOrdered new (remove_range order from to)
   ordered-remove len capacity =
       let items = items_in old order in
       let P = λ (x : Item). IsTrue (is_filled x.cell) in
@@ -108,9 +94,6 @@ module _ (old new : Slab Item) (order marked : List ℕ) (from to : ℕ) (ordere
             subst (λ y. IsLess y (get_or (drop to items) j e)) (sym (get_or-take from items k d below ∙ get_or_default items k d e (omega (arith, below, le, within, long))))
             (subst (IsLess (get_or items k e)) (sym (get_or-drop to items j e)) (ordered.rise k (to + j) e (omega (arith, below, le)) past))));
         filled = subst (All P) (sym items-remove) (All-append P (take from items) (drop to items) (All-take P from items ordered.filled) (All-drop P to items ordered.filled));
-        marks =
-            (λ i. remove_range (ordered.marks i) (passing (is_marked old) from order) (passing (is_marked old) to order))
-            ∙ sym (filter_same (is_marked new) (is_marked old) (remove_range order from to) (marks_agree old new (remove_range order from to) others_kept) ∙ filter-remove_range (is_marked old) from to order);
       }
 
 -- ---- an item gets another cell
@@ -135,7 +118,7 @@ rise-with_cell place cell items rise i j d less within =
     let long : length (with_cell place cell items) ≡ length items = ap length (with_cell_set place cell items d) ∙ length-set items place (record (get_or items place d) { cell = cell }) in
     (λ t. item_cmp (x.0 t) (x.1 t) (y.0 t) (y.1 t)) ∙ rise i j d less (omega (arith, within, long))
 
-module _ (old : Slab Item) (order marked : List ℕ) (place slot : ℕ) (cell : Cell) (ordered : IsOrdered old order marked) (within : place < length order) (at : get_or order place slot ≡ slot) where
+module _ (old : Slab Item) (order : List ℕ) (place slot : ℕ) (cell : Cell) (ordered : IsOrdered old order) (within : place < length order) (at : get_or order place slot ≡ slot) where
   abbrev pub changed : Item
   changed = record (item_in old slot) { cell = cell }
 
@@ -151,7 +134,7 @@ module _ (old : Slab Item) (order marked : List ℕ) (place slot : ℕ) (cell : 
     | inr past ↦ absurd (both_ways (is_some (get old slot)) (ap is_some (get_or_past old.slots slot None past)) here)
   ]
 
-  found : get written slot ≡ Some changed
+  pub found : get written slot ≡ Some changed
   found = get_or-set_same old.slots slot (Some changed) None bound
 
   elsewhere : (other : ℕ) → other ≢ slot → IsKept old written other
@@ -186,23 +169,14 @@ module _ (old : Slab Item) (order marked : List ℕ) (place slot : ℕ) (cell : 
       ∙ sym (set_split items place changed (omega (arith, within, length-map order (item_in old))))
       ∙ ap (λ item. set items place (record item { cell = cell })) (sym was) ∙ sym (with_cell_set place cell items no_item)
 
-  is_now : is_marked written (get_or order place slot) ≡ cell.off
-  is_now = ap (is_marked written) at ∙ ap (λ o. (unwrap_or o no_item).cell.off) found
-
-  pub marks_stay : (item_in old slot).cell.off ≡ cell.off → marked ≡ filter (is_marked written) order
-  marks_stay same =
-      ordered.marks ∙ sym (filter_stays (is_marked old) (is_marked written) place order slot within (marks_agree old written (take place order) first) (marks_agree old written (drop (suc place) order) last)
-      (is_now ∙ sym same ∙ ap (is_marked old) (sym at)))
-
-  pub marks_gain : (item_in old slot).cell.off ≡ false → cell.off ≡ true → insert marked (passing (is_marked old) place order) slot ≡ filter (is_marked written) order
-  marks_gain was is =
-      (λ i. insert (ordered.marks i) (passing (is_marked old) place order) (sym at i))
-      ∙ sym (filter_gains (is_marked old) (is_marked written) place order slot within (marks_agree old written (take place order) first) (marks_agree old written (drop (suc place) order) last) (ap (is_marked old) at ∙ was) (is_now ∙ is))
-
-  pub marks_lose : (item_in old slot).cell.off ≡ true → cell.off ≡ false → remove marked (passing (is_marked old) place order) ≡ filter (is_marked written) order
-  marks_lose was is =
-      (λ i. remove (ordered.marks i) (passing (is_marked old) place order))
-      ∙ sym (filter_loses (is_marked old) (is_marked written) place order slot within (marks_agree old written (take place order) first) (marks_agree old written (drop (suc place) order) last) (ap (is_marked old) at ∙ was) (is_now ∙ is))
+  -- in each slot stands an item of the object and value of before
+  pub one_at-write : (object : ObjectId) (value : Option (List ℕ)) (other : ℕ) → is_one_at object value (get written other) ≡ is_one_at object value (get old other)
+  one_at-write object value other = elim (cases_eq other slot) [
+    | inl same ↦
+        ap (λ o. is_one_at object value (get written o)) same ∙ ap (is_one_at object value) found
+        ∙ sym (ap (λ o. is_one_at object value (get old o)) same ∙ ap (is_one_at object value) (held_item old slot here))
+    | inr ne ↦ ap (is_one_at object value) (elsewhere other ne)
+  ]
 
   pub len-write : slab_len written ≡ slab_len old
   len-write =
@@ -210,8 +184,8 @@ module _ (old : Slab Item) (order marked : List ℕ) (place slot : ℕ) (cell : 
       let had : one (get old slot) ≡ 1 = ap (λ b. cond b 1 0) here in
       omega (arith, sum_by-set one old.slots slot (Some changed) None bound, had)
 
-  pub ordered-write : (marked' : List ℕ) → IsTrue (is_filled cell) → marked' ≡ filter (is_marked written) order → IsOrdered written order marked'
-  ordered-write marked' filled marks =
+  pub ordered-write : IsTrue (is_filled cell) → IsOrdered written order
+  ordered-write filled =
       let items = items_in old order in
       let P = λ (x : Item). IsTrue (is_filled x.cell) in
       record {
@@ -223,5 +197,4 @@ module _ (old : Slab Item) (order marked : List ℕ) (place slot : ℕ) (cell : 
         fits = omega (arith, len-write, ordered.fits);
         rise = subst Rise (sym items-write) (rise-with_cell place cell items ordered.rise);
         filled = subst (All P) (sym (items-write ∙ with_cell_set place cell items no_item)) (All-set P items place (record (get_or items place no_item) { cell = cell }) filled ordered.filled);
-        marks = marks;
       }

@@ -23,9 +23,8 @@ use Rattle.causal_model.specs.Items.{is_at, Rise}
 use Rattle.causal_model.proofs.Elements.{AllPairs-append}
 use Rattle.causal_model.proofs.Places.{places_total}
 use Rattle.slab.specs.Slab.{Slab, get, ContainsKey}
-use Rattle.stable_state.specs.Places.{is_before, is_up_to, marked_of, IsParted, RisesWithOneAt, IsGapFor, IsSpan}
+use Rattle.stable_state.specs.Places.{is_before, is_up_to, IsParted, RisesWithOneAt, IsGapFor, IsSpan}
 use Rattle.stable_state.specs.Slots.{no_item, item_in, items_in}
-use Rattle.stable_state.proofs.Filters.{filter_split}
 use Rattle.stable_state.proofs.Slots.{held_item, item_at_place}
 
 abbrev pub IsLess : Item → Item → Type 0
@@ -199,46 +198,3 @@ gap_rises object value items place rise gap item of_object of_value =
     let x = get_or items (place + k) d in
     let greater : item_cmp x.object x.value object value ≡ Greater = gap.after (place + k) d (omega arith) (omega (arith, l, length-drop place items)) in
     subst (λ y. IsLess item y) (sym (get_or-drop place items k d)) ((λ i. item_cmp (of_object i) (of_value i) x.object x.value) ∙ places_total.antisymm (object, value) (x.object, x.value) ∙ ap ordering_reverse greater))
-
--- ---- a list that a test parts
-
--- where the first elements pass and the others don't, the point where the test parts the list is behind the first
-parted_at : {X : Type 0} (p : X → Bool) (xs ys : List X) (d : X) (r : ℕ) → All (λ x. p x ≡ true) xs → All (λ x. p x ≡ false) ys → r ≤ length (xs ++ ys)
-    → IsPartitionPoint (λ x. p x ≡ true) (λ x. p x ≡ false) (xs ++ ys) r → r ≡ length xs
-parted_at p xs ys d r pass fail le point = elim (cases_lt r (length xs)) [
-  | inl less ↦
-      let at : get_or (xs ++ ys) r d ≡ get_or xs r d = get_or_append_left xs ys d r less in
-      absurd (both_ways (p (get_or xs r d)) (ap p (sym at) ∙ point.1 r d (omega arith) (omega (arith, less, length-append xs ys))) (pass r d less))
-  | inr past ↦ elim (cases_lt (length xs) r) [
-    | inl less ↦
-        let at : get_or (xs ++ ys) (length xs) d ≡ get_or ys 0 d = ap (λ n. get_or (xs ++ ys) n d) (sym (add-zero (length xs))) ∙ get_or-append-add xs ys 0 d in
-        absurd (both_ways (p (get_or ys 0 d)) (fail 0 d (omega (arith, less, le, length-append xs ys))) (ap p (sym at) ∙ point.0 (length xs) d (omega arith) less))
-    | inr le ↦ omega (arith, past, le)
-  ]
-]
-
--- the marked items before an item's place are those of the marked ones that are before it
-pub marks_parted : (items : List Item) (place : ℕ) (x : Item) → Rise items → slice_get items place ≡ Some x → (r : ℕ) → r ≤ length (marked_of items)
-    → IsParted (is_before x.object x.value) (marked_of items) r → r ≡ length (marked_of (take place items))
-marks_parted items place x rise here r le point =
-    let p = is_before x.object x.value in
-    let off = λ (item : Item). item.cell.off in
-    let within : place < length items = slice_get_within items place x here in
-    let x_is : (d : Item) → x ≡ get_or items place d = λ d. sym (get_or_from_slice_get items place x d here) in
-    let first : All (λ item. p item ≡ true) (take place items) = λ k d l.
-    let below : k < place = omega (arith, l, length-take-le place items (omega (arith, within))) in
-    subst (λ y. p y ≡ true) (sym (get_or-take place items k d below)) (ap is_lt (subst (IsLess (get_or items k d)) (sym (x_is d)) (rise k place d below within))) in
-    let others : All (λ item. p item ≡ false) (drop place items) = λ k d l. subst (λ y. p y ≡ false) (sym (get_or-drop place items k d)) (elim (cases_eq k 0) [
-      | inl zero ↦
-          let same : get_or items (place + k) d ≡ x = ap (λ j. get_or items j d) (add_none place k zero) ∙ sym (x_is d) in
-          ap p same ∙ ap is_lt (tied_itself places_total (x.object, x.value))
-      | inr more ↦
-          let y = get_or items (place + k) d in
-          let after : IsLess x y = subst (λ z. IsLess z y) (sym (x_is d)) (rise place (place + k) d (omega (arith, more)) (omega (arith, l, length-drop place items))) in
-          ap is_lt (places_total.antisymm (y.object, y.value) (x.object, x.value) ∙ ap ordering_reverse after)
-    ]) in
-    let split : marked_of items ≡ marked_of (take place items) ++ marked_of (drop place items) = filter_split off place items in
-    parted_at p (marked_of (take place items)) (marked_of (drop place items)) no_item r (All-filter off (λ item. p item ≡ true) (take place items) first) (All-filter off (λ item. p item ≡ false) (drop place items) others)
-    (omega (arith, le, ap length split)) (subst (λ xs. IsParted p xs r) split point) where
-      add_none : (n k : ℕ) → k ≡ 0 → n + k ≡ n
-      add_none n k zero = omega arith

@@ -1,9 +1,9 @@
 -- The items in slots while one slot changes, or some.
-use Rattle.std.proofs.Common.{◌≡◌, ◌≢◌, ℕ, ◌<◌, All, AllPairs, List, ◌∷◌, ◌++◌, length, take, drop, get_or, refl, sym, ap, subst, ◌∙◌, arith}
+use Rattle.std.proofs.Common.{◌≡◌, ◌≢◌, ℕ, ◌<◌, All, AllPairs, List, [], ◌∷◌, ◌++◌, map, length, take, drop, get_or, refl, sym, ap, subst, ◌∙◌, arith}
 use Rattle.std.specs.Prelude.{Option, Some, None, unwrap_or, is_some, IsSome}
-use Rattle.std.specs.List.{filter, insert, remove_range}
+use Rattle.std.specs.List.{insert, remove_range}
 use Rattle.std.proofs.lemmas.List.{length-map, get_or-map, take-map, drop-map, map-append}
-use Rattle.std.proofs.lemmas.List.Elements.{All-filter}
+use Rattle.std.proofs.lemmas.List.Elements.{All-head, All-tail}
 use Rattle.std.proofs.lemmas.Cmp.{tied_itself}
 use Rattle.std.specs.declared.cmp.Ordering.{Ordering}
 use Rattle.std.specs.declared.cmp.Ordering.TheVariants.{Less, Equal}
@@ -12,11 +12,13 @@ use Rattle.op_base.specs.declared.outcome.Item.{Item}
 use Rattle.causal_model.specs.Items.{Rise}
 use Rattle.causal_model.proofs.Places.{places_total}
 use Rattle.slab.specs.Slab.{Slab, get, ContainsKey}
-use Rattle.stable_state.specs.Places.{marked_of}
-use Rattle.stable_state.specs.Slots.{no_item, item_in, items_in, is_marked}
-use Rattle.stable_state.proofs.Filters.{filter-map, map_same}
+use Rattle.stable_state.specs.Slots.{no_item, item_in, items_in}
 
 -- ---- slots that keep what they had
+
+map_same : {X Y : Type 0} (f g : X → Y) (xs : List X) → All (λ x. f x ≡ g x) xs → map f xs ≡ map g xs
+map_same f g [] same = refl
+map_same f g (x ∷ xs) same = λ i. All-head (λ y. f y ≡ g y) x xs same i ∷ map_same f g xs (All-tail (λ y. f y ≡ g y) x xs same) i
 
 -- a slot has the same item in two slabs
 abbrev pub IsKept : Slab Item → Slab Item → ℕ → Type 0
@@ -25,9 +27,6 @@ IsKept old new slot = get new slot ≡ get old slot
 module _ (old new : Slab Item) (order : List ℕ) (kept : All (IsKept old new) order) where
   pub items_kept : items_in new order ≡ items_in old order
   items_kept = map_same (item_in new) (item_in old) order (λ k d l. ap (λ o. unwrap_or o no_item) (kept k d l))
-
-  pub marks_agree : All (λ slot. is_marked new slot ≡ is_marked old slot) order
-  marks_agree = λ k d l. ap (λ o. (unwrap_or o no_item).cell.off) (kept k d l)
 
   pub held_kept : All (ContainsKey old) order → All (ContainsKey new) order
   held_kept held = λ k d l. ap is_some (kept k d l) ∙ held k d l
@@ -43,16 +42,6 @@ held_item slots slot held = by (get slots slot) held where
   by : (o : Option Item) → IsSome o → o ≡ Some (unwrap_or o no_item)
   by None held = cc
   by (Some item) held = refl
-
--- the marked items are those in the marked slots
-pub marked_items : (slots : Slab Item) (order marked : List ℕ) (items : List Item) → marked ≡ filter (is_marked slots) order → items_in slots order ≡ items → items_in slots marked ≡ marked_of items
-marked_items slots order marked items marks is = ap (items_in slots) marks ∙ sym (filter-map (item_in slots) (λ item. item.cell.off) order) ∙ ap marked_of is
-
-pub marked_length : (slots : Slab Item) (order marked : List ℕ) (items : List Item) → marked ≡ filter (is_marked slots) order → items_in slots order ≡ items → length marked ≡ length (marked_of items)
-marked_length slots order marked items marks is = sym (length-map marked (item_in slots)) ∙ ap length (marked_items slots order marked items marks is)
-
-pub marked_held : (slots : Slab Item) (order marked : List ℕ) → marked ≡ filter (is_marked slots) order → All (ContainsKey slots) order → All (ContainsKey slots) marked
-marked_held slots order marked marks held = subst (All (ContainsKey slots)) (sym marks) (All-filter (is_marked slots) (ContainsKey slots) order held)
 
 pub item_at_place : (slots : Slab Item) (order : List ℕ) (k d : ℕ) (e : Item) → k < length order → get_or (items_in slots order) k e ≡ item_in slots (get_or order k d)
 item_at_place slots order k d e l = get_or-map (item_in slots) order k d e l

@@ -7,7 +7,7 @@ use Rattle.std.specs.declared.cmp.Ordering.TheVariants.{Less, Equal, Greater}
 use Rattle.std.proofs.lemmas.Bool.{and_parts, both_ways, cases_Bool, cases_order, cond-true, cond-false, false_from_ne_true, not_from_true, not_from_false}
 use Rattle.std.proofs.lemmas.List.{length-take, length-drop, get_or-take, get_or-drop, get_or_default, take-append-drop}
 use Rattle.std.proofs.lemmas.List.Edits.{length-between, get_or-between, split_between}
-use Rattle.std.proofs.lemmas.List.Elements.{All-filter, All-nil, All-weaker, filter-append}
+use Rattle.std.proofs.lemmas.List.Elements.{All-append, All-filter, All-nil, All-weaker, filter-append}
 use Rattle.std.proofs.lemmas.List.Kept.{AllPairs-filter}
 use Rattle.op_base.specs.Object.{same_object}
 use Rattle.op_base.specs.Order.{item_cmp, object_cmp}
@@ -23,7 +23,7 @@ use Rattle.stable_state.specs.Picked.{ArePicked, is_place}
 use Rattle.stable_state.specs.Places.{IsGapFor, IsSpan}
 use Rattle.stable_state.specs.Shelf.{without_span}
 use Rattle.stable_state.specs.Slots.{no_item}
-use Rattle.stable_state.proofs.Cells.{IsAway, place_itself, same_place, cell-around, cell-within}
+use Rattle.stable_state.proofs.Cells.{IsAway, place_itself, same_place, cell-around, cell-none, cell-within}
 
 -- ---- parts of a list
 
@@ -182,6 +182,17 @@ only_place object value items rise i j d l m first second = elim (cases_order i 
     | inr lt ↦ never_less object value (get_or items j d) (get_or items i d) second first (rise j i d lt l)
   ])
 ]
+
+-- without a span that has the item of an object and a value, their cell has no mark and no sum
+pub cell_of_span : (object : ObjectId) (value : Option (List ℕ)) (items : List Item) (from to : ℕ) → Rise items → to ≤ length items → (i : ℕ) (item : Item) → from ≤ i → i < to
+    → get_or items i item ≡ item → is_at object value item ≡ true → cell_in (without_span from to items) object value ≡ zero_cell
+cell_of_span object value items from to rise within i item low high here at =
+    let Away : Item → Type 0 = IsAway object value in
+    let away : (k : ℕ) (d : Item) → k < length items → ((k ≡ i) → ⊥) → Away (get_or items k d) = λ k d l apart. false_from_ne_true (is_at object value (get_or items k d)) (λ t.
+    apart (only_place object value items rise k i d l (omega (arith, high)) t (subst (λ (x : Item). is_at object value x ≡ true) (sym (get_or_default items i d item (omega (arith, high)) ∙ here)) at))) in
+    cell-none object value (without_span from to items) (All-append Away (take from items) (drop to items)
+    (All-front Away items from (λ k d _ l. away k d (omega (arith, low, high)) (λ same. omega (arith, low))))
+    (All-back Away items to (λ k d l m. away k d m (λ same. omega (arith, high)))))
 
 -- ---- an object's items
 

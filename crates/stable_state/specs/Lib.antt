@@ -1,4 +1,5 @@
 pub mod Shelf
+pub mod Touched
 pub mod Slots
 pub mod Places
 pub mod Fields

@@ -6,8 +6,12 @@ use Rattle.op_base.specs.Order.{item_cmp}
 use Rattle.op_base.specs.declared.name.Kind.{Kind}
 use Rattle.op_base.specs.declared.name.Kind.TheVariants.{AwSet, RwSet}
 use Rattle.op_base.specs.declared.name.ObjectId.{ObjectId}
+use Rattle.op_base.specs.declared.operation.Op.{Op}
+use Rattle.op_base.specs.declared.operation.Op.TheVariants as op
+use Rattle.op_base.specs.declared.operation.Update.{Update}
 use Rattle.op_base.specs.declared.outcome.Cell.{Cell}
 use Rattle.op_base.specs.declared.outcome.Item.{Item}
+use Rattle.causal_model.specs.Acts.{value_of}
 use Rattle.causal_model.specs.Items.{is_filled}
 use Rattle.stable_state.specs.Places.{with_cell}
 use Rattle.stable_state.specs.Shelf.{without_span}
@@ -23,6 +27,11 @@ pub record ArePicked (passes : ObjectId → Option (List ℕ) → Bool) (items :
 -- whether an object and a value are those of a place
 abbrev pub is_place : ObjectId → Option (List ℕ) → ObjectId → Option (List ℕ) → Bool
 is_place object value other other_value = is_eq (item_cmp object value other other_value)
+
+-- whether an operation is of an object and a value
+abbrev pub names_place : Op → ObjectId → Option (List ℕ) → Bool
+names_place op.NoOp object value = false
+names_place (op.Update u) object value = is_place u.object (value_of u.act) object value
 
 -- items with another cell at a place, or without the item where that cell is none
 abbrev pub replaced : ℕ → Cell → List Item → List Item

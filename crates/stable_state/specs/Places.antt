@@ -1,5 +1,5 @@
 -- Places among items in their one order.
-use Rattle.std.specs.Prelude.{◌≡◌, ℕ, zero, suc, ◌≤◌, Bool, true, false, List, [], ◌∷◌, Option, length, not, filter}
+use Rattle.std.specs.Prelude.{◌≡◌, ℕ, zero, suc, ◌≤◌, Bool, true, false, List, [], ◌∷◌, Option, length, not}
 use Rattle.std.specs.List.{AllWithin}
 use Rattle.std.specs.List.Sorted.{IsPartitionPoint}
 use Rattle.std.specs.Ordering.{is_lt, is_gt}
@@ -18,10 +18,6 @@ is_before object value item = is_lt (item_cmp item.object item.value object valu
 -- whether an item is of an object, or of one before it
 abbrev pub is_up_to : ObjectId → Item → Bool
 is_up_to object item = not (is_gt (object_cmp item.object object))
-
--- the items with an off mark
-abbrev pub marked_of : List Item → List Item
-marked_of items = filter (λ item. item.cell.off) items
 
 -- items with another cell at a place
 abbrev pub with_cell : ℕ → Cell → List Item → List Item

@@ -1,15 +1,16 @@
 -- Items whose marks are settled, told whether an add of them is pending.
-use Rattle.std.specs.Prelude.{◌≡◌, ℕ, ◌<◌, Bool, true, false, not, ◌||◌, List, length, map, Option, HoldsAt, slice_get}
-use Rattle.std.specs.List.{AllWithin}
+use Rattle.std.specs.Prelude.{◌≡◌, ℕ, Bool, true, false, not, ◌&&◌, ◌||◌, ◌⊎◌, List, map, Option, HoldsAt, if◌then◌else◌}
 use Rattle.op_base.specs.declared.name.ObjectId.{ObjectId}
 use Rattle.op_base.specs.declared.name.Kind.{Kind}
 use Rattle.op_base.specs.declared.name.Kind.TheVariants.{RwSet, DwFlag}
 use Rattle.op_base.specs.declared.message.Entry.{Entry}
+use Rattle.op_base.specs.declared.outcome.Cell.{Cell}
 use Rattle.op_base.specs.declared.outcome.Item.{Item}
-use Rattle.causal_model.specs.CellSteps.{cell_settled, is_put_in, marks_settled}
-use Rattle.causal_model.specs.Items.{cell_in}
+use Rattle.causal_model.specs.CellSteps.{cell_settled, is_put_in}
+use Rattle.causal_model.specs.Items.{is_at, cell_in}
 use Rattle.causal_model.specs.Log.{message_of}
-use Rattle.stable_state.specs.Places.{marked_of}
+use Rattle.stable_state.specs.Shelf.{Shelved}
+use Rattle.stable_state.specs.Touched.{is_touched}
 
 -- whether an entry of a log puts in what an object's value says, or turns it on
 abbrev pub put_in_by : List Entry → ObjectId → Option (List ℕ) → Bool
@@ -21,30 +22,28 @@ remove_wins RwSet = true
 remove_wins DwFlag = true
 remove_wins kind = false
 
--- whether an item's off mark stays: a remove doesn't win in its kind, or an add is pending
+-- whether an item has an off mark, in a kind in which a remove wins
+abbrev pub can_lose_mark : Item → Bool
+can_lose_mark item = item.cell.off && remove_wins item.object.kind
+
+-- whether an item's marks stay: it can't lose its off mark, or an add is pending
 abbrev pub waits : (ObjectId → Option (List ℕ) → Bool) → Item → Bool
-waits pending item = not (remove_wins item.object.kind) || pending item.object item.value
+waits pending item = not (can_lose_mark item) || pending item.object item.value
 
--- an item's marks are settled
-abbrev pub IsSettled : (ObjectId → Option (List ℕ) → Bool) → Item → Type 0
-IsSettled pending item = cell_settled item.object.kind (pending item.object item.value) item.cell ≡ item.cell
+-- the cell of an object and a value with its marks settled
+abbrev pub settled_by : (ObjectId → Option (List ℕ) → Bool) → ObjectId → Option (List ℕ) → Cell → Cell
+settled_by pending object value cell = cell_settled object.kind (pending object value) cell
 
--- an item loses its off mark where its marks are settled
-abbrev pub IsLoose : (ObjectId → Option (List ℕ) → Bool) → Item → Type 0
-IsLoose pending item = cell_settled item.object.kind (pending item.object item.value) item.cell ≡ marks_settled false item.cell
+-- the cell of the item at a place has its marks settled, and each other cell is as it was
+abbrev pub IsSettledAt : (ObjectId → Option (List ℕ) → Bool) → ℕ → List Item → List Item → Type 0
+IsSettledAt pending place old new = HoldsAt (λ item. (object : ObjectId) (value : Option (List ℕ))
+    → cell_in new object value ≡ (if is_at object value item then settled_by pending object value (cell_in old object value) else cell_in old object value)) old place
 
--- the marked items from a number on are settled
-abbrev pub AreSettledFrom : ℕ → (ObjectId → Option (List ℕ) → Bool) → List Item → Type 0
-AreSettledFrom k pending items = AllWithin (IsSettled pending) (marked_of items) k (length (marked_of items))
-
--- each cell settles alike in both items
-abbrev pub SettleAlike : (ObjectId → Option (List ℕ) → Bool) → List Item → List Item → Type 0
-SettleAlike pending old new = (object : ObjectId) (value : Option (List ℕ))
-    → cell_settled object.kind (pending object value) (cell_in new object value)
-    ≡ cell_settled object.kind (pending object value) (cell_in old object value)
-
--- at a place stands the marked item of a number, which loses its off mark
-pub record IsLooseAt (pending : ObjectId → Option (List ℕ) → Bool) (items : List Item) (k place : ℕ) : Type 0 where
-  pub within : place < length items
-  pub marked : slice_get (marked_of items) k ≡ slice_get items place
-  pub loose : HoldsAt (IsLoose pending) items place
+-- Of what was touched, each cell that isn't so now has its marks settled. Each cell settles alike in both, and what wasn't
+-- touched is as it was.
+pub record AreSettled (pending : ObjectId → Option (List ℕ) → Bool) (old new : Shelved) : Type 0 where
+  pub alike : (object : ObjectId) (value : Option (List ℕ)) → settled_by pending object value (cell_in new.items object value) ≡ settled_by pending object value (cell_in old.items object value)
+  pub settled : (object : ObjectId) (value : Option (List ℕ)) → is_touched old.touched object value ≡ true
+      → (is_touched new.touched object value ≡ true) ⊎ (settled_by pending object value (cell_in new.items object value) ≡ cell_in new.items object value)
+  pub others : (object : ObjectId) (value : Option (List ℕ)) → is_touched old.touched object value ≡ false
+      → (is_touched new.touched object value ≡ false) × (cell_in new.items object value ≡ cell_in old.items object value)

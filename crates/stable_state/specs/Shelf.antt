@@ -1,10 +1,12 @@
--- Items in their one order, with how many more there is room for.
-use Rattle.std.specs.Prelude.{ℕ, List, ◌∷◌, ◌++◌, take, drop}
+-- Items in their one order, with those that were touched, and how many more there is room for.
+use Rattle.std.specs.Prelude.{ℕ, List, ◌∷◌, ◌++◌, Option, take, drop}
 use Rattle.op_base.specs.declared.outcome.Item.{Item}
 
--- items, lowest first, and how many more can be put among them without memory
+-- Items, lowest first. What was touched is an item, or nothing where that was let go, one entry each time and the last time
+-- last. So many more can be put among the items, or touched, without memory.
 pub record Shelved : Type 0 where
   pub items : List Item
+  pub touched : List (Option Item)
   pub spare : ℕ
 
 -- the items with one put at a place

@@ -1,5 +1,5 @@
 -- Items in slots, and lists of slots.
-use Rattle.std.specs.Prelude.{◌≡◌, ℕ, ◌≤◌, Bool, false, List, [], map, length, None, unwrap_or, pos, IsTrue, All, filter}
+use Rattle.std.specs.Prelude.{◌≡◌, ℕ, ◌≤◌, false, List, [], map, length, None, unwrap_or, pos, IsTrue, All}
 use Rattle.op_base.specs.declared.name.Kind.TheVariants.{AwSet}
 use Rattle.op_base.specs.declared.outcome.Item.{Item}
 use Rattle.causal_model.specs.Items.{is_filled, Rise}
@@ -17,15 +17,10 @@ item_in slots slot = unwrap_or (get slots slot) no_item
 abbrev pub items_in : Slab Item → List ℕ → List Item
 items_in slots = map (item_in slots)
 
--- whether the item in a slot has an off mark
-abbrev pub is_marked : Slab Item → ℕ → Bool
-is_marked slots slot = (item_in slots slot).cell.off
-
--- the order has each slot with an item, these are filled and rise, and the marked slots are those with an off mark
-pub record IsOrdered (slots : Slab Item) (order marked : List ℕ) : Type 0 where
+-- the order has each slot with an item, and these are filled and rise
+pub record IsOrdered (slots : Slab Item) (order : List ℕ) : Type 0 where
   pub held : All (λ slot. ContainsKey slots slot) order
   pub counted : slab_len slots ≡ length order
   pub fits : slab_len slots ≤ slots.capacity
   pub rise : Rise (items_in slots order)
   pub filled : All (λ item. IsTrue (is_filled item.cell)) (items_in slots order)
-  pub marks : marked ≡ filter (is_marked slots) order

@@ -3,23 +3,24 @@
 //! That a message first covers what is settled, and that stable entries of the log are then absorbed without their
 //! timestamps, is the idea of Baquero, Almeida and Shoker (arXiv 1710.04469); the cells are this project's own profile.
 
-ghost use Rattle.std.specs.Prelude.{◌≡◌, ℕ, ◌+◌, ◌^◌, ◌<◌, ◌≤◌, false, [], List, length, map, filter, if◌then◌else◌, Option, Some, None, IsTrue, IfOk, OnOk, IsOk, IfSome, HoldsAt, slice_get, option_copied};
+ghost use Rattle.std.specs.Prelude.{◌≡◌, ℕ, ◌+◌, ◌^◌, ◌<◌, ◌≤◌, true, false, [], List, length, map, filter, if◌then◌else◌, Option, Some, None, IsTrue, IfOk, OnOk, IsOk, IfSome, HoldsAt, slice_get, option_copied};
 ghost use Rattle.std.specs.List.{between, list_any};
 ghost use Rattle.op_base.specs.Object.{same_object};
 ghost use Rattle.op_base.specs.declared.message.Message.{Message};
 ghost use Rattle.op_base.specs.declared.name.ObjectId.{ObjectId};
 ghost use Rattle.op_base.specs.declared.operation.Op.TheVariants as op;
-ghost use Rattle.causal_model.specs.Acts.{acts_on};
+ghost use Rattle.causal_model.specs.Acts.{acts_on, value_of};
 ghost use Rattle.causal_model.specs.CellSteps.{covers_place, cell_uncovered, cell_with, cell_settled, puts_in, is_put_in};
 ghost use Rattle.causal_model.specs.Log.{log_of, stripped_of, message_of};
 ghost use Rattle.causal_model.specs.History.{History, no_history, with_message, is_history};
 ghost use Rattle.causal_model.specs.Items.{cell_in, is_filled, Rise, AreFilled};
 ghost use Rattle.stable_state.specs.Laws.{HasRange};
 ghost use Rattle.stable_state.specs.Picked.{ArePicked, is_set, is_place, replaced};
-ghost use Rattle.stable_state.specs.Places.{IsSpan, marked_of};
-ghost use Rattle.stable_state.specs.Settling.{put_in_by, remove_wins, waits, IsSettled, IsLooseAt, AreSettledFrom, SettleAlike};
+ghost use Rattle.stable_state.specs.Places.{IsSpan};
+ghost use Rattle.stable_state.specs.Settling.{put_in_by, remove_wins, can_lose_mark, waits, IsSettledAt, AreSettled};
 ghost use Rattle.stable_state.specs.Shelf.{put_at};
 ghost use Rattle.stable_state.specs.Standing.{AreSettledOf, AreAbsorbed, AreMoved};
+ghost use Rattle.stable_state.specs.Touched.{is_touched, IsMarkTouched, StayTouched, KeepTouched};
 
 use crate::cell::{NO_CELL, into_value, is_filled, puts_in, value_of, with_act, without_pending};
 use crate::shelf::Shelf;
@@ -42,7 +43,7 @@ impl Items {
 
     /// No items, and no room. It takes no memory.
     pub fn new(alloc: Global) -> Items
-        ensures none { shown result ≡ record { items = []; spare = 0 } }
+        ensures none { shown result ≡ record { items = []; touched = []; spare = 0 } }
         ensures settled { (n me : ℕ) → AreSettledOf (no_history n me) (shown result) }
     {
         Items {
@@ -55,6 +56,7 @@ impl Items {
         ensures room { OnOk result (k ≤ (shown self.new).spare) }
         ensures had_room { k ≤ (shown self.old).spare → IsOk result }
         ensures items { (shown self.new).items ≡ (shown self.old).items }
+        ensures touched { (shown self.new).touched ≡ (shown self.old).touched }
         ensures spare { (shown self.old).spare ≤ (shown self.new).spare }
     {
         self.shelf.reserve(k)
@@ -67,6 +69,7 @@ impl Items {
         // where the items were a history's settled ones, they are those without what a message covers
         ensures of { (h : History) (m : Message) → m.op ≡ op.Update update.now
             → AreSettledOf h (shown self.old) → AreAbsorbed h m 0 (shown self.new) }
+        ensures touched { StayTouched (shown self.old) (shown self.new) }
         ensures spare { (shown self.old).spare ≤ (shown self.new).spare }
     {
         let (from, to) = self.covered_span(update);
@@ -127,7 +130,8 @@ impl Items {
         Ok(copy)
     }
 
-    /// Absorbs an entry that goes from the log: its mark is set, or its amount added. It takes no memory.
+    /// Absorbs an entry that goes from the log: its mark is set, or its amount added. Where the cell has an off mark then, it
+    /// is touched. It takes no memory.
     pub fn absorb(&mut self, entry: Entry)
         requires spare { 1 ≤ (shown self.old).spare }
         requires range { HasRange (shown self.old) entry.update }
@@ -136,6 +140,8 @@ impl Items {
         // where it is the next of the entries that go from a history's log, the items have one entry more
         ensures of { (h : History) (m : Message) (k : ℕ) → slice_get (stripped_of h m) k ≡ Some (message_of entry)
             → AreAbsorbed h m k (shown self.old) → AreAbsorbed h m (k + 1) (shown self.new) }
+        ensures touched { StayTouched (shown self.old) (shown self.new) }
+        ensures marked { IsMarkTouched (shown self.new) entry.update.object (value_of entry.update.act) }
         ensures spare { (shown self.old).spare ≤ (shown self.new).spare + 1 }
     {
         self.change(entry.update);
@@ -151,6 +157,7 @@ impl Items {
         // where it is a message's and all entries are absorbed, the items are moved
         ensures of { (h : History) (m : Message) → m.op ≡ op.Update update
             → AreAbsorbed h m (length (stripped_of h m)) (shown self.old) → AreMoved h m (shown self.new) }
+        ensures touched { StayTouched (shown self.old) (shown self.new) }
         ensures spare { (shown self.old).spare ≤ (shown self.new).spare + 1 }
     {
         self.change(update);
@@ -162,6 +169,8 @@ impl Items {
         requires range { HasRange (shown self.old) update }
         ensures cells { (object : ObjectId) (value : Option (List ℕ)) → cell_in (shown self.new).items object value
             ≡ cell_with object value (cell_in (shown self.old).items object value) (op.Update update) }
+        ensures touched { StayTouched (shown self.old) (shown self.new) }
+        ensures marked { IsMarkTouched (shown self.new) update.object (value_of update.act) }
         ensures spare { (shown self.old).spare ≤ (shown self.new).spare + 1 }
     {
         let Update { object, act } = update;
@@ -191,6 +200,9 @@ impl Items {
         requires few { length (shown self.old).items < 2 ^ 64 }
         requires spare { IsTrue cell.off → 1 ≤ (shown self.old).spare }
         ensures items { (shown self.new).items ≡ replaced place cell (shown self.old).items }
+        ensures stay { StayTouched (shown self.old) (shown self.new) }
+        ensures marked { cell.off ≡ true → HoldsAt (λ item. is_touched (shown self.new).touched item.object item.value ≡ true) (shown self.old).items place }
+        ensures unmarked { cell.off ≡ false → KeepTouched (shown self.old) (shown self.new) }
         ensures spare { (shown self.old).spare ≤ (shown self.new).spare + 1 }
         ensures kept { cell.off ≡ false → (shown self.old).spare ≤ (shown self.new).spare }
     {
@@ -208,6 +220,8 @@ impl Items {
         requires rise { Rise (put_at place item (shown self.old).items) }
         ensures items { (shown self.new).items
             ≡ (if is_filled item.cell then put_at place item (shown self.old).items else (shown self.old).items) }
+        ensures stay { StayTouched (shown self.old) (shown self.new) }
+        ensures marked { item.cell.off ≡ true → is_touched (shown self.new).touched item.object item.value ≡ true }
         ensures spare { (shown self.old).spare ≤ (shown self.new).spare + 1 }
     {
         if is_filled(&item.cell) {
@@ -216,50 +230,52 @@ impl Items {
     }
 
     /// Settles the marks of the kinds in which a remove wins, by the log's entries: an off mark stays while an add is
-    /// pending, and otherwise goes with the on mark. It takes no memory, and looks at the marked items alone.
+    /// pending, and otherwise goes with the on mark. It takes no memory, and looks at what was touched alone: an off mark of
+    /// any other item was looked at before, and waits still.
     pub fn settle_marks(&mut self, entries: &[Entry])
         ensures cells { (object : ObjectId) (value : Option (List ℕ)) → cell_in (shown self.new).items object value
-            ≡ cell_settled object.kind (is_put_in (map message_of entries.now) object value)
-            (cell_in (shown self.old).items object value) }
+            ≡ (if is_touched (shown self.old).touched object value
+            then cell_settled object.kind (is_put_in (map message_of entries.now) object value)
+            (cell_in (shown self.old).items object value)
+            else cell_in (shown self.old).items object value) }
         // where the entries put in what a history's log does, the moved items are the settled ones of the history
         ensures of { (w : ℕ) (h : History) (m : Message) → IsTrue (is_history w (with_message h m))
             → ((object : ObjectId) (value : Option (List ℕ)) → is_put_in (map message_of entries.now) object value
             ≡ is_put_in (log_of (with_message h m)) object value)
             → AreMoved h m (shown self.old) → AreSettledOf (with_message h m) (shown self.new) }
+        ensures touched { (shown self.new).touched ≡ [] }
         ensures spare { (shown self.old).spare ≤ (shown self.new).spare }
     {
-        for k in (0..self.shelf.marked_len()).rev() {
-            self.settle_marked(k, entries);
+        for _left in (0..self.shelf.touched_len()).rev() {
+            self.settle_last(entries);
         }
     }
 
-    /// Settles the marks of one of the marked items. Those after it are settled.
-    fn settle_marked(&mut self, k: usize, entries: &[Entry])
-        requires within { k < length (marked_of (shown self.old).items) }
-        requires after { AreSettledFrom (k + 1) (put_in_by entries.now) (shown self.old).items }
-        ensures within { k ≤ length (marked_of (shown self.new).items) }
-        ensures after { AreSettledFrom k (put_in_by entries.now) (shown self.new).items }
-        ensures cells { SettleAlike (put_in_by entries.now) (shown self.old).items (shown self.new).items }
+    /// Settles the marks of the item that was touched last. It is touched no more by that.
+    fn settle_last(&mut self, entries: &[Entry])
+        requires some { 0 < length (shown self.old).touched }
+        ensures count { length (shown self.new).touched + 1 ≡ length (shown self.old).touched }
+        ensures settled { AreSettled (put_in_by entries.now) (shown self.old) (shown self.new) }
         ensures spare { (shown self.old).spare ≤ (shown self.new).spare }
     {
-        if let Some(place) = self.loose_place(k, entries) {
-            let cell = without_pending(self.shelf.at(place).cell);
+        if let Some(place) = self.shelf.take_touched() {
+            self.settle_at(place, entries);
+        }
+    }
+
+    /// Settles the marks of the item at a place.
+    fn settle_at(&mut self, place: usize, entries: &[Entry])
+        requires within { place < length (shown self.old).items }
+        requires few { length (shown self.old).items < 2 ^ 64 }
+        ensures cells { IsSettledAt (put_in_by entries.now) place (shown self.old).items (shown self.new).items }
+        ensures touched { KeepTouched (shown self.old) (shown self.new) }
+        ensures spare { (shown self.old).spare ≤ (shown self.new).spare }
+    {
+        let item = self.shelf.at(place);
+        if !does_wait(item, entries) {
+            let cell = without_pending(item.cell);
             self.replace(place, cell);
         }
-    }
-
-    /// The place of one of the marked items, where its off mark goes.
-    fn loose_place(&self, k: usize, entries: &[Entry]) -> Option<usize>
-        requires { k < length (marked_of (shown self.now).items) }
-        ensures stays { result ≡ None → HoldsAt (IsSettled (put_in_by entries.now)) (marked_of (shown self.now).items) k }
-        ensures few { IfSome result (λ _. length (shown self.now).items < 2 ^ 64) }
-        ensures goes { IfSome result (IsLooseAt (put_in_by entries.now) (shown self.now).items k) }
-    {
-        let item = self.shelf.marked_at(k);
-        if does_wait(item, entries) {
-            return None;
-        }
-        self.shelf.find(&item.object, item.value.as_ref()).ok()
     }
 }
 
@@ -316,11 +332,18 @@ fn remove_wins(kind: Kind) -> bool
     matches!(kind, Kind::RwSet | Kind::DwFlag)
 }
 
-/// Whether an item's off mark stays: a remove doesn't win in its kind, or an add is pending.
+/// Whether an item has an off mark, in a kind in which a remove wins.
+fn can_lose_mark(item: &Item) -> bool
+    ensures { result ≡ can_lose_mark item.now }
+{
+    item.cell.off && remove_wins(item.object.kind)
+}
+
+/// Whether an item's marks stay: it can't lose its off mark, or an add is pending.
 fn does_wait(item: &Item, entries: &[Entry]) -> bool
     ensures { result ≡ waits (put_in_by entries.now) item.now }
 {
-    !remove_wins(item.object.kind) || is_put_in(&item.object, item.value.as_ref(), entries)
+    !can_lose_mark(item) || is_put_in(&item.object, item.value.as_ref(), entries)
 }
 
 /// Whether an entry puts in what an object's value says, or turns the object on.

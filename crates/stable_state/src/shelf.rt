@@ -2,31 +2,34 @@
 //!
 //! An index in order over records that stay where they are is a textbook rule.
 
-ghost use Rattle.std.specs.Prelude.{◌≡◌, ◌≢◌, ℕ, ◌+◌, ◌-◌, ◌^◌, ◌<◌, ◌≤◌, true, false, [], length, take, insert, slice_get};
+ghost use Rattle.std.specs.Prelude.{◌≡◌, ◌≢◌, ◌⊎◌, ℕ, ◌+◌, ◌-◌, ◌^◌, ◌<◌, ◌≤◌, true, false, [], ◌∷◌, ◌++◌, length, take, insert, slice_get};
 ghost use Rattle.std.specs.Prelude.{Some, IsTrue, IfOk, OnOk, IfErr, IsOk, All, AllPairs, Contains, HoldsAt, option_copied};
 ghost use Rattle.std.specs.Prelude.{vec_len, vec_capacity};
 ghost use Rattle.std.specs.List.{remove_range};
 ghost use Rattle.causal_model.specs.Items.{is_at, is_filled, Rise};
 ghost use Rattle.op_base.specs.declared.outcome.Item.{Item};
 ghost use Rattle.slab.specs.Slab.{get, ContainsKey, slab_len, with_value};
-ghost use Rattle.stable_state.specs.Places.{is_before, is_up_to, marked_of, with_cell, RisesWithOneAt, IsGapFor, IsSpan, IsParted};
+ghost use Rattle.stable_state.specs.Places.{is_before, is_up_to, with_cell, RisesWithOneAt, IsGapFor, IsSpan, IsParted};
 ghost use Rattle.stable_state.specs.Shelf.{put_at, without_span};
 ghost use Rattle.stable_state.specs.Slots.{items_in};
+ghost use Rattle.stable_state.specs.Touched.{is_touched, StayTouched, KeepTouched, IsLast};
 
 use op_base::{Cell, Item, NoMemory, ObjectId, Value, item_order};
 use slab::Slab;
 use std::alloc::Global;
 use std::marker::Model;
 
-/// Settled items in their one order. Each stands in a slot that doesn't move, and lists of slots have the order.
-/// Contracts see the items, and how many more can be put among them without memory. `reserve` alone takes memory.
+/// Settled items in their one order. Each stands in a slot that doesn't move, and a list of slots has the order.
+/// Contracts see the items, which of them were touched, and how many more can be put among them without memory. `reserve`
+/// alone takes memory.
 #[derive(Drop)]
 pub struct Shelf {
     slots: Slab<Item>,
     // The slots of the items, lowest item first.
     order: Vec<usize>,
-    // The slots of the items whose cell has an off mark, in the same order.
-    marked: Vec<usize>,
+    // The slots whose cell was given with an off mark, one entry each time, since they were taken from this list. An item that
+    // is let go stays in it by its slot.
+    touched: Vec<usize>,
 }
 
 impl Model for Shelf {
@@ -44,12 +47,12 @@ impl Model for Shelf {
 impl Shelf {
     /// A shelf with no items and no room. It takes no memory.
     pub fn new(alloc: Global) -> Shelf
-        ensures { result ≡ record { items = []; spare = 0 } }
+        ensures { result ≡ record { items = []; touched = []; spare = 0 } }
     {
         Shelf {
             slots: Slab::new(alloc),
             order: Vec::new(alloc),
-            marked: Vec::new(alloc),
+            touched: Vec::new(alloc),
         }
     }
 
@@ -58,11 +61,12 @@ impl Shelf {
         ensures room { OnOk result (k ≤ self.new.spare) }
         ensures had_room { k ≤ self.old.spare → IsOk result }
         ensures items { self.new.items ≡ self.old.items }
+        ensures touched { self.new.touched ≡ self.old.touched }
         ensures spare { self.old.spare ≤ self.new.spare }
     {
         self.slots.reserve(k)?;
         self.order.reserve(k)?;
-        self.marked.reserve(k)?;
+        self.touched.reserve(k)?;
         Ok(())
     }
 
@@ -110,19 +114,20 @@ impl Shelf {
         )
     }
 
-    /// Puts an item at its place among the others. It takes no memory.
+    /// Puts an item at its place among the others. With an off mark it is touched. It takes no memory.
     pub fn insert(&mut self, place: usize, item: Item)
         requires spare { 1 ≤ self.old.spare }
         requires within { place ≤ length self.old.items }
         requires filled { IsTrue (is_filled item.cell) }
         requires rise { Rise (put_at place item self.old.items) }
         ensures items { self.new.items ≡ put_at place item self.old.items }
+        ensures stay { StayTouched self.old self.new }
+        ensures marked { item.cell.off ≡ true → is_touched self.new.touched item.object item.value ≡ true }
         ensures spare { self.old.spare ≤ self.new.spare + 1 }
     {
         let slot = self.slots.vacant_key();
         if item.cell.off {
-            let mark = self.marks_before(place);
-            put(&mut self.marked, mark, slot);
+            add(&mut self.touched, slot);
         }
         put(&mut self.order, place, slot);
         self.slots.insert_reserved(item);
@@ -134,6 +139,7 @@ impl Shelf {
         requires ordered { from ≤ to }
         requires within { to ≤ length self.old.items }
         ensures items { self.new.items ≡ without_span from to self.old.items }
+        ensures touched { KeepTouched self.old self.new }
         ensures spare { self.old.spare ≤ self.new.spare }
     {
         if from < to {
@@ -146,66 +152,60 @@ impl Shelf {
         requires ordered { from ≤ to }
         requires within { to ≤ length self.old.items }
         ensures items { self.new.items ≡ without_span from to self.old.items }
+        ensures touched { KeepTouched self.old self.new }
         ensures spare { self.old.spare ≤ self.new.spare }
     {
-        let first_mark = self.marks_before(from);
-        let last_mark = self.marks_before(to);
         empty_slots(&mut self.slots, &self.order[from..to]);
         cut(&mut self.order, from, to);
-        cut(&mut self.marked, first_mark, last_mark);
     }
 
-    /// Gives the item at a place another cell. It takes no memory.
+    /// Gives the item at a place another cell. With an off mark it is touched. It takes no memory.
     pub fn set_cell(&mut self, place: usize, cell: Cell)
         requires within { place < length self.old.items }
         requires filled { IsTrue (is_filled cell) }
         requires spare { IsTrue cell.off → 1 ≤ self.old.spare }
         ensures items { self.new.items ≡ with_cell place cell self.old.items }
+        ensures stay { StayTouched self.old self.new }
+        ensures marked { cell.off ≡ true → HoldsAt (λ item. is_touched self.new.touched item.object item.value ≡ true) self.old.items place }
+        ensures unmarked { cell.off ≡ false → KeepTouched self.old self.new }
         ensures spare { self.old.spare ≤ self.new.spare + 1 }
         ensures kept { cell.off ≡ false → self.old.spare ≤ self.new.spare }
     {
         let slot = self.order[place];
-        if self.slots[slot].cell.off != cell.off {
-            let mark = self.marks_before(place);
-            if cell.off {
-                put(&mut self.marked, mark, slot);
-            } else {
-                self.marked.remove(mark);
-            }
+        if cell.off {
+            add(&mut self.touched, slot);
         }
         write_cell(&mut self.slots, slot, cell);
     }
 
-    /// How many items have an off mark in their cell.
-    pub fn marked_len(&self) -> usize
-        ensures { result ≡ length (marked_of self.now.items) }
+    /// How many times an item was touched.
+    pub fn touched_len(&self) -> usize
+        ensures { result ≡ length self.now.touched }
     {
-        self.marked.len()
+        self.touched.len()
     }
 
-    /// One of the items with an off mark, counted from 0 in the order of items.
-    pub fn marked_at(&self, k: usize) -> &Item
-        requires { k < length (marked_of self.now.items) }
-        ensures { slice_get (marked_of self.now.items) k ≡ Some result.now }
+    /// Takes what was touched last from what is touched. It is the place of the item, where that is still there.
+    pub fn take_touched(&mut self) -> Option<usize>
+        requires { 0 < length self.old.touched }
+        ensures items { self.new.items ≡ self.old.items }
+        ensures few { length self.old.items < 2 ^ 64 }
+        ensures last { IsLast self.old self.new.touched result }
+        ensures spare { self.old.spare ≤ self.new.spare }
     {
-        &self.slots[self.marked[k]]
+        let place = self.last_touched();
+        let _slot = self.touched.pop();
+        place
     }
 
-    /// How many of the items before a place have an off mark.
-    fn marks_before(&self, place: usize) -> usize
-        requires { place ≤ length self.now.items }
-        ensures { result ≡ length (marked_of (take place self.now.items)) }
+    /// The place of the item that was touched last, where that is still there.
+    fn last_touched(&self) -> Option<usize>
+        requires { 0 < length self.now.touched }
+        ensures few { length self.now.items < 2 ^ 64 }
+        ensures last { IsLast self.now (take (length self.now.touched - 1) self.now.touched) result }
     {
-        if place == self.len() {
-            return self.marked_len();
-        }
-        let item = self.at(place);
-        place_of(
-            &self.slots,
-            self.marked.as_slice(),
-            &item.object,
-            item.value.as_ref(),
-        )
+        let item = self.slots.get(self.touched[self.touched.len() - 1])?;
+        self.find(&item.object, item.value.as_ref()).ok()
     }
 }
 
@@ -255,6 +255,18 @@ fn put(list: &mut Vec<usize>, place: usize, slot: usize)
     };
 }
 
+/// Adds a slot to a list that has room for it.
+fn add(list: &mut Vec<usize>, slot: usize)
+    requires { vec_len list.old < vec_capacity list.old }
+    ensures items { list.new.items ≡ list.old.items ++ slot ∷ [] }
+    ensures len { vec_len list.new ≡ vec_len list.old + 1 }
+    ensures capacity { vec_capacity list.old ≤ vec_capacity list.new }
+{
+    let Ok(()) = list.push(slot) else {
+        unreachable!()
+    };
+}
+
 /// Takes the slots out of a list that stand at places from the first up to, and not with, the second.
 fn cut(list: &mut Vec<usize>, from: usize, to: usize)
     requires ordered { from ≤ to }
@@ -270,7 +282,7 @@ fn cut(list: &mut Vec<usize>, from: usize, to: usize)
 fn empty_slots(slots: &mut Slab<Item>, gone: &[usize])
     requires held { All (ContainsKey slots.old) gone.now }
     requires apart { AllPairs (λ a b. a ≢ b) gone.now }
-    ensures others { (slot : ℕ) → (Contains gone.now slot → ⊥) → get slots.new slot ≡ get slots.old slot }
+    ensures each { (slot : ℕ) → (get slots.new slot ≡ get slots.old slot) ⊎ (Contains gone.now slot × (get slots.new slot ≡ None)) }
     ensures len { slab_len slots.new + length gone.now ≡ slab_len slots.old }
     ensures capacity { slots.new.capacity ≡ slots.old.capacity }
 {

@@ -157,7 +157,7 @@ fn cells_are_moved_as_their_kind_says(rt: HostRuntime) -> Result<(), Fail> {
     use Deed::{Add, Clear, Dec, Disable, Enable, Inc, Rmv, Write};
     use How::{Covers, Goes, Waits};
     let alloc = rt.alloc();
-    let cases: [(&[Step], &[Row]); 9] = [
+    let cases: [(&[Step], &[Row]); 10] = [
         (
             &[
                 (Goes, b"awset:a", Add(b"x")),
@@ -212,6 +212,18 @@ fn cells_are_moved_as_their_kind_says(rt: HostRuntime) -> Result<(), Fail> {
                 (Waits, b"rwset:b", Add(b"x")),
             ],
             &[(b"rwset:b", b"x", OFF)],
+        ),
+        (
+            // the remove waits while others pass it by, and goes when the add that it waits for is absorbed
+            &[
+                (Goes, b"rwset:a", Rmv(b"x")),
+                (Waits, b"rwset:a", Add(b"x")),
+                (Goes, b"rwset:b", Add(b"x")),
+                (Waits, b"rwset:a", Add(b"x")),
+                (Goes, b"rwset:a", Add(b"x")),
+                (Waits, b"rwset:b", Rmv(b"x")),
+            ],
+            &[(b"rwset:b", b"x", ON)],
         ),
         (
             &[

@@ -22,5 +22,5 @@ returns-clause-cells c = λ object value.
 
 pub returns-clause-of : goal.returns-clause-of
 returns-clause-of c = λ h m is of.
-    covered_is_absorbed h m c.args.self.now.shelf.items c.remove_span.new.self.items of (λ object value.
+    covered_is_absorbed h m c.args.self.now.shelf c.remove_span.new.self of (λ object value.
     returns-clause-cells c object value ∙ ap (λ o. cell_uncovered object value o (cell_in c.args.self.now.shelf.items object value)) (sym is))
