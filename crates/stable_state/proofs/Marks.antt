@@ -1,6 +1,5 @@
 -- Off marks: which items wait, and what each cell is when what was touched is settled.
 use Rattle.std.proofs.Common.{◌≡◌, ℕ, ◌<◌, ◌&&◌, Bool, true, false, not, ◌||◌, List, [], length, get_or, refl, sym, ap, subst, ◌∙◌, inl, inr, Option, Some, None, if◌then◌else◌}
-use Rattle.std.specs.List.{HoldsAt}
 use Rattle.std.proofs.lemmas.Bool.{both_ways, cases_Bool, cond-true, cond-false, cond_both, and_parts, and_right, false_from_ne_true, false≢true, not-false, or_cases, or_left, or_right, or_parts}
 use Rattle.std.proofs.lemmas.List.{get_or_default}
 use Rattle.op_base.specs.declared.name.Kind.{Kind}

@@ -1,6 +1,6 @@
 -- Slots in order while an item is put in, some are let go, or one gets another cell.
-use Rattle.std.proofs.Common.{◌≡◌, ◌≢◌, ◌⊎◌, ℕ, zero, suc, ◌+◌, ◌<◌, ◌≤◌, true, false, All, Contains, List, [], ◌∷◌, ◌++◌, length, take, drop, get_or, set, cond, refl, sym, ap, subst, ◌∙◌, inl, inr, length-drop, length-append, length-take-le, drop-cons, arith}
-use Rattle.std.specs.Prelude.{Option, Some, None, unwrap_or, is_some, IsTrue, slice_range}
+use Rattle.std.proofs.Common.{◌≡◌, ◌≢◌, ◌⊎◌, ℕ, zero, suc, ◌+◌, ◌<◌, ◌≤◌, All, Contains, List, [], ◌∷◌, ◌++◌, length, take, drop, get_or, set, cond, refl, sym, ap, subst, ◌∙◌, inl, inr, length-drop, length-append, length-take-le, drop-cons, arith}
+use Rattle.std.specs.Prelude.{Option, Some, None, is_some, IsTrue, slice_range}
 use Rattle.std.specs.List.{insert, remove_range}
 use Rattle.std.proofs.lemmas.Bool.{both_ways, cases_eq, cases_lt}
 use Rattle.std.proofs.lemmas.List.{length-map, get_or_default, get_or-take, get_or-drop, take-map, drop-map, map-append, set_split, length-set, take-append-drop, get_or-set_same, get_or-set_other, get_or_past}

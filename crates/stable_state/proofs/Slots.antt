@@ -1,5 +1,5 @@
 -- The items in slots while one slot changes, or some.
-use Rattle.std.proofs.Common.{◌≡◌, ◌≢◌, ℕ, ◌<◌, All, AllPairs, List, [], ◌∷◌, ◌++◌, map, length, take, drop, get_or, refl, sym, ap, subst, ◌∙◌, arith}
+use Rattle.std.proofs.Common.{◌≡◌, ◌≢◌, ℕ, ◌<◌, All, AllPairs, List, [], ◌∷◌, ◌++◌, map, length, take, drop, get_or, refl, sym, ap, ◌∙◌, arith}
 use Rattle.std.specs.Prelude.{Option, Some, None, unwrap_or, is_some, IsSome}
 use Rattle.std.specs.List.{insert, remove_range}
 use Rattle.std.proofs.lemmas.List.{length-map, get_or-map, take-map, drop-map, map-append}

@@ -1,18 +1,18 @@
 -- What stands in touched slots, while slots change; and what was touched last.
-use Rattle.std.proofs.Common.{◌≡◌, ◌⊎◌, ℕ, ◌+◌, ◌-◌, ◌<◌, ◌≤◌, Bool, true, false, Contains, List, [], ◌∷◌, ◌++◌, ◌||◌, map, length, take, get_or, refl, sym, ap, subst, ◌∙◌, inl, inr, Option, Some, None, Result, Ok, Err, length-append, arith}
+use Rattle.std.proofs.Common.{◌≡◌, ◌⊎◌, ℕ, ◌+◌, ◌-◌, ◌<◌, ◌≤◌, true, false, Contains, List, [], ◌∷◌, ◌++◌, ◌||◌, map, length, take, get_or, refl, sym, ap, subst, ◌∙◌, inl, inr, Option, Some, None, Result, Ok, Err, length-append, arith}
 use Rattle.std.specs.Prelude.{slice_range}
 use Rattle.std.specs.List.{HoldsAt, list_any}
 use Rattle.std.specs.Option.{IfSome}
 use Rattle.std.specs.Result.{IfOk, IfErr, result_ok}
-use Rattle.std.proofs.lemmas.Bool.{both_ways, false≢true, or_cases, or_left, or_right}
-use Rattle.std.proofs.lemmas.List.{get_or_default, length-map, take_all, take_more}
+use Rattle.std.proofs.lemmas.Bool.{false≢true, or_cases, or_left, or_right}
+use Rattle.std.proofs.lemmas.List.{length-map, take_all, take_more}
 use Rattle.std.proofs.lemmas.List.Edits.{length-between, get_or-between}
-use Rattle.std.proofs.lemmas.List.Elements.{Contains-push, Contains-append_left}
+use Rattle.std.proofs.lemmas.List.Elements.{Contains-push}
 use Rattle.std.proofs.lemmas.List.Folds.{list_any-append}
 use Rattle.op_base.specs.declared.name.ObjectId.{ObjectId}
 use Rattle.op_base.specs.declared.outcome.Cell.{Cell}
 use Rattle.op_base.specs.declared.outcome.Item.{Item}
-use Rattle.causal_model.specs.Items.{zero_cell, is_at, cell_in}
+use Rattle.causal_model.specs.Items.{is_at, cell_in}
 use Rattle.causal_model.proofs.Elements.{item_from_list_any, list_any-from_item, list_any-map}
 use Rattle.slab.specs.Slab.{Slab, get, Updates}
 use Rattle.stable_state.specs.Places.{IsGapFor}

@@ -1,6 +1,6 @@
 -- An off mark that waits for an add goes on waiting, unless what goes from the log is of its place.
-use Rattle.std.proofs.Common.{◌≡◌, ℕ, Bool, true, false, not, ◌&&◌, ◌||◌, Contains, IsTrue, List, [], ◌∷◌, refl, sym, ap, subst, ◌∙◌, inl, inr, Option, Some, None, if◌then◌else◌}
-use Rattle.std.specs.Prelude.{take, fold, length}
+use Rattle.std.proofs.Common.{◌≡◌, ℕ, Bool, true, false, not, ◌&&◌, ◌||◌, Contains, IsTrue, List, [], ◌∷◌, refl, sym, ap, ◌∙◌, inl, inr, Option, Some, None}
+use Rattle.std.specs.Prelude.{fold}
 use Rattle.std.specs.Cmp.Lexicographic.{bytes_decides, texts_ties}
 use Rattle.std.specs.List.{list_any}
 use Rattle.std.specs.Option.{option_cmp}
@@ -19,7 +19,6 @@ use Rattle.op_base.specs.declared.operation.Act.{Act}
 use Rattle.op_base.specs.declared.operation.Act.TheVariants.{Add, Enable}
 use Rattle.op_base.specs.declared.operation.Op.{Op}
 use Rattle.op_base.specs.declared.operation.Op.TheVariants as op
-use Rattle.op_base.specs.declared.operation.Update.{Update}
 use Rattle.op_base.specs.declared.outcome.Cell.{Cell}
 use Rattle.causal_model.specs.Acts.{acts_on, is_clear, value_of, same_value}
 use Rattle.causal_model.specs.CellSteps.{is_counter, covers_value, covers_place, cell_uncovered, cell_with, cell_applied, cell_moved, cell_settled, marks_settled, puts_in, is_put_in, with_act}

@@ -157,7 +157,7 @@ fn cells_are_moved_as_their_kind_says(rt: HostRuntime) -> Result<(), Fail> {
     use Deed::{Add, Clear, Dec, Disable, Enable, Inc, Rmv, Write};
     use How::{Covers, Goes, Waits};
     let alloc = rt.alloc();
-    let cases: [(&[Step], &[Row]); 10] = [
+    let cases: [(&[Step], &[Row]); 9] = [
         (
             &[
                 (Goes, b"awset:a", Add(b"x")),
@@ -214,18 +214,6 @@ fn cells_are_moved_as_their_kind_says(rt: HostRuntime) -> Result<(), Fail> {
             &[(b"rwset:b", b"x", OFF)],
         ),
         (
-            // the remove waits while others pass it by, and goes when the add that it waits for is absorbed
-            &[
-                (Goes, b"rwset:a", Rmv(b"x")),
-                (Waits, b"rwset:a", Add(b"x")),
-                (Goes, b"rwset:b", Add(b"x")),
-                (Waits, b"rwset:a", Add(b"x")),
-                (Goes, b"rwset:a", Add(b"x")),
-                (Waits, b"rwset:b", Rmv(b"x")),
-            ],
-            &[(b"rwset:b", b"x", ON)],
-        ),
-        (
             &[
                 (Goes, b"ewflag:a", Enable),
                 (Goes, b"ewflag:b", Enable),
@@ -271,6 +259,30 @@ fn cells_are_moved_as_their_kind_says(rt: HostRuntime) -> Result<(), Fail> {
         }
         assert!(rt; has_all(alloc, &items, rows)?, "case {number}");
     }
+    Ok(())
+}
+
+#[test]
+fn a_remove_waits_while_others_pass_it_by(rt: HostRuntime) -> Result<(), Fail> {
+    use Deed::{Add, Rmv};
+    use How::{Goes, Waits};
+    let alloc = rt.alloc();
+    let mut items = Items::new(alloc);
+    let pass_by: [Step; 4] = [
+        (Goes, b"rwset:a", Rmv(b"x")),
+        (Waits, b"rwset:a", Add(b"x")),
+        (Goes, b"rwset:b", Add(b"x")),
+        (Waits, b"rwset:a", Add(b"x")),
+    ];
+    for step in pass_by {
+        assert!(rt; take(alloc, &mut items, step)?);
+    }
+    let waits: [Row; 2] = [(b"rwset:a", b"x", OFF), (b"rwset:b", b"x", ON)];
+    assert!(rt; has_all(alloc, &items, &waits)?);
+    // the add that it waits for goes from the log
+    assert!(rt; take(alloc, &mut items, (Goes, b"rwset:a", Add(b"x")))?);
+    assert!(rt; take(alloc, &mut items, (Waits, b"rwset:b", Rmv(b"x")))?);
+    assert!(rt; has_all(alloc, &items, &waits[1..])?);
     Ok(())
 }
 

@@ -1,7 +1,7 @@
-use Rattle.std.proofs.Common.{ap, sym, subst, ◌∙◌}
+use Rattle.std.proofs.Common.{ap, sym, ◌∙◌}
 use Rattle.std.proofs.lemmas.Option.{get_or_from_slice_get}
 use Rattle.causal_model.specs.Items.{cell_in}
-use Rattle.stable_state.specs.Settling.{put_in_by, IsSettledAt}
+use Rattle.stable_state.specs.Settling.{put_in_by}
 use Rattle.stable_state.proofs.Changes.{cell_replaced}
 use Rattle.stable_state.proofs.Marks.{other_is_loose, settled_there, settled_already}
 use Rattle.stable_state.proofs.items.Items.settle_at.Goals as goal

@@ -1,6 +1,5 @@
 use Rattle.std.proofs.Common.{◌≡◌, ◌-◌, true, None, Some, length, get_or, ap, sym, subst, ◌∙◌, arith}
 use Rattle.std.specs.List.{HoldsAt}
-use Rattle.std.specs.Option.{option_copied}
 use Rattle.std.specs.Result.{IfOk, IfErr}
 use Rattle.std.proofs.lemmas.List.{get_or-map, length-map}
 use Rattle.causal_model.specs.Items.{is_at}
