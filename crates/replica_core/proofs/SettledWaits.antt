@@ -56,7 +56,7 @@ module _ {w limit : ℕ} {h : History} {m : Message} {k : ℕ} {old : Log} {item
     next_has_range =
         let object = e.update.object in
         let value = value_of e.update.act in
-        sum_fits items.items e.update (cell_absorbed h m k object value) (waits.are_absorbed object value)
+        sum_fits items.items e.update (cell_absorbed h m k object value) (waits.are_absorbed.cells object value)
         (cell_absorbed h m (k + 1) object value) (absorbed_more h m object value k (message_of e) handed_entry.0)
         ((moved_sums_are_bounded w limit h m object value waits.of_history waits.of_limit waits.few).0 (k + 1))
 

@@ -31,8 +31,8 @@ use Rattle.polog.specs.Value.{Log, with_entries, with_entry, stays}
 use Rattle.polog.proofs.Standing.{logged-is, has-room}
 use Rattle.stable_state.specs.Laws.{HasRange}
 use Rattle.stable_state.specs.Shelf.{Shelved}
-use Rattle.stable_state.specs.Standing.{AreSettledOf, AreAbsorbed}
-use Rattle.stable_state.proofs.Moves.{covered_is_absorbed, moved_at_once, sum_fits}
+use Rattle.stable_state.specs.Standing.{AreSettledOf, AreAbsorbed, AreMoved}
+use Rattle.stable_state.proofs.Moves.{covered_is_absorbed, all_are_moved, not_applied, moved_at_once, sum_fits}
 use Rattle.replica_core.specs.Settling.{AreReady, AreLogged, with_logged, applied_of, room_of, CanBeApplied}
 use Rattle.replica_core.proofs.Steps.{last_fits}
 
@@ -45,7 +45,7 @@ is_noop (op.Update u) other = absurd (other u refl)
 
 -- a no-op covers nothing
 pub noop_covers_nothing : (h : History) (m : Message) (items : Shelved) → m.op ≡ op.NoOp → AreSettledOf h items → AreAbsorbed h m 0 items
-noop_covers_nothing h m items is of = covered_is_absorbed h m items.items items.items of (λ object value. sym (ap (λ o. cell_uncovered object value o (cell_in items.items object value)) is))
+noop_covers_nothing h m items is of = covered_is_absorbed h m items items of (λ object value. sym (ap (λ o. cell_uncovered object value o (cell_in items.items object value)) is))
 
 -- what is counted alone is a counter
 is_counter-true : (kind : Kind) → is_counter kind ≡ true → kind ≡ Counter
@@ -68,6 +68,18 @@ can_be_applied (op.Update u) items range = by (is_counter u.object.kind) refl wh
   by : (counter : Bool) → is_counter u.object.kind ≡ counter → room_of (if counter then Some u else None) ≤ items.spare → CanBeApplied (if counter then Some u else None) items
   by true counts room = let kind = is_counter-true u.object.kind counts in (kind, room, range u refl kind)
   by false counts room = tt
+
+-- what is applied is the update
+pub is_applied : (o : Op) (u : Update) → applied_of o ≡ Some u → o ≡ op.Update u
+is_applied op.NoOp u is = cc
+is_applied (op.Update v) u is = by (is_counter v.object.kind) is where
+  by : (counter : Bool) → (if counter then Some v else None) ≡ Some u → op.Update v ≡ op.Update u
+  by true same = ap op.Update (let one : v ≡ u = cc in one)
+  by false same = cc
+
+-- and where none is, all are moved once they are absorbed
+pub none_is_applied : (h : History) (m : Message) (items : Shelved) → ((u : Update) → applied_of m.op ≡ Some u → ⊥) → AreAbsorbed h m (length (stripped_of h m)) items → AreMoved h m items
+none_is_applied h m items none of = all_are_moved h m items of (not_applied m.op (λ u is kind. none u (ap applied_of is ∙ cond-true (is_counter u.object.kind) (Some u) None (ap is_counter kind))))
 
 -- ---- how many entries there are
 
@@ -185,5 +197,5 @@ module _ {w limit : ℕ} {h : History} {log : Log} {items : Shelved} {m : Messag
   applied_has_range u absorbed is kind of =
       let object = u.object in
       let value = value_of u.act in
-      sum_fits absorbed.items u (cell_absorbed h m (length (stripped_of h m)) object value) (of object value) (cell_moved h m object value) (moved_at_once h m object value u is kind)
+      sum_fits absorbed.items u (cell_absorbed h m (length (stripped_of h m)) object value) (of.cells object value) (cell_moved h m object value) (moved_at_once h m object value u is kind)
       (moved_sums_are_bounded w limit h m object value ready.of_history ready.of_limit ready.few).1
