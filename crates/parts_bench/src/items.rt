@@ -32,7 +32,7 @@ enum Step {
     Make,
     /// A number is covered, and put in again.
     Cover,
-    /// The marks are settled, where the log is full.
+    /// Some numbers are marked as removed again, and the marks settled, where the log is full.
     Marks,
     /// A number's cell is looked up.
     Cell,
@@ -121,7 +121,10 @@ impl Settled {
                 self.items.cover(&remove(self.alloc, SET, number)?);
                 self.put(add(self.alloc, SET, number)?)?;
             }
-            Step::Marks => self.items.settle_marks(entries),
+            Step::Marks => {
+                self.mark()?;
+                self.items.settle_marks(entries);
+            }
             Step::Cell => {
                 let value = value(self.alloc, number)?;
                 return Ok(self.items.cell(&set(self.alloc, SET)?, Some(&value)).on);
