@@ -1,4 +1,6 @@
 pub mod Slots
+pub mod Ends
+pub mod Parting
 pub mod Places
 pub mod Ordered
 pub mod Cells

@@ -3,6 +3,8 @@ pub mod Touched
 pub mod Slots
 pub mod Places
 pub mod Fields
+pub mod Chunks
+pub mod ChunkFields
 pub mod Standing
 pub mod Picked
 pub mod Settling

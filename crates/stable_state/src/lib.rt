@@ -5,6 +5,7 @@
 #![tactic(auto)]
 
 mod cell;
+mod chunks;
 mod items;
 mod laws;
 mod shelf;

@@ -1,0 +1,112 @@
+-- A test that parts lists one behind the other.
+use Rattle.std.proofs.Common.{◌≡◌, ℕ, zero, suc, ◌+◌, ◌-◌, ◌<◌, ◌≤◌, Bool, true, false, List, [], ◌∷◌, ◌++◌, length, get_or, take, All, refl, ap, sym, ◌∙◌, inl, inr, arith, length-append}
+use Rattle.std.specs.Prelude.{Some, slice_get, Vec}
+use Rattle.std.specs.List.{concat, AllWithin}
+use Rattle.std.specs.declared.alloc.Global.{Global}
+use Rattle.std.specs.List.Sorted.{IsPartitionPoint, IsPartitionedBy}
+use Rattle.std.proofs.lemmas.Bool.{cases_lt, both_ways, false_from_ne_true}
+use Rattle.std.proofs.lemmas.List.{get_or_append_left, get_or-append-add, take_all, get_or-map, length-map}
+use Rattle.stable_state.specs.Chunks.{first_passes}
+use Rattle.stable_state.specs.ChunkFields.{parts_of}
+use Rattle.stable_state.proofs.Ends.{start_le, start_more, starts_rise}
+
+-- the slots of a chunk stand side by side
+pub slot_at : (parts : List (List ℕ)) (k j d : ℕ) → k < length parts → j < length (get_or parts k []) → get_or (concat parts) (length (concat (take k parts)) + j) d ≡ get_or (get_or parts k []) j d
+slot_at [] k j d l within = absurd (omega (arith, l))
+slot_at (part ∷ parts) zero j d l within = ap (λ n. get_or (part ++ concat parts) n d) (none j) ∙ get_or_append_left part (concat parts) d j within where
+  none : (j : ℕ) → 0 + j ≡ j
+  none j = omega arith
+slot_at (part ∷ parts) (suc k) j d l within =
+    let sum : length (part ++ concat (take k parts)) + j ≡ length part + (length (concat (take k parts)) + j) = omega (arith, length-append part (concat (take k parts))) in
+    ap (λ n. get_or (part ++ concat parts) n d) sum ∙ get_or-append-add part (concat parts) (length (concat (take k parts)) + j) d ∙ slot_at parts k j d (omega (arith, l)) within
+
+first_at : (p : ℕ → Bool) (part : List ℕ) (d : ℕ) → 0 < length part → first_passes p part ≡ p (get_or part 0 d)
+first_at p [] d some = absurd (omega (arith, some))
+first_at p (slot ∷ part) d some = refl
+
+-- what the first slot that is read tells
+pub first_of : (p : ℕ → Bool) (part : List ℕ) (slot : ℕ) → Some slot ≡ slice_get part 0 → p slot ≡ first_passes p part
+first_of p [] slot is = cc
+first_of p (first ∷ part) slot is = cc
+
+some_parts : (parts : List (List ℕ)) → 0 < length (concat parts) → 0 < length parts
+some_parts [] some = some
+some_parts (part ∷ parts) some = omega arith
+
+module _ (p : ℕ → Bool) (parts : List (List ℕ)) (some : All (λ part. 0 < length part) parts) where
+  -- the first slot of a chunk, among all
+  pub first_is : (k d : ℕ) → k < length parts → first_passes p (get_or parts k []) ≡ p (get_or (concat parts) (length (concat (take k parts))) d)
+  first_is k d l =
+      let start = length (concat (take k parts)) in
+      let at : get_or (concat parts) (start + 0) d ≡ get_or (get_or parts k []) 0 d = slot_at parts k 0 d l (some k [] l) in
+      let same : start + 0 ≡ start = omega arith in
+      first_at p (get_or parts k []) d (some k [] l) ∙ ap p (sym at ∙ ap (λ n. get_or (concat parts) n d) same)
+
+  -- a chunk begins within the slots
+  pub start_within : (k : ℕ) → k < length parts → length (concat (take k parts)) < length (concat parts)
+  start_within k l = omega (arith, start_more parts k l, start_le parts (suc k), some k [] l)
+
+  pub firsts_parted : IsPartitionedBy p (concat parts) → (i j : ℕ) → i ≤ j → j < length parts → first_passes p (get_or parts j []) ≡ true → first_passes p (get_or parts i []) ≡ true
+  firsts_parted parted i j le l passes =
+      first_is i 0 (omega (arith, le, l)) ∙ parted (length (concat (take i parts))) (length (concat (take j parts))) 0 (starts_rise parts i j le) (start_within j l) (sym (first_is j 0 l) ∙ passes)
+
+  -- where no first slot passes, none does
+  pub none_passes : IsPartitionedBy p (concat parts) → ((k : ℕ) → k < length parts → first_passes p (get_or parts k []) ≡ false)
+      → IsPartitionPoint (λ slot. p slot ≡ true) (λ slot. p slot ≡ false) (concat parts) 0
+  none_passes parted fail = (
+    λ k d from less. absurd (omega (arith, less)),
+    λ k d from less.
+        let first = some_parts parts (omega (arith, less)) in
+        false_from_ne_true (p (get_or (concat parts) k d)) (λ t. both_ways (first_passes p (get_or parts 0 [])) (fail 0 first) (first_is 0 d first ∙ parted 0 k d (omega arith) less t)),
+  )
+
+  -- where the last chunk whose first slot passes is parted, all slots are
+  pub point_is : (q r : ℕ) → IsPartitionedBy p (concat parts) → q < length parts → first_passes p (get_or parts q []) ≡ true
+      → ((k : ℕ) → q < k → k < length parts → first_passes p (get_or parts k []) ≡ false)
+      → r ≤ length (get_or parts q []) → IsPartitionPoint (λ slot. p slot ≡ true) (λ slot. p slot ≡ false) (get_or parts q []) r
+      → IsPartitionPoint (λ slot. p slot ≡ true) (λ slot. p slot ≡ false) (concat parts) (length (concat (take q parts)) + r)
+  point_is q r parted l passes fail le point =
+      let start = length (concat (take q parts)) in
+      let part = get_or parts q [] in
+      let at : (k d : ℕ) → start ≤ k → k < start + length part → get_or (concat parts) k d ≡ get_or part (k - start) d = λ k d from less.
+      let sum : k ≡ start + (k - start) = omega (arith, from) in
+      ap (λ n. get_or (concat parts) n d) sum ∙ slot_at parts q (k - start) d l (omega (arith, from, less)) in (
+        λ k d from less. elim (cases_lt k start) [
+          | inl before ↦ parted k start d (omega (arith, before)) (start_within q l) (sym (first_is q d l) ∙ passes)
+          | inr inside ↦ ap p (at k d inside (omega (arith, less, le))) ∙ point.0 (k - start) d (omega arith) (omega (arith, inside, less))
+        ],
+        λ k d from less. elim (cases_lt k (start + length part)) [
+          | inl inside ↦ ap p (at k d (omega (arith, from)) inside) ∙ point.1 (k - start) d (omega (arith, from)) (omega (arith, from, inside))
+          | inr behind ↦
+              let next : length (concat (take (suc q) parts)) ≤ k = omega (arith, behind, start_more parts q l) in
+              let more : suc q < length parts = elim (cases_lt (suc q) (length parts)) [
+                | inl fewer ↦ fewer
+                | inr past ↦ absurd (omega (arith, less, next, ap (λ ps. length (concat ps)) (take_all (suc q) parts past)))
+              ] in
+              false_from_ne_true (p (get_or (concat parts) k d)) (λ t. both_ways (first_passes p (get_or parts (suc q) [])) (fail (suc q) (omega arith) more)
+              (first_is (suc q) d more ∙ parted (length (concat (take (suc q) parts))) k d next less t))
+        ],
+      )
+
+  -- a chunk of parted slots is parted
+  pub part_parted : (q : ℕ) → q < length parts → IsPartitionedBy p (concat parts) → IsPartitionedBy p (get_or parts q [])
+  part_parted q l parted i j d le within t =
+      let start = length (concat (take q parts)) in
+      let inside : start + j < length (concat parts) = omega (arith, within, start_more parts q l, start_le parts (suc q)) in
+      ap p (sym (slot_at parts q i d l (omega (arith, le, within)))) ∙ parted (start + i) (start + j) d (omega (arith, le)) inside (ap p (slot_at parts q j d l within) ∙ t)
+
+-- ---- the same of chunks
+
+-- what is known of the first slots of some chunks
+pub firsts_of : (answer : Bool) (p : ℕ → Bool) (lists : List (Vec ℕ Global)) (low high : ℕ) → AllWithin (λ list. first_passes p list.items ≡ answer) lists low high
+    → (k : ℕ) → low ≤ k → k < high → k < length lists → first_passes p (get_or (parts_of lists) k []) ≡ answer
+firsts_of answer p [] low high all k from less l = absurd (omega (arith, l))
+firsts_of answer p (list ∷ lists) low high all k from less l =
+    ap (first_passes p) (get_or-map (λ v. v.items) (list ∷ lists) k list [] l) ∙ all k list from less
+
+pub lists_parted : (p : ℕ → Bool) (lists : List (Vec ℕ Global)) → All (λ part. 0 < length part) (parts_of lists) → IsPartitionedBy p (concat (parts_of lists))
+    → IsPartitionedBy (λ list. first_passes p list.items) lists
+lists_parted p lists some parted i j d le l t =
+    let within : j < length (parts_of lists) = omega (arith, l, length-map lists (λ v. v.items)) in
+    let at : (k : ℕ) → k < length lists → first_passes p (get_or (parts_of lists) k []) ≡ first_passes p (get_or lists k d).items = λ k less. ap (first_passes p) (get_or-map (λ v. v.items) lists k d [] less) in
+    sym (at i (omega (arith, le, l))) ∙ firsts_parted p (parts_of lists) some parted i j le within (at j l ∙ t)

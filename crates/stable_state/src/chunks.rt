@@ -1,0 +1,308 @@
+//! Slots in chunks of bounded length, with the place at which each chunk ends.
+
+ghost use Rattle.std.specs.Prelude.{◌≡◌, ℕ, ◌+◌, ◌-◌, ◌*◌, ◌^◌, ◌<◌, ◌≤◌, [], ◌∷◌, ◌++◌, length, take, drop, map, slice_set, slice_index, slice_index_or, Bool, true, false, OnOk, OnErr, All, vec_len, vec_capacity};
+ghost use Rattle.std.specs.List.{concat, insert, remove, remove_range};
+ghost use Rattle.std.specs.List.Sorted.{IsPartitionPoint, IsPartitionedBy};
+ghost use Rattle.std.specs.Fn.{ComputesKey};
+ghost use Rattle.stable_state.specs.Chunks.{first_passes};
+
+use op_base::NoMemory;
+use std::alloc::Global;
+use std::marker::Model;
+
+/// How many slots a chunk has room for.
+pub const CHUNK: usize = 512;
+
+/// How many slots are in each half of a chunk that is parted.
+pub const HALF: usize = 256;
+
+/// More chunks than there is memory for.
+const MOST: usize = 1 << 40;
+
+/// Chunks of slots, each with room for `CHUNK`, and empty ones that are free. `add` alone takes memory.
+#[derive(Drop)]
+pub struct Chunks {
+    alloc: Global,
+    // The chunks in use.
+    lists: Vec<Vec<usize>>,
+    // The place at which each of them ends.
+    ends: Vec<usize>,
+    // Empty chunks.
+    free: Vec<Vec<usize>>,
+}
+
+impl Model for Chunks {
+    ghost use Rattle.stable_state.specs.Chunks.{Chunked};
+
+    ghost Value = { Chunked };
+
+    ghost use Rattle.stable_state.specs.ChunkFields.{chunked, IsChunked};
+
+    ghost view = { chunked };
+
+    ghost invariant = { IsChunked };
+}
+
+impl Chunks {
+    /// No chunks. It takes no memory.
+    pub fn new(alloc: Global) -> Chunks
+        ensures { result ≡ record { parts = []; free = 0 } }
+    {
+        Chunks {
+            alloc,
+            lists: Vec::new(alloc),
+            ends: Vec::new(alloc),
+            free: Vec::new(alloc),
+        }
+    }
+
+    /// Takes memory for one free chunk more.
+    pub fn add(&mut self) -> Result<(), NoMemory>
+        ensures parts { self.new.parts ≡ self.old.parts }
+        ensures more { OnOk result (self.new.free ≡ self.old.free + 1) }
+        ensures none { OnErr result (self.new.free ≡ self.old.free) }
+    {
+        let count = self.lists.len() + self.free.len();
+        if count == MOST {
+            return Err(NoMemory);
+        }
+        let more = self.free.len() + 1;
+        self.ends.reserve(more)?;
+        self.lists.reserve(more)?;
+        self.free.reserve(self.lists.len() + 1)?;
+        self.free
+            .push_reserved(Vec::with_capacity(self.alloc, CHUNK)?);
+        Ok(())
+    }
+
+    /// How many chunks are in use.
+    pub fn count(&self) -> usize
+        ensures value { result ≡ length self.now.parts }
+        ensures few { length self.now.parts + self.now.free ≤ 2 ^ 40 }
+        ensures slots { length (concat self.now.parts) ≤ 512 * length self.now.parts }
+    {
+        self.lists.len()
+    }
+
+    /// How many chunks are free.
+    pub fn free(&self) -> usize
+        ensures { result ≡ self.now.free }
+    {
+        self.free.len()
+    }
+
+    /// How many slots the chunks in use have.
+    pub fn len(&self) -> usize
+        ensures { result ≡ length (concat self.now.parts) }
+    {
+        match self.ends.last() {
+            Some(end) => *end,
+            None => 0,
+        }
+    }
+
+    /// The slots of a chunk.
+    pub fn part(&self, chunk: usize) -> &[usize]
+        requires { chunk < length self.now.parts }
+        ensures { result.now ≡ slice_index_or self.now.parts chunk [] }
+    {
+        self.lists[chunk].as_slice()
+    }
+
+    /// The place at which a chunk begins.
+    pub fn start(&self, chunk: usize) -> usize
+        requires { chunk < length self.now.parts }
+        ensures { result ≡ length (concat (take chunk self.now.parts)) }
+    {
+        self.ends[chunk] - self.lists[chunk].len()
+    }
+
+    /// The first chunk that doesn't end before a place.
+    pub fn chunk_to(&self, place: usize) -> usize
+        requires some { 0 < length self.now.parts }
+        requires within { place ≤ length (concat self.now.parts) }
+        ensures within { result < length self.now.parts }
+        ensures begins { length (concat (take result self.now.parts)) ≤ place }
+        ensures begins_before { 0 < place → length (concat (take result self.now.parts)) < place }
+        ensures ends { place ≤ length (concat (take result self.now.parts)) + length (slice_index_or self.now.parts result []) }
+    {
+        self.ends.partition_point(|end| *end < place)
+    }
+
+    /// The slot at a place.
+    pub fn slot(&self, place: usize) -> usize
+        requires { place < length (concat self.now.parts) }
+        ensures { result ≡ slice_index (concat self.now.parts) place }
+    {
+        let lists = &self.lists;
+        let chunk = self.chunk_to(place + 1);
+        lists[chunk][place - self.start(chunk)]
+    }
+
+    /// How many of the slots pass a test, which those that pass stand first for. No chunk is empty.
+    pub fn partition_point<P: Fn(&usize) -> bool>(&self, test: P) -> usize
+        requires callable { P.IsAlwaysCallable test }
+        requires some { All (λ part. 0 < length part) self.now.parts }
+        ensures bound { result ≤ length (concat self.now.parts) }
+        ensures partitioned { (p : ℕ → Bool) → ComputesKey P.FnMut p test → IsPartitionedBy p (concat self.now.parts)
+            → IsPartitionPoint (λ slot. p slot ≡ true) (λ slot. p slot ≡ false) (concat self.now.parts) result }
+    {
+        let behind = self.lists.partition_point(
+            |list: &Vec<usize>| -> bool
+                requires { P.IsAlwaysCallable test }
+                ensures { (p : ℕ → Bool) → ComputesKey P.FnMut p test → result ≡ first_passes p list.now.items }
+            {
+                match list.first() {
+                    Some(slot) => test(slot),
+                    None => false,
+                }
+            },
+        );
+        if behind == 0 {
+            return 0;
+        }
+        self.start(behind - 1) + self.lists[behind - 1].partition_point(test)
+    }
+
+    /// Puts a slot into a chunk that has room for it.
+    pub fn put(&mut self, chunk: usize, at: usize, slot: usize)
+        requires chunk { chunk < length self.old.parts }
+        requires at { at ≤ length (slice_index_or self.old.parts chunk []) }
+        requires room { length (slice_index_or self.old.parts chunk []) < 512 }
+        ensures { self.new ≡ record self.old { parts = slice_set self.old.parts chunk (insert (slice_index_or self.old.parts chunk []) at slot) } }
+    {
+        put_in(&mut self.lists[chunk], at, slot);
+        raise_from(&mut self.ends, chunk);
+    }
+
+    /// Takes the slots out of a chunk that stand in it from the first up to, and not with, the second.
+    pub fn cut(&mut self, chunk: usize, from: usize, to: usize)
+        requires chunk { chunk < length self.old.parts }
+        requires ordered { from ≤ to }
+        requires within { to ≤ length (slice_index_or self.old.parts chunk []) }
+        ensures { self.new ≡ record self.old { parts = slice_set self.old.parts chunk (remove_range (slice_index_or self.old.parts chunk []) from to) } }
+    {
+        cut_out(&mut self.lists[chunk], from, to);
+        lower_from(&mut self.ends, chunk, to - from);
+    }
+
+    /// Parts a chunk into its first `HALF` slots and the others, which go into a free chunk.
+    pub fn split(&mut self, chunk: usize)
+        requires chunk { chunk < length self.old.parts }
+        requires free { 1 ≤ self.old.free }
+        requires long { 256 ≤ length (slice_index_or self.old.parts chunk []) }
+        ensures parts { self.new.parts ≡ take chunk self.old.parts
+            ++ take 256 (slice_index_or self.old.parts chunk []) ∷ drop 256 (slice_index_or self.old.parts chunk []) ∷ drop (chunk + 1) self.old.parts }
+        ensures free { self.new.free + 1 ≡ self.old.free }
+    {
+        let mut upper = self.free.take_last();
+        let end = self.ends[chunk];
+        let moved = halve(&mut self.lists[chunk], &mut upper);
+        put_in(&mut self.ends, chunk, end - moved);
+        put_in(&mut self.lists, chunk + 1, upper);
+    }
+
+    /// Takes a free chunk into use where none is.
+    pub fn open(&mut self)
+        requires none { self.old.parts ≡ [] }
+        requires free { 1 ≤ self.old.free }
+        ensures parts { self.new.parts ≡ [] ∷ [] }
+        ensures free { self.new.free + 1 ≡ self.old.free }
+    {
+        self.lists.push_reserved(self.free.take_last());
+        self.ends.push_reserved(0);
+    }
+
+    /// Frees a chunk that is empty.
+    pub fn close(&mut self, chunk: usize)
+        requires chunk { chunk < length self.old.parts }
+        requires empty { slice_index_or self.old.parts chunk [] ≡ [] }
+        ensures parts { self.new.parts ≡ remove self.old.parts chunk }
+        ensures free { self.new.free ≡ self.old.free + 1 }
+    {
+        self.ends.remove(chunk);
+        self.free.push_reserved(self.lists.remove(chunk));
+    }
+}
+
+/// Puts an element into a list that has room for it.
+fn put_in<T: Drop>(list: &mut Vec<T>, place: usize, element: T)
+    requires within { place ≤ vec_len list.old }
+    requires room { vec_len list.old < vec_capacity list.old }
+    ensures items { list.new.items ≡ insert list.old.items place element }
+    ensures len { vec_len list.new ≡ vec_len list.old + 1 }
+    ensures capacity { vec_capacity list.old ≤ vec_capacity list.new }
+{
+    let Ok(()) = list.insert(place, element) else {
+        unreachable!()
+    };
+}
+
+/// Takes the slots out of a list that stand at places from the first up to, and not with, the second.
+fn cut_out(list: &mut Vec<usize>, from: usize, to: usize)
+    requires ordered { from ≤ to }
+    requires within { to ≤ vec_len list.old }
+    ensures items { list.new.items ≡ remove_range list.old.items from to }
+    ensures capacity { vec_capacity list.old ≤ vec_capacity list.new }
+{
+    drop(list.drain(from..to));
+}
+
+/// Moves the slots of a list from `HALF` on into an empty one, and says how many these are.
+fn halve(list: &mut Vec<usize>, upper: &mut Vec<usize>) -> usize
+    requires long { 256 ≤ vec_len list.old }
+    requires empty { vec_len upper.old ≡ 0 }
+    requires room { vec_len list.old ≤ 256 + vec_capacity upper.old }
+    ensures lower { list.new.items ≡ take 256 list.old.items }
+    ensures upper { upper.new.items ≡ drop 256 list.old.items }
+    ensures capacity { vec_capacity list.old ≤ vec_capacity list.new }
+    ensures upper_capacity { vec_capacity upper.old ≤ vec_capacity upper.new }
+    ensures moved { result + 256 ≡ vec_len list.old }
+{
+    let moved = list.len() - HALF;
+    let Ok(()) = upper.extend_from_slice(&list[HALF..]) else {
+        unreachable!()
+    };
+    list.truncate(HALF);
+    moved
+}
+
+/// Raises each end from a place on by one.
+fn raise_from(ends: &mut Vec<usize>, from: usize)
+    requires within { from ≤ vec_len ends.old }
+    requires fits { All (λ end. end + 1 < 2 ^ 64) ends.old.items }
+    ensures items { ends.new.items ≡ take from ends.old.items ++ map (λ end. end + 1) (drop from ends.old.items) }
+    ensures capacity { vec_capacity ends.new ≡ vec_capacity ends.old }
+{
+    raise(ends.slice_mut(from..));
+}
+
+/// Lowers each end from a place on.
+fn lower_from(ends: &mut Vec<usize>, from: usize, by: usize)
+    requires within { from ≤ vec_len ends.old }
+    requires above { All (λ end. by ≤ end) (drop from ends.old.items) }
+    ensures items { ends.new.items ≡ take from ends.old.items ++ map (λ end. end - by) (drop from ends.old.items) }
+    ensures capacity { vec_capacity ends.new ≡ vec_capacity ends.old }
+{
+    lower(ends.slice_mut(from..), by);
+}
+
+/// Raises each number by one.
+fn raise(ends: &mut [usize])
+    requires { All (λ end. end + 1 < 2 ^ 64) ends.old }
+    ensures { ends.new ≡ map (λ end. end + 1) ends.old }
+{
+    for end in ends.iter_mut() {
+        *end += 1;
+    }
+}
+
+/// Lowers each number.
+fn lower(ends: &mut [usize], by: usize)
+    requires { All (λ end. by ≤ end) ends.old }
+    ensures { ends.new ≡ map (λ end. end - by) ends.old }
+{
+    for end in ends.iter_mut() {
+        *end -= by;
+    }
+}
