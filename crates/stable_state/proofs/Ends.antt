@@ -8,7 +8,7 @@ use Rattle.std.proofs.lemmas.List.{length-map, get_or-drop, set_split, drop_more
 use Rattle.std.proofs.lemmas.List.Sorted.{IsPartitionedBy-ltb}
 use Rattle.std.proofs.lemmas.Bool.{cases_lt}
 use Rattle.std.proofs.lemmas.List.Elements.{All-head, All-tail, All-map, All-weaker}
-use Rattle.stable_state.specs.Chunks.{Chunked, ends_from}
+use Rattle.stable_state.specs.Chunks.{Chunked, IsHome, ends_from}
 use Rattle.stable_state.specs.ChunkFields.{parts_of, chunked, IsChunk, IsChunked}
 use Rattle.stable_state.specs.declared.chunks.Chunks.TheInside.{Inside}
 
@@ -90,13 +90,6 @@ pub ends_parted : (parts : List (List ℕ)) (place : ℕ) → IsPartitionedBy (�
 ends_parted parts place = IsPartitionedBy-ltb (λ x. x) (ends_from 0 parts) place (λ i j d le l.
     let within : j < length parts = omega (arith, l, length_ends 0 parts) in
     omega (arith, end_is parts i d (omega (arith, le, within)), end_is parts j d within, starts_rise parts (suc i) (suc j) (omega (arith, le))))
-
--- the chunk that a place is in, or behind
-pub record IsHome (parts : List (List ℕ)) (place k : ℕ) : Type 0 where
-  pub within : k < length parts
-  pub begins : length (concat (take k parts)) ≤ place
-  pub begins_before : 0 < place → length (concat (take k parts)) < place
-  pub ends : place ≤ length (concat (take k parts)) + length (get_or parts k [])
 
 pub home_is : (parts : List (List ℕ)) (place k : ℕ) → 0 < length parts → place ≤ length (concat parts) → k ≤ length parts
     → IsPartitionPoint (λ end. ltb end place ≡ true) (λ end. ltb end place ≡ false) (ends_from 0 parts) k → IsHome parts place k

@@ -1,6 +1,7 @@
 pub mod Slots
 pub mod Ends
 pub mod Parting
+pub mod Joined
 pub mod Places
 pub mod Ordered
 pub mod Cells

@@ -5,6 +5,8 @@ pub mod Places
 pub mod Fields
 pub mod Chunks
 pub mod ChunkFields
+pub mod Listed
+pub mod OrderFields
 pub mod Standing
 pub mod Picked
 pub mod Settling

@@ -4,7 +4,7 @@ ghost use Rattle.std.specs.Prelude.{◌≡◌, ℕ, ◌+◌, ◌-◌, ◌*◌, �
 ghost use Rattle.std.specs.List.{concat, insert, remove, remove_range};
 ghost use Rattle.std.specs.List.Sorted.{IsPartitionPoint, IsPartitionedBy};
 ghost use Rattle.std.specs.Fn.{ComputesKey};
-ghost use Rattle.stable_state.specs.Chunks.{first_passes};
+ghost use Rattle.stable_state.specs.Chunks.{IsHome, first_passes};
 
 use op_base::NoMemory;
 use std::alloc::Global;
@@ -121,10 +121,7 @@ impl Chunks {
     pub fn chunk_to(&self, place: usize) -> usize
         requires some { 0 < length self.now.parts }
         requires within { place ≤ length (concat self.now.parts) }
-        ensures within { result < length self.now.parts }
-        ensures begins { length (concat (take result self.now.parts)) ≤ place }
-        ensures begins_before { 0 < place → length (concat (take result self.now.parts)) < place }
-        ensures ends { place ≤ length (concat (take result self.now.parts)) + length (slice_index_or self.now.parts result []) }
+        ensures { IsHome self.now.parts place result }
     {
         self.ends.partition_point(|end| *end < place)
     }
@@ -169,7 +166,8 @@ impl Chunks {
         requires chunk { chunk < length self.old.parts }
         requires at { at ≤ length (slice_index_or self.old.parts chunk []) }
         requires room { length (slice_index_or self.old.parts chunk []) < 512 }
-        ensures { self.new ≡ record self.old { parts = slice_set self.old.parts chunk (insert (slice_index_or self.old.parts chunk []) at slot) } }
+        ensures few { length self.new.parts + self.new.free ≤ 2 ^ 40 }
+        ensures value { self.new ≡ record self.old { parts = slice_set self.old.parts chunk (insert (slice_index_or self.old.parts chunk []) at slot) } }
     {
         put_in(&mut self.lists[chunk], at, slot);
         raise_from(&mut self.ends, chunk);

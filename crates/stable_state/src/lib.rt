@@ -8,6 +8,7 @@ mod cell;
 mod chunks;
 mod items;
 mod laws;
+mod order;
 mod shelf;
 #[cfg(test)]
 mod tests;

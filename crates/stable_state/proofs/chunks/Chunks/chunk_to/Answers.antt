@@ -3,11 +3,12 @@ use Rattle.std.specs.List.Sorted.{IsPartitionPoint, IsPartitionedBy}
 use Rattle.std.specs.List.{concat}
 use Rattle.std.proofs.lemmas.List.Sorted.{IsPartitionPoint-from_clause}
 use Rattle.stable_state.specs.ChunkFields.{parts_of}
-use Rattle.stable_state.proofs.Ends.{length_ends, ends_parted, IsHome, home_is}
+use Rattle.stable_state.specs.Chunks.{IsHome}
+use Rattle.stable_state.proofs.Ends.{length_ends, ends_parted, home_is}
 use Rattle.stable_state.proofs.chunks.Chunks.chunk_to.Goals as goal
 
-home : (c : goal.After-partition_point) → IsHome c.args.self.now.parts c.args.place c.partition_point.result
-home c =
+pub returns : goal.returns
+returns c =
     let s = c.self.inside in
     let parts = parts_of s.lists.items in
     let place = c.args.place in
@@ -19,15 +20,3 @@ home c =
     let inside : place ≤ length (concat parts) = omega (arith, c.requires.within, ap (λ v. length (concat v.parts)) c.self.view_is) in
     subst (λ ps. IsHome ps place c.partition_point.result) (ap (λ v. v.parts) c.self.view_is)
     (home_is parts place c.partition_point.result some inside bound (subst (λ ends. IsPartitionPoint (λ end. ltb end place ≡ true) (λ end. ltb end place ≡ false) ends c.partition_point.result) is point))
-
-pub returns-clause-within : goal.returns-clause-within
-returns-clause-within c = (home c).within
-
-pub returns-clause-begins : goal.returns-clause-begins
-returns-clause-begins c = (home c).begins
-
-pub returns-clause-begins_before : goal.returns-clause-begins_before
-returns-clause-begins_before c = (home c).begins_before
-
-pub returns-clause-ends : goal.returns-clause-ends
-returns-clause-ends c = (home c).ends

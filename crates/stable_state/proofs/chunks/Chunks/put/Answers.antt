@@ -45,8 +45,8 @@ invariant_of-self c =
       free_room = omega (arith, held.free_room, length-set lists k new);
     }
 
-pub returns : goal.returns
-returns c =
+pub returns-clause-value : goal.returns-clause-value
+returns-clause-value c =
     let s = c.self.inside in
     let lists = s.lists.items in
     let k = c.args.chunk in

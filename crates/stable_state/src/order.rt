@@ -1,0 +1,186 @@
+//! A list of slots in chunks, so that putting one in or taking some out moves no more than a chunk.
+
+ghost use Rattle.std.specs.Prelude.{◌≡◌, ℕ, ◌+◌, ◌-◌, ◌^◌, ◌<◌, ◌≤◌, Bool, true, false, [], ◌∷◌, length, slice_index, IsOk, OnOk, take, slice_set, slice_index_or, All};
+ghost use Rattle.std.specs.List.{concat, insert, remove_range};
+ghost use Rattle.std.specs.List.Sorted.{IsPartitionPoint, IsPartitionedBy};
+ghost use Rattle.std.specs.Fn.{ComputesKey};
+ghost use Rattle.stable_state.specs.Chunks.{IsHome, opened};
+
+use crate::chunks::{CHUNK, Chunks, HALF};
+use op_base::NoMemory;
+use std::alloc::Global;
+use std::marker::Model;
+
+/// A list of slots. Contracts see the slots, and how many more can be put in without memory. `reserve` alone takes
+/// memory.
+#[derive(Drop)]
+pub struct Order {
+    chunks: Chunks,
+    // How many slots chunks have over half of what each has room for, all together.
+    excess: usize,
+}
+
+impl Model for Order {
+    ghost use Rattle.stable_state.specs.Listed.{Listed};
+
+    ghost Value = { Listed };
+
+    ghost use Rattle.stable_state.specs.OrderFields.{listed, IsListed};
+
+    ghost view = { listed };
+
+    ghost invariant = { IsListed };
+}
+
+impl Order {
+    /// No slots, and no room. It takes no memory.
+    pub fn new(alloc: Global) -> Order
+        ensures { result ≡ record { items = []; spare = 0 } }
+    {
+        Order {
+            chunks: Chunks::new(alloc),
+            excess: 0,
+        }
+    }
+
+    /// Takes room for `k` slots more. `NoMemory` leaves the slots, and no less room.
+    pub fn reserve(&mut self, k: usize) -> Result<(), NoMemory>
+        ensures room { OnOk result (k ≤ self.new.spare) }
+        ensures had_room { k ≤ self.old.spare → IsOk result }
+        ensures items { self.new.items ≡ self.old.items }
+        ensures spare { self.old.spare ≤ self.new.spare }
+    {
+        while self.spare() < k {
+            self.grow()?;
+        }
+        Ok(())
+    }
+
+    /// How many slots can be put in without memory.
+    fn spare(&self) -> usize
+        ensures { result ≡ self.now.spare }
+    {
+        let first = 1usize.saturating_sub(self.chunks.count());
+        self.chunks.free().saturating_sub(first) * HALF - self.excess
+    }
+
+    /// Takes more room.
+    fn grow(&mut self) -> Result<(), NoMemory>
+        ensures room { OnOk result (self.old.spare < self.new.spare) }
+        ensures items { self.new.items ≡ self.old.items }
+        ensures spare { self.old.spare ≤ self.new.spare }
+    {
+        if self.chunks.count() + self.chunks.free() == 0 {
+            self.chunks.add()?;
+        }
+        self.chunks.add()
+    }
+
+    /// How many slots there are.
+    pub fn len(&self) -> usize
+        ensures { result ≡ length self.now.items }
+    {
+        self.chunks.len()
+    }
+
+    /// The slot at a place, counted from 0.
+    pub fn at(&self, place: usize) -> usize
+        requires { place < length self.now.items }
+        ensures { result ≡ slice_index self.now.items place }
+    {
+        self.chunks.slot(place)
+    }
+
+    /// How many of the slots pass a test, which those that pass stand first for.
+    pub fn partition_point<P: Fn(&usize) -> bool>(&self, test: P) -> usize
+        requires { P.IsAlwaysCallable test }
+        ensures bound { result ≤ length self.now.items }
+        ensures partitioned { (p : ℕ → Bool) → ComputesKey P.FnMut p test → IsPartitionedBy p self.now.items
+            → IsPartitionPoint (λ slot. p slot ≡ true) (λ slot. p slot ≡ false) self.now.items result }
+    {
+        self.chunks.partition_point(test)
+    }
+
+    /// Puts a slot at a place. It takes no memory.
+    pub fn insert(&mut self, place: usize, slot: usize)
+        requires spare { 1 ≤ self.old.spare }
+        requires within { place ≤ length self.old.items }
+        ensures items { self.new.items ≡ insert self.old.items place slot }
+        ensures spare { self.old.spare ≤ self.new.spare + 1 }
+    {
+        open_first(&mut self.chunks);
+        let chunk = put(&mut self.chunks, place, slot);
+        let len = self.chunks.part(chunk).len();
+        if len == CHUNK {
+            self.chunks.split(chunk);
+            self.excess -= HALF - 1;
+            return;
+        }
+        if len > HALF {
+            self.excess += 1;
+        }
+    }
+
+    /// Takes out the slots that stand at places from the first up to, and not with, the second.
+    pub fn remove_range(&mut self, from: usize, to: usize)
+        requires ordered { from ≤ to }
+        requires within { to ≤ length self.old.items }
+        ensures items { self.new.items ≡ remove_range self.old.items from to }
+        ensures spare { self.old.spare ≤ self.new.spare }
+    {
+        let mut end = to;
+        while from < end {
+            end -= self.remove_some(from, end);
+        }
+    }
+
+    /// Takes out the first of the slots that stand at places from the first up to, and not with, the second, as many as
+    /// are in one chunk, and says how many these are.
+    fn remove_some(&mut self, from: usize, to: usize) -> usize
+        requires ordered { from < to }
+        requires within { to ≤ length self.old.items }
+        ensures some { 0 < result }
+        ensures within { result ≤ to - from }
+        ensures items { self.new.items ≡ remove_range self.old.items from (from + result) }
+        ensures spare { self.old.spare ≤ self.new.spare }
+    {
+        let chunk = self.chunks.chunk_to(from + 1);
+        let first = from - self.chunks.start(chunk);
+        let len = self.chunks.part(chunk).len();
+        let removed = (to - from).min(len - first);
+        self.chunks.cut(chunk, first, first + removed);
+        self.excess -= len.saturating_sub(HALF) - (len - removed).saturating_sub(HALF);
+        if removed == len {
+            self.chunks.close(chunk);
+        }
+        removed
+    }
+}
+
+/// Takes a chunk into use where none is.
+fn open_first(chunks: &mut Chunks)
+    requires { length chunks.old.parts ≡ 0 → 1 ≤ chunks.old.free }
+    ensures parts { chunks.new.parts ≡ opened chunks.old.parts }
+    ensures free { chunks.new.free + (1 - length chunks.old.parts) ≡ chunks.old.free }
+{
+    if chunks.count() == 0 {
+        chunks.open();
+    }
+}
+
+/// Puts a slot into the chunk of a place, and says which that is.
+fn put(chunks: &mut Chunks, place: usize, slot: usize) -> usize
+    requires some { 0 < length chunks.old.parts }
+    requires short { All (λ part. length part < 512) chunks.old.parts }
+    requires within { place ≤ length (concat chunks.old.parts) }
+    ensures home { IsHome chunks.old.parts place result }
+    ensures parts { let part = slice_index_or chunks.old.parts result [] in let start = length (concat (take result chunks.old.parts)) in
+        chunks.new.parts ≡ slice_set chunks.old.parts result (insert part (place - start) slot) }
+    ensures free { chunks.new.free ≡ chunks.old.free }
+    ensures few { chunks.new.free ≤ 2 ^ 40 }
+{
+    let chunk = chunks.chunk_to(place);
+    let at = place - chunks.start(chunk);
+    chunks.put(chunk, at, slot);
+    chunk
+}
