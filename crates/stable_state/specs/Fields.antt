@@ -10,7 +10,7 @@ abbrev pub shelved : Inside → Shelved
 shelved s = record {
   items = items_in s.slots s.order.items;
   touched = map (get s.slots) s.touched.items;
-  spare = min (s.slots.capacity - slab_len s.slots) (min (vec_capacity s.order - length s.order.items) (vec_capacity s.touched - length s.touched.items));
+  spare = min (s.slots.capacity - slab_len s.slots) (min s.order.spare (vec_capacity s.touched - length s.touched.items));
 }
 
 -- slots hold exactly the items of the order, which rise

@@ -1,6 +1,6 @@
 //! Slots in chunks of bounded length, with the place at which each chunk ends.
 
-ghost use Rattle.std.specs.Prelude.{◌≡◌, ℕ, ◌+◌, ◌-◌, ◌*◌, ◌^◌, ◌<◌, ◌≤◌, [], ◌∷◌, ◌++◌, length, take, drop, map, slice_set, slice_index, slice_index_or, Bool, true, false, OnOk, OnErr, All, vec_len, vec_capacity};
+ghost use Rattle.std.specs.Prelude.{◌≡◌, ℕ, ◌+◌, ◌-◌, ◌*◌, ◌^◌, ◌<◌, ◌≤◌, [], ◌∷◌, ◌++◌, length, take, drop, map, slice_set, slice_index_or, Bool, true, false, OnOk, OnErr, All, vec_len, vec_capacity};
 ghost use Rattle.std.specs.List.{concat, insert, remove, remove_range};
 ghost use Rattle.std.specs.List.Sorted.{IsPartitionPoint, IsPartitionedBy};
 ghost use Rattle.std.specs.Fn.{ComputesKey};
@@ -129,7 +129,7 @@ impl Chunks {
     /// The slot at a place.
     pub fn slot(&self, place: usize) -> usize
         requires { place < length (concat self.now.parts) }
-        ensures { result ≡ slice_index (concat self.now.parts) place }
+        ensures { result ≡ slice_index_or (concat self.now.parts) place result }
     {
         let lists = &self.lists;
         let chunk = self.chunk_to(place + 1);

@@ -1,6 +1,6 @@
 //! A list of slots in chunks, so that putting one in or taking some out moves no more than a chunk.
 
-ghost use Rattle.std.specs.Prelude.{◌≡◌, ℕ, ◌+◌, ◌-◌, ◌^◌, ◌<◌, ◌≤◌, Bool, true, false, [], ◌∷◌, length, slice_index, IsOk, OnOk, take, slice_set, slice_index_or, All};
+ghost use Rattle.std.specs.Prelude.{◌≡◌, ℕ, ◌+◌, ◌-◌, ◌^◌, ◌<◌, ◌≤◌, Bool, true, false, [], ◌∷◌, length, IsOk, OnOk, take, slice_set, slice_index_or, All};
 ghost use Rattle.std.specs.List.{concat, insert, remove_range};
 ghost use Rattle.std.specs.List.Sorted.{IsPartitionPoint, IsPartitionedBy};
 ghost use Rattle.std.specs.Fn.{ComputesKey};
@@ -86,7 +86,7 @@ impl Order {
     /// The slot at a place, counted from 0.
     pub fn at(&self, place: usize) -> usize
         requires { place < length self.now.items }
-        ensures { result ≡ slice_index self.now.items place }
+        ensures { result ≡ slice_index_or self.now.items place result }
     {
         self.chunks.slot(place)
     }

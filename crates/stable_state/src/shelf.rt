@@ -3,9 +3,9 @@
 //! An index in order over records that stay where they are is a textbook rule.
 
 ghost use Rattle.std.specs.Prelude.{◌≡◌, ◌≢◌, ◌⊎◌, ℕ, ◌+◌, ◌-◌, ◌^◌, ◌<◌, ◌≤◌, true, false, [], ◌∷◌, ◌++◌, length, take, insert, slice_get};
-ghost use Rattle.std.specs.Prelude.{Some, IsTrue, IfOk, OnOk, IfErr, IsOk, All, AllPairs, Contains, HoldsAt, option_copied};
+ghost use Rattle.std.specs.Prelude.{Some, IsTrue, IfOk, OnOk, OnSome, IfErr, IsOk, All, AllPairs, Contains, HoldsAt, option_copied};
 ghost use Rattle.std.specs.Prelude.{vec_len, vec_capacity};
-ghost use Rattle.std.specs.List.{remove_range};
+ghost use Rattle.std.specs.List.{between};
 ghost use Rattle.causal_model.specs.Items.{is_at, is_filled, Rise};
 ghost use Rattle.op_base.specs.declared.outcome.Item.{Item};
 ghost use Rattle.slab.specs.Slab.{get, ContainsKey, slab_len, with_value};
@@ -14,6 +14,7 @@ ghost use Rattle.stable_state.specs.Shelf.{put_at, without_span};
 ghost use Rattle.stable_state.specs.Slots.{items_in};
 ghost use Rattle.stable_state.specs.Touched.{is_touched, StayTouched, KeepTouched, IsLast};
 
+use crate::order::Order;
 use op_base::{Cell, Item, NoMemory, ObjectId, Value, item_order};
 use slab::Slab;
 use std::alloc::Global;
@@ -26,7 +27,7 @@ use std::marker::Model;
 pub struct Shelf {
     slots: Slab<Item>,
     // The slots of the items, lowest item first.
-    order: Vec<usize>,
+    order: Order,
     // The slots whose cell was given with an off mark, one entry each time, since they were taken from this list. An item that
     // is let go stays in it by its slot.
     touched: Vec<usize>,
@@ -51,7 +52,7 @@ impl Shelf {
     {
         Shelf {
             slots: Slab::new(alloc),
-            order: Vec::new(alloc),
+            order: Order::new(alloc),
             touched: Vec::new(alloc),
         }
     }
@@ -84,7 +85,7 @@ impl Shelf {
         requires { place < length self.now.items }
         ensures { slice_get self.now.items place ≡ Some result.now }
     {
-        &self.slots[self.order[place]]
+        &self.slots[self.order.at(place)]
     }
 
     /// The place of the item of an object and a value, or `Err` with the place where it would stand.
@@ -96,7 +97,7 @@ impl Shelf {
         ensures absent { IfErr result (IsGapFor object.now (option_copied value.entry) self.now.items) }
         ensures rises { IfErr result (RisesWithOneAt object.now (option_copied value.entry) self.now.items) }
     {
-        let place = place_of(&self.slots, self.order.as_slice(), object, value);
+        let place = place_of(&self.slots, &self.order, object, value);
         if place < self.len() && is_of(self.at(place), object, value) {
             Ok(place)
         } else {
@@ -109,8 +110,8 @@ impl Shelf {
         ensures { IsSpan object.now self.now.items result.0 result.1 }
     {
         (
-            place_of(&self.slots, self.order.as_slice(), object, None),
-            place_behind(&self.slots, self.order.as_slice(), object),
+            place_of(&self.slots, &self.order, object, None),
+            place_behind(&self.slots, &self.order, object),
         )
     }
 
@@ -129,7 +130,7 @@ impl Shelf {
         if item.cell.off {
             add(&mut self.touched, slot);
         }
-        put(&mut self.order, place, slot);
+        self.order.insert(place, slot);
         self.slots.insert_reserved(item);
     }
 
@@ -155,8 +156,8 @@ impl Shelf {
         ensures touched { KeepTouched self.old self.new }
         ensures spare { self.old.spare ≤ self.new.spare }
     {
-        empty_slots(&mut self.slots, &self.order[from..to]);
-        cut(&mut self.order, from, to);
+        empty_slots(&mut self.slots, &self.order, from, to);
+        self.order.remove_range(from, to);
     }
 
     /// Gives the item at a place another cell. With an off mark it is touched. It takes no memory.
@@ -171,7 +172,7 @@ impl Shelf {
         ensures spare { self.old.spare ≤ self.new.spare + 1 }
         ensures kept { cell.off ≡ false → self.old.spare ≤ self.new.spare }
     {
-        let slot = self.order[place];
+        let slot = self.order.at(place);
         if cell.off {
             add(&mut self.touched, slot);
         }
@@ -189,7 +190,7 @@ impl Shelf {
     pub fn take_touched(&mut self) -> Option<usize>
         requires { 0 < length self.old.touched }
         ensures items { self.new.items ≡ self.old.items }
-        ensures few { length self.old.items < 2 ^ 64 }
+        ensures few { OnSome result (length self.old.items < 2 ^ 64) }
         ensures last { IsLast self.old self.new.touched result }
         ensures spare { self.old.spare ≤ self.new.spare }
     {
@@ -201,7 +202,7 @@ impl Shelf {
     /// The place of the item that was touched last, where that is still there.
     fn last_touched(&self) -> Option<usize>
         requires { 0 < length self.now.touched }
-        ensures few { length self.now.items < 2 ^ 64 }
+        ensures few { OnSome result (length self.now.items < 2 ^ 64) }
         ensures last { IsLast self.now (take (length self.now.touched - 1) self.now.touched) result }
     {
         let item = self.slots.get(self.touched[self.touched.len() - 1])?;
@@ -217,11 +218,11 @@ fn is_of(item: &Item, object: &ObjectId, value: Option<&Value>) -> bool
 }
 
 /// How many of the items in slots are before an object and a value. The items rise.
-fn place_of(slots: &Slab<Item>, order: &[usize], object: &ObjectId, value: Option<&Value>) -> usize
-    requires held { All (ContainsKey slots.now) order.now }
-    requires rise { Rise (items_in slots.now order.now) }
-    ensures within { result ≤ length order.now }
-    ensures place { IsParted (is_before object.now (option_copied value.entry)) (items_in slots.now order.now) result }
+fn place_of(slots: &Slab<Item>, order: &Order, object: &ObjectId, value: Option<&Value>) -> usize
+    requires held { All (ContainsKey slots.now) order.now.items }
+    requires rise { Rise (items_in slots.now order.now.items) }
+    ensures within { result ≤ length order.now.items }
+    ensures place { IsParted (is_before object.now (option_copied value.entry)) (items_in slots.now order.now.items) result }
 {
     order.partition_point(|slot| match slots.get(*slot) {
         Some(item) => item_order(&item.object, item.value.as_ref(), object, value).is_lt(),
@@ -230,29 +231,16 @@ fn place_of(slots: &Slab<Item>, order: &[usize], object: &ObjectId, value: Optio
 }
 
 /// How many of the items in slots are of an object, or of one before it. The items rise.
-fn place_behind(slots: &Slab<Item>, order: &[usize], object: &ObjectId) -> usize
-    requires held { All (ContainsKey slots.now) order.now }
-    requires rise { Rise (items_in slots.now order.now) }
-    ensures within { result ≤ length order.now }
-    ensures place { IsParted (is_up_to object.now) (items_in slots.now order.now) result }
+fn place_behind(slots: &Slab<Item>, order: &Order, object: &ObjectId) -> usize
+    requires held { All (ContainsKey slots.now) order.now.items }
+    requires rise { Rise (items_in slots.now order.now.items) }
+    ensures within { result ≤ length order.now.items }
+    ensures place { IsParted (is_up_to object.now) (items_in slots.now order.now.items) result }
 {
     order.partition_point(|slot| match slots.get(*slot) {
         Some(item) => item.object <= *object,
         None => false,
     })
-}
-
-/// Puts a slot into a list that has room for it.
-fn put(list: &mut Vec<usize>, place: usize, slot: usize)
-    requires within { place ≤ vec_len list.old }
-    requires room { vec_len list.old < vec_capacity list.old }
-    ensures items { list.new.items ≡ insert list.old.items place slot }
-    ensures len { vec_len list.new ≡ vec_len list.old + 1 }
-    ensures capacity { vec_capacity list.old ≤ vec_capacity list.new }
-{
-    let Ok(()) = list.insert(place, slot) else {
-        unreachable!()
-    };
 }
 
 /// Adds a slot to a list that has room for it.
@@ -267,27 +255,18 @@ fn add(list: &mut Vec<usize>, slot: usize)
     };
 }
 
-/// Takes the slots out of a list that stand at places from the first up to, and not with, the second.
-fn cut(list: &mut Vec<usize>, from: usize, to: usize)
+/// Lets the items go in the slots of an order that stand at places from the first up to, and not with, the second.
+fn empty_slots(slots: &mut Slab<Item>, order: &Order, from: usize, to: usize)
     requires ordered { from ≤ to }
-    requires within { to ≤ vec_len list.old }
-    ensures items { list.new.items ≡ remove_range list.old.items from to }
-    ensures len { vec_len list.new + (to - from) ≡ vec_len list.old }
-    ensures capacity { vec_capacity list.old ≤ vec_capacity list.new }
-{
-    drop(list.drain(from..to));
-}
-
-/// Lets the items in some slots go.
-fn empty_slots(slots: &mut Slab<Item>, gone: &[usize])
-    requires held { All (ContainsKey slots.old) gone.now }
-    requires apart { AllPairs (λ a b. a ≢ b) gone.now }
-    ensures each { (slot : ℕ) → (get slots.new slot ≡ get slots.old slot) ⊎ (Contains gone.now slot × (get slots.new slot ≡ None)) }
-    ensures len { slab_len slots.new + length gone.now ≡ slab_len slots.old }
+    requires within { to ≤ length order.now.items }
+    requires held { All (ContainsKey slots.old) order.now.items }
+    requires apart { AllPairs (λ a b. a ≢ b) order.now.items }
+    ensures each { (slot : ℕ) → (get slots.new slot ≡ get slots.old slot) ⊎ (Contains (between from to order.now.items) slot × (get slots.new slot ≡ None)) }
+    ensures len { slab_len slots.new + (to - from) ≡ slab_len slots.old }
     ensures capacity { slots.new.capacity ≡ slots.old.capacity }
 {
-    for slot in gone {
-        slots.remove(*slot);
+    for place in from..to {
+        slots.remove(order.at(place));
     }
 }
 

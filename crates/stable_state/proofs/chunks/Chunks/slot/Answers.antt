@@ -1,6 +1,5 @@
 use Rattle.std.proofs.Common.{◌≡◌, ◌+◌, ◌-◌, ◌<◌, [], length, take, get_or, ap, sym, ◌∙◌, arith}
 use Rattle.std.specs.List.{concat}
-use Rattle.std.proofs.lemmas.List.{get_or_default}
 use Rattle.stable_state.proofs.Parting.{slot_at}
 use Rattle.stable_state.proofs.Ends.{part_is, slots_few, in_lists}
 use Rattle.stable_state.proofs.chunks.Chunks.slot.Goals as goal
@@ -26,5 +25,4 @@ returns c =
     let sum : start + j ≡ c.args.place = omega (arith, begins) in
     let at : c.args.place - c.start.result ≡ j = omega (arith, c.start.ensures) in
     c.index-2.ensures ∙ ap (λ n. get_or list.items n c.index-2.result.now) at ∙ ap (λ xs. get_or xs j c.index-2.result.now) old
-    ∙ get_or_default (get_or parts k []) j c.index-2.result.now 0 inside
-    ∙ sym (slot_at parts k j 0 c.chunk_to-chunk.ensures.within inside) ∙ ap (λ n. get_or (concat parts) n 0) sum
+    ∙ sym (slot_at parts k j c.index-2.result.now c.chunk_to-chunk.ensures.within inside) ∙ ap (λ n. get_or (concat parts) n c.index-2.result.now) sum

@@ -3,7 +3,6 @@ use Rattle.std.specs.Prelude.{option_copied}
 use Rattle.std.proofs.lemmas.Option.{get_or_from_slice_get}
 use Rattle.causal_model.specs.Items.{is_at}
 use Rattle.stable_state.specs.Places.{is_before}
-use Rattle.stable_state.specs.Slots.{items_in}
 use Rattle.stable_state.proofs.Places.{point_moves, gap_is, gap_rises}
 use Rattle.stable_state.proofs.shelf.Shelf.find.Goals as goal
 use Rattle.stable_state.proofs.shelf.Shelf.find.Goals.{else-place-len-via-then-place-len+else-is_of, else-place-len-via-else-place-len}
@@ -15,8 +14,8 @@ returns-else-place-len-clause-absent c =
     let object = c.args.object.now in
     let value = option_copied c.args.value in
     let place = c.place_of-place.result in
-    let is = ap (items_in slots) c.as_slice.ensures.value ∙ ap (λ shelved. shelved.items) c.self.view_is in
-    let point = point_moves (is_before object value) slots c.as_slice.result.now items place is c.place_of-place.ensures.within c.place_of-place.ensures.place in
+    let is = ap (λ shelved. shelved.items) c.self.view_is in
+    let point = point_moves (is_before object value) slots c.self.inside.order.items items place is c.place_of-place.ensures.within c.place_of-place.ensures.place in
     gap_is object items c.len.ensures.rise value place point.0 point.1 (λ d within. elim c.else-place-len.branch [
       | else-place-len-via-then-place-len+else-is_of w ↦ ap (is_at object value) (get_or_from_slice_get items place w.at.result.now d w.at.ensures) ∙ sym w.is_of.ensures ∙ w.if-is_of.false
       | else-place-len-via-else-place-len w ↦ absurd (omega (arith, within))

@@ -3,7 +3,6 @@ use Rattle.std.specs.Prelude.{Some, vec_capacity}
 use Rattle.std.specs.List.{insert}
 use Rattle.std.proofs.lemmas.Bool.{both_ways}
 use Rattle.std.proofs.lemmas.List.{length-map}
-use Rattle.std.proofs.lemmas.List.Edits.{length-insert}
 use Rattle.std.proofs.lemmas.List.Elements.{Contains-append_left}
 use Rattle.causal_model.specs.Items.{Rise}
 use Rattle.slab.specs.Slab.{slab_len, Updates}
@@ -57,8 +56,8 @@ changes c =
 within : (c : goal.After-insert_reserved) → c.args.place ≤ length c.self.inside.order.items
 within c = omega (arith, c.requires.within, ap (λ shelved. length shelved.items) c.self.view_is, length-map c.self.inside.order.items (item_in c.self.inside.slots))
 
-order_is : (c : goal.After-insert_reserved) → c.put.new.list.items ≡ insert c.self.inside.order.items c.args.place c.vacant_key-slot.result
-order_is c = c.put.ensures.items ∙ ap (λ order. insert order.items c.args.place c.vacant_key-slot.result) (noted c).order
+order_is : (c : goal.After-insert_reserved) → c.insert.new.self.items ≡ insert c.self.inside.order.items c.args.place c.vacant_key-slot.result
+order_is c = c.insert.ensures.items ∙ ap (λ order. insert order.items c.args.place c.vacant_key-slot.result) (noted c).order
 
 pub invariant_of-self : goal.invariant_of-self
 invariant_of-self c =
@@ -101,10 +100,8 @@ returns-clause-spare c =
       c.insert_reserved.ensures.capacity,
       ap (λ slots. slab_len slots) n.slots,
       ap (λ slots. slots.capacity) n.slots,
-      c.put.ensures.capacity,
-      ap length (order_is c),
-      length-insert c.self.inside.order.items c.args.place c.vacant_key-slot.result (within c),
-      ap (λ order. vec_capacity order) n.order,
+      c.insert.ensures.spare,
+      ap (λ order. order.spare) n.order,
       n.room,
       n.len,
     )

@@ -1,8 +1,7 @@
-use Rattle.std.proofs.Common.{ap, subst, ◌∙◌}
+use Rattle.std.proofs.Common.{ap, subst}
 use Rattle.std.specs.Prelude.{None}
 use Rattle.causal_model.specs.Items.{Rise}
 use Rattle.stable_state.specs.Places.{is_before, is_up_to}
-use Rattle.stable_state.specs.Slots.{items_in}
 use Rattle.stable_state.proofs.Places.{point_moves, span_is}
 use Rattle.stable_state.proofs.shelf.Shelf.span.Goals as goal
 
@@ -12,6 +11,6 @@ returns c =
     let items = c.args.self.now.items in
     let object = c.args.object.now in
     let is = ap (λ shelved. shelved.items) c.self.view_is in
-    let first = point_moves (is_before object None) slots c.as_slice.result.now items c.place_of.result (ap (items_in slots) c.as_slice.ensures.value ∙ is) c.place_of.ensures.within c.place_of.ensures.place in
-    let last = point_moves (is_up_to object) slots c.as_slice-2.result.now items c.place_behind.result (ap (items_in slots) c.as_slice-2.ensures.value ∙ is) c.place_behind.ensures.within c.place_behind.ensures.place in
+    let first = point_moves (is_before object None) slots c.self.inside.order.items items c.place_of.result is c.place_of.ensures.within c.place_of.ensures.place in
+    let last = point_moves (is_up_to object) slots c.self.inside.order.items items c.place_behind.result is c.place_behind.ensures.within c.place_behind.ensures.place in
     span_is object items (subst Rise is c.self.invariant.rise) c.place_of.result c.place_behind.result first.0 last.0 first.1 last.1
