@@ -1,11 +1,12 @@
 -- Lemmas on the first place of a list where a test passes, and on the parts that it is cut into there.
-use Rattle.std.proofs.Common.{◌≡◌, ℕ, ◌+◌, ◌<◌, Bool, true, false, not, Some, None, List, [], ◌∷◌, length, take, drop, refl, arith, suc}
+use Rattle.std.proofs.Common.{◌≡◌, ℕ, ◌+◌, ◌<◌, Bool, true, false, not, Option, Some, None, List, [], ◌∷◌, length, take, drop, get_or, refl, arith, suc}
 use Rattle.std.specs.List.{slice_split, position_or_len, position}
 use Rattle.std.specs.Option.{unwrap_or}
 use Rattle.std.proofs.lemmas.Bool.Decides.{nat_tests}
 use Rattle.std.proofs.lemmas.Grind.{common_steps}
 use Rattle.std.proofs.lemmas.List.Splits.{slice_split_first, slice_split-cons_no}
-use Rattle.std.proofs.lemmas.List.Sums.{prefix_len-le-length}
+use Rattle.std.proofs.lemmas.List.Sums.{prefix_len-le-length, position_or_len_is}
+use Rattle.memchr.specs.Find.{IsFirstByte}
 
 pub place-no : (p : ℕ → Bool) (b : ℕ) (bs : List ℕ) → p b ≡ false → position_or_len p (b ∷ bs) ≡ suc (position_or_len p bs)
 place-no p b bs h = grind (arith, common_steps)
@@ -36,3 +37,22 @@ pub split_nowhere : (p : ℕ → Bool) (xs : List ℕ) → None ≡ position p x
 split_nowhere p xs h =
     let whole : position_or_len p xs ≡ length xs = grind (arith, common_steps, nat_tests, prefix_len-le-length (λ x. not (p x)) xs) in
     split_whole p xs whole
+
+-- a test that doesn't hold fails
+fails_there : (t : Bool) → (t ≡ true → ⊥) → t ≡ false
+fails_there true h = absurd (h refl)
+fails_there false h = refl
+
+-- what a search for the first byte that passes answers is its place
+pub place_found : (p : ℕ → Bool) (xs : List ℕ) (r : Option ℕ) → IsFirstByte p xs r → position_or_len p xs ≡ unwrap_or r (length xs)
+place_found p xs None h = position_or_len_is p xs (length xs) 0 (omega arith) (λ k below. fails_there (p (get_or xs k 0)) (h k (omega arith) below)) (λ below. absurd (omega arith))
+place_found p xs (Some at) h = position_or_len_is p xs at 0 (omega (arith, h.0.high)) (λ k below. fails_there (p (get_or xs k 0)) (h.0.before k (omega arith) below)) (λ below. h.1)
+
+pub position_found : (p : ℕ → Bool) (xs : List ℕ) (r : Option ℕ) → IsFirstByte p xs r → r ≡ position p xs
+position_found p xs None h =
+    let whole : position_or_len p xs ≡ length xs = place_found p xs None h in
+    grind (arith, nat_tests)
+position_found p xs (Some at) h =
+    let there : position_or_len p xs ≡ at = place_found p xs (Some at) h in
+    let within : at < length xs = omega (arith, h.0.high) in
+    grind (arith, nat_tests)

@@ -8,7 +8,7 @@ ghost use Rattle.script_lang.specs.Ranges.{IsWithin, LineIsWithin};
 use crate::act::read_update;
 use crate::fault::{Fault, MOST_LINE_BYTES};
 use crate::name::{read_amount, read_hex, read_member, read_object};
-use crate::word::{is_passed_over, split};
+use crate::word::{MOST_WORDS, find_words, is_passed_over};
 use op_base::{ByteList, ObjectId, Update};
 use std::alloc::Global;
 
@@ -109,7 +109,9 @@ fn read_command(alloc: Global, line: &[u8], n: u8) -> Result<Command, Fault>
     if line.len() > MOST_LINE_BYTES {
         return Err(Fault::TooLong);
     }
-    read_words(alloc, split(line).as_slice(), n)
+    let mut parts = [&line[..0]; MOST_WORDS];
+    let count = find_words(line, &mut parts);
+    read_words(alloc, &parts[..count], n)
 }
 
 /// The verb whose word this is.

@@ -1,12 +1,17 @@
 //! Words of a line: the runs of bytes between spaces and tabs.
 
 ghost use Rattle.std.specs.Prelude.{◌≡◌, ◌≤◌, ◌<◌, IfSome, [], ◌∷◌, length, take, map, MatchOption, not};
-ghost use Rattle.std.specs.List.{position};
+ghost use Rattle.std.specs.List.{position, position_or_len};
 ghost use Rattle.op_base.specs.Name.{same_text};
 ghost use Rattle.script_lang.specs.Words.{is_blank, words_of, is_passed_over, IsNotBlank};
 
+use memchr::memchr2;
+
 /// So many words of a line are looked at: one more than the longest line that means something has.
-const MOST_WORDS: usize = 7;
+pub const MOST_WORDS: usize = 7;
+
+/// A line of at most so many bytes is read byte by byte. A longer one has long words.
+const MOST_SHORT: usize = 64;
 
 /// The first words of a line, at most seven.
 #[derive(Clone, Copy)]
@@ -30,11 +35,12 @@ fn first_letter(line: &[u8]) -> Option<usize>
     line.iter().position(|b| !is_blank(*b))
 }
 
-/// The place of a line's first blank.
-fn first_blank(line: &[u8]) -> Option<usize>
-    ensures { result ≡ position is_blank line.now }
+/// The place of a line's first blank, or the line's length.
+fn first_blank(line: &[u8]) -> usize
+    ensures place { result ≡ position_or_len is_blank line.now }
+    ensures within { result ≤ length line.now }
 {
-    line.iter().position(|b| is_blank(*b))
+    memchr2(b' ', b'\t', line).unwrap_or(line.len())
 }
 
 /// The line from its first byte on that isn't blank.
@@ -56,15 +62,69 @@ fn next_word(line: &[u8]) -> Option<(&[u8], &[u8])>
     if line.is_empty() {
         return None;
     }
-    Some(line.split_at(first_blank(line).unwrap_or(line.len())))
+    Some(line.split_at(first_blank(line)))
 }
 
 /// The first words of a line, at most seven. Nothing behind them is looked at.
 pub fn split(line: &[u8]) -> Words<'_>
     ensures { map (λ word. word.now) (take result.count result.parts) ≡ take 7 (words_of line.now) }
 {
-    let mut count = 0;
     let mut parts = [&line[..0]; MOST_WORDS];
+    let count = find_words(line, &mut parts);
+    Words { count, parts }
+}
+
+/// Puts the first words of a line into places, at most seven, and tells how many there are.
+pub fn find_words<'a>(line: &'a [u8], parts: &mut [&'a [u8]; MOST_WORDS]) -> usize
+    ensures few { result ≤ 7 }
+    ensures places { length parts.new ≡ 7 }
+    ensures words { map (λ word. word.now) (take result parts.new) ≡ take 7 (words_of line.now) }
+{
+    if line.len() <= MOST_SHORT {
+        short_words(line, parts)
+    } else {
+        long_words(line, parts)
+    }
+}
+
+/// The same in one loop over the bytes.
+fn short_words<'a>(line: &'a [u8], parts: &mut [&'a [u8]; MOST_WORDS]) -> usize
+    ensures few { result ≤ 7 }
+    ensures places { length parts.new ≡ 7 }
+    ensures words { map (λ word. word.now) (take result parts.new) ≡ take 7 (words_of line.now) }
+{
+    let mut count = 0;
+    let mut start = 0;
+    for (at, b) in line.iter().enumerate() {
+        // One comparison tells of most bytes that they are in a word.
+        if *b > b' ' || !is_blank(*b) {
+            continue;
+        }
+        if start == at {
+            start = at + 1;
+            continue;
+        }
+        parts[count] = &line[start..at];
+        count += 1;
+        if count == MOST_WORDS {
+            return count;
+        }
+        start = at + 1;
+    }
+    if start == line.len() {
+        return count;
+    }
+    parts[count] = &line[start..];
+    count + 1
+}
+
+/// The same, a search for each blank behind a word.
+fn long_words<'a>(line: &'a [u8], parts: &mut [&'a [u8]; MOST_WORDS]) -> usize
+    ensures few { result ≤ 7 }
+    ensures places { length parts.new ≡ 7 }
+    ensures words { map (λ word. word.now) (take result parts.new) ≡ take 7 (words_of line.now) }
+{
+    let mut count = 0;
     let mut rest = line;
     while count < MOST_WORDS
         && let Some((word, after)) = next_word(rest)
@@ -73,7 +133,7 @@ pub fn split(line: &[u8]) -> Words<'_>
         count += 1;
         rest = after;
     }
-    Words { count, parts }
+    count
 }
 
 impl<'a> Words<'a> {

@@ -1,6 +1,6 @@
 use Rattle.std.proofs.Common.{◌≡◌, ◌++◌, ◌≤◌, length, map, take}
 use Rattle.script_lang.specs.Words.{words_of}
-use Rattle.script_lang.proofs.word.split.Given as goal
+use Rattle.script_lang.proofs.word.long_words.Given as goal
 
 abbrev pub invariant-loop-count : goal.invariant-loop-count
 invariant-loop-count l = record {
