@@ -1,5 +1,6 @@
 pub mod Places
 pub mod WordLemmas
+pub mod Scan
 pub mod FirstWords
 pub mod SevenWords
 pub mod Counts

@@ -97,19 +97,16 @@ fn short_words<'a>(line: &'a [u8], parts: &mut [&'a [u8]; MOST_WORDS]) -> usize
     let mut start = 0;
     for (at, b) in line.iter().enumerate() {
         // One comparison tells of most bytes that they are in a word.
-        if *b > b' ' || !is_blank(*b) {
-            continue;
-        }
-        if start == at {
+        if *b <= b' ' && is_blank(*b) {
+            if start < at {
+                parts[count] = &line[start..at];
+                count += 1;
+                if count == MOST_WORDS {
+                    return count;
+                }
+            }
             start = at + 1;
-            continue;
         }
-        parts[count] = &line[start..at];
-        count += 1;
-        if count == MOST_WORDS {
-            return count;
-        }
-        start = at + 1;
     }
     if start == line.len() {
         return count;
@@ -119,6 +116,7 @@ fn short_words<'a>(line: &'a [u8], parts: &mut [&'a [u8]; MOST_WORDS]) -> usize
 }
 
 /// The same, a search for each blank behind a word.
+#[inline(never)]
 fn long_words<'a>(line: &'a [u8], parts: &mut [&'a [u8]; MOST_WORDS]) -> usize
     ensures few { result ≤ 7 }
     ensures places { length parts.new ≡ 7 }
