@@ -5,6 +5,8 @@ ghost use Rattle.std.specs.List.{position, slice_split};
 ghost use Rattle.std.specs.Str.Lines.{strip_carriage_return};
 ghost use Rattle.script_net.specs.Lines.{is_newline};
 
+use memchr::memchr;
+
 /// A line, without its end.
 pub fn without_return(line: &[u8]) -> &[u8]
     ensures { result.now ≡ strip_carriage_return line.now }
@@ -19,7 +21,7 @@ pub fn without_return(line: &[u8]) -> &[u8]
 fn first_newline(bytes: &[u8]) -> Option<usize>
     ensures { result ≡ position is_newline bytes.now }
 {
-    bytes.iter().position(|b| *b == b'\n')
+    memchr(b'\n', bytes)
 }
 
 /// The bytes in front of the first newline and those behind it, where there is one.
