@@ -1,5 +1,5 @@
 -- The commands of a script. Each `..._words` is the command of the words behind its first.
-use Rattle.std.specs.Prelude.{◌≡◌, ◌⊎◌, ℕ, nat_lt, List, [], ◌∷◌, length, Result, Ok, Err, Option, Some, None, codes, if◌then◌else◌}
+use Rattle.std.specs.Prelude.{◌≡◌, ◌⊎◌, ℕ, Bool, true, false, nat_lt, List, [], ◌∷◌, length, Result, Ok, Err, Option, Some, None, codes, if◌then◌else◌}
 use Rattle.op_base.specs.Name.{same_text}
 use Rattle.script_lang.specs.Words.{words_of, is_passed_over}
 use Rattle.script_lang.specs.Fault.{◌>>=◌, most_line_bytes, number_of_fault}
@@ -66,6 +66,22 @@ settle_words words = Err fault.Words
 abbrev pub lone_member : ℕ → List (List ℕ) → Result ℕ Fault
 lone_member n (r ∷ []) = member_of n r
 lone_member n words = Err fault.Words
+
+-- whether a verb has a member behind it and nothing else
+abbrev pub has_lone_member : Verb → Bool
+has_lone_member verbs.Do = false
+has_lone_member verbs.Ask = false
+has_lone_member verbs.Beat = true
+has_lone_member verbs.Give = false
+has_lone_member verbs.Resend = false
+has_lone_member verbs.Raw = false
+has_lone_member verbs.Settle = false
+has_lone_member verbs.Log = true
+has_lone_member verbs.Size = true
+has_lone_member verbs.Stable = true
+has_lone_member verbs.Seen = true
+has_lone_member verbs.Noops = true
+has_lone_member verbs.Lags = true
 
 -- the word of a verb
 abbrev pub verb_word : Verb → List ℕ

@@ -1,7 +1,7 @@
 //! The commands of a script.
 
 ghost use Rattle.std.specs.Prelude.{◌≡◌, ◌<◌, IfOk, IsTrue, map, option_copied};
-ghost use Rattle.script_lang.specs.Commands.{do_command, do_words, ask_command, ask_words, give_command, give_words, resend_command, resend_words, raw_command, raw_words, settle_words, lone_member, verb_of, verb_words, command_words, command_of, line_of, bad_line, IsLineOrNoMemory};
+ghost use Rattle.script_lang.specs.Commands.{do_command, do_words, ask_command, ask_words, give_command, give_words, resend_command, resend_words, raw_command, raw_words, settle_words, has_lone_member, lone_member, verb_of, verb_words, command_words, command_of, line_of, bad_line, IsLineOrNoMemory};
 ghost use Rattle.script_lang.specs.Memory.{Reads, IsAmple, keeps, line_takes_memory};
 ghost use Rattle.script_lang.specs.Ranges.{IsWithin, LineIsWithin};
 
@@ -160,31 +160,39 @@ fn read_arguments(alloc: Global, verb: Verb, words: &[&[u8]], n: u8) -> Result<C
     match verb {
         Verb::Do => read_do(alloc, n, words),
         Verb::Ask => read_ask(alloc, n, words),
-        Verb::Beat => Ok(Command::Beat {
-            r: read_lone_member(n, words)?,
-        }),
+        Verb::Beat => read_lone(n, Verb::Beat, words),
         Verb::Give => read_give(n, words),
         Verb::Resend => read_resend(n, words),
         Verb::Raw => read_raw(alloc, n, words),
         Verb::Settle => read_settle(words),
-        Verb::Log => Ok(Command::Log {
-            r: read_lone_member(n, words)?,
-        }),
-        Verb::Size => Ok(Command::Size {
-            r: read_lone_member(n, words)?,
-        }),
-        Verb::Stable => Ok(Command::Stable {
-            r: read_lone_member(n, words)?,
-        }),
-        Verb::Seen => Ok(Command::Seen {
-            r: read_lone_member(n, words)?,
-        }),
-        Verb::Noops => Ok(Command::Noops {
-            r: read_lone_member(n, words)?,
-        }),
-        Verb::Lags => Ok(Command::Lags {
-            r: read_lone_member(n, words)?,
-        }),
+        Verb::Log => read_lone(n, Verb::Log, words),
+        Verb::Size => read_lone(n, Verb::Size, words),
+        Verb::Stable => read_lone(n, Verb::Stable, words),
+        Verb::Seen => read_lone(n, Verb::Seen, words),
+        Verb::Noops => read_lone(n, Verb::Noops, words),
+        Verb::Lags => read_lone(n, Verb::Lags, words),
+    }
+}
+
+/// The words behind a verb that has a member alone.
+#[inline(never)]
+fn read_lone(n: u8, verb: Verb, words: &[&[u8]]) -> Result<Command, Fault>
+    requires { IsTrue (has_lone_member verb) }
+    ensures command { result ≡ verb_words n verb (map (λ word. word.now) words.now) }
+    ensures within { IfOk result (IsWithin n) }
+{
+    let r = read_lone_member(n, words)?;
+    match verb {
+        Verb::Beat => Ok(Command::Beat { r }),
+        Verb::Log => Ok(Command::Log { r }),
+        Verb::Size => Ok(Command::Size { r }),
+        Verb::Stable => Ok(Command::Stable { r }),
+        Verb::Seen => Ok(Command::Seen { r }),
+        Verb::Noops => Ok(Command::Noops { r }),
+        Verb::Lags => Ok(Command::Lags { r }),
+        Verb::Do | Verb::Ask | Verb::Give | Verb::Resend | Verb::Raw | Verb::Settle => {
+            unreachable!()
+        }
     }
 }
 
@@ -243,6 +251,7 @@ fn ask_command(alloc: Global, n: u8, r: &[u8], object: &[u8]) -> Result<Command,
 }
 
 /// The words behind `give`.
+#[inline(never)]
 fn read_give(n: u8, words: &[&[u8]]) -> Result<Command, Fault>
     ensures command { result ≡ give_words n (map (λ word. word.now) words.now) }
     ensures within { IfOk result (IsWithin n) }
@@ -265,6 +274,7 @@ fn give_command(n: u8, r: &[u8], k: &[u8], s: &[u8]) -> Result<Command, Fault>
 }
 
 /// The words behind `resend`.
+#[inline(never)]
 fn read_resend(n: u8, words: &[&[u8]]) -> Result<Command, Fault>
     ensures command { result ≡ resend_words n (map (λ word. word.now) words.now) }
     ensures within { IfOk result (IsWithin n) }
@@ -286,6 +296,7 @@ fn resend_command(n: u8, r: &[u8], k: &[u8]) -> Result<Command, Fault>
 }
 
 /// The words behind `raw`.
+#[inline(never)]
 fn read_raw(alloc: Global, n: u8, words: &[&[u8]]) -> Result<Command, Fault>
     ensures command { Reads (raw_words n (map (λ word. word.now) words.now)) result }
     ensures ample { IsAmple keeps (raw_words n (map (λ word. word.now) words.now)) result }
@@ -308,6 +319,7 @@ fn raw_command(alloc: Global, n: u8, r: &[u8], hex: &[u8]) -> Result<Command, Fa
 }
 
 /// The words behind `settle`.
+#[inline(never)]
 fn read_settle(words: &[&[u8]]) -> Result<Command, Fault>
     ensures { result ≡ settle_words (map (λ word. word.now) words.now) }
 {
