@@ -4,7 +4,7 @@ ghost use Rattle.std.specs.Prelude.{◌≡◌, ◌++◌, ◌∷◌, [], length, 
 ghost use Rattle.std.specs.Fmt.{decimal};
 ghost use Rattle.script_lang.specs.Replies.{joined, spaced, answer_words, reply_words, reply_line, HasItsEntries};
 
-use crate::listed::{put_all, put_spaced_number};
+use crate::listed::{put_all, put_number, put_spaced_number};
 use op_base::{Answer, IdList, NoMemory, StepList, Tag, Text};
 
 /// What is replied to a command line.
@@ -90,7 +90,7 @@ fn put_words(reply: &Reply, out: &mut Text) -> Result<(), NoMemory>
     ensures err { OnErr result (take (length out.old) out.new ≡ out.old) }
 {
     match reply {
-        Reply::Sent(number) => put_numbered(b"ok", *number, out),
+        Reply::Sent(number) => put_numbered(b"ok ", *number, out),
         Reply::Busy => out.extend_from_slice(b"busy"),
         Reply::End => out.extend_from_slice(b"end"),
         Reply::Quiet => out.extend_from_slice(b"quiet"),
@@ -106,7 +106,7 @@ fn put_words(reply: &Reply, out: &mut Text) -> Result<(), NoMemory>
             put_all(steps.as_slice(), out)
         }
         Reply::Nothing => out.extend_from_slice(b"none"),
-        Reply::BadFrame(fault) => put_numbered(b"bad frame", u32::from(*fault), out),
+        Reply::BadFrame(fault) => put_numbered(b"bad frame ", u32::from(*fault), out),
         Reply::Settled => out.extend_from_slice(b"settled"),
         Reply::Unsettled => out.extend_from_slice(b"unsettled"),
         Reply::Log(ids) => {
@@ -116,20 +116,20 @@ fn put_words(reply: &Reply, out: &mut Text) -> Result<(), NoMemory>
         Reply::Size { entries, items } => put_size(*entries, *items, out),
         Reply::Stable { n, tag } => put_numbers(b"stable", *n, tag, out),
         Reply::Seen { n, tag } => put_numbers(b"seen", *n, tag, out),
-        Reply::Noops(count) => put_numbered(b"noops", *count, out),
-        Reply::Lags(Some(member)) => put_numbered(b"lags", u32::from(*member), out),
+        Reply::Noops(count) => put_numbered(b"noops ", *count, out),
+        Reply::Lags(Some(member)) => put_numbered(b"lags ", u32::from(*member), out),
         Reply::Lags(None) => out.extend_from_slice(b"lags none"),
-        Reply::Bad(fault) => put_numbered(b"bad", u32::from(*fault), out),
+        Reply::Bad(fault) => put_numbered(b"bad ", u32::from(*fault), out),
     }
 }
 
-/// Puts words, and a number behind a space.
+/// Puts words with a space at their end, and a number.
 fn put_numbered(words: &[u8], number: u32, out: &mut Text) -> Result<(), NoMemory>
-    ensures ok { OnOk result (out.new ≡ out.old ++ (words.now ++ spaced (decimal number ∷ []))) }
+    ensures ok { OnOk result (out.new ≡ out.old ++ (words.now ++ decimal number)) }
     ensures err { OnErr result (take (length out.old) out.new ≡ out.old) }
 {
     out.extend_from_slice(words)?;
-    put_spaced_number(number, out)
+    put_number(number, out)
 }
 
 /// Puts the size of a replica: how many messages are kept, and how many items are settled.
