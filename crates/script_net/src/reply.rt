@@ -9,33 +9,116 @@ ghost use Rattle.script_net.specs.Commands.{command_at, local_reply, beat_reply,
 ghost use Rattle.script_net.specs.Replied.{Told, IsReply, HaveNumbers};
 ghost use Rattle.causal_model.specs.Sending.{local_messages, beat_messages};
 
-use op_base::NoMemory;
+use op_base::{ByteList, NoMemory, ObjectId, Update};
 use replica_core::{Beat, Local, Receive};
 use script_lang::{Command, Reply};
 use std::alloc::Global;
 use world::{Given, RawGot, Resent, Settle, World};
 
 /// Runs a command. On `NoMemory` nothing is replied, and the world may stand in the midst of the command.
+///
+/// Each command has a function of its own, so that none pays for what another has in its frame.
 pub fn reply_to(alloc: Global, world: &mut World, command: &Command) -> Result<Reply, NoMemory>
     requires { IsWithin (length world.old.nodes.items) command.now }
     ensures told { (plain : PlainWorld) → ShowsPlain world.old plain → Told plain command.now result world.new }
     ensures entries { IfOk result HasItsEntries }
 {
     match command {
-        Command::Do { r, update } => local_reply(world.local(alloc, *r, update)),
-        Command::Ask { r, object } => Ok(Reply::Is(world.answer(alloc, *r, object)?)),
-        Command::Beat { r } => beat_reply(world.beat(alloc, *r)),
-        Command::Give { r, k, s } => given_reply(world.give(alloc, *r, *k, *s)),
-        Command::Resend { r, k } => resent_reply(world.resend(alloc, *r, *k)),
-        Command::Raw { r, bytes } => raw_reply(world.raw(alloc, *r, bytes.as_slice())),
-        Command::Settle => settle_reply(world.settle(alloc)),
-        Command::Log { r } => Ok(Reply::Log(world.kept(alloc, *r)?)),
+        Command::Do { r, update } => send(alloc, world, *r, update),
+        Command::Ask { r, object } => ask(alloc, world, *r, object),
+        Command::Beat { r } => send_noop(alloc, world, *r),
+        Command::Give { r, k, s } => give(alloc, world, *r, *k, *s),
+        Command::Resend { r, k } => resend(alloc, world, *r, *k),
+        Command::Raw { r, bytes } => offer_bytes(alloc, world, *r, bytes),
+        Command::Settle => settle(alloc, world),
+        Command::Log { r } => list_log(alloc, world, *r),
         Command::Size { r } => Ok(size_reply(world, *r)),
         Command::Stable { r } => Ok(stable_reply(world, *r)),
         Command::Seen { r } => Ok(seen_reply(world, *r)),
         Command::Noops { r } => Ok(Reply::Noops(world.noops(*r))),
         Command::Lags { r } => Ok(Reply::Lags(world.lags(*r))),
     }
+}
+
+/// Replica `r` sends an update.
+#[inline(never)]
+fn send(alloc: Global, world: &mut World, r: u8, update: &Update) -> Result<Reply, NoMemory>
+    requires { r < length world.old.nodes.items }
+    ensures told { (plain : PlainWorld) → ShowsPlain world.old plain → Told plain (Command.Do r update.now) result world.new }
+    ensures entries { IfOk result HasItsEntries }
+{
+    local_reply(&world.local(alloc, r, update))
+}
+
+/// Replica `r` answers what an object is.
+#[inline(never)]
+fn ask(alloc: Global, world: &World, r: u8, object: &ObjectId) -> Result<Reply, NoMemory>
+    requires { r < length world.now.nodes.items }
+    ensures told { (plain : PlainWorld) → ShowsPlain world.now plain → Told plain (Command.Ask r object.now) result world.now }
+    ensures entries { IfOk result HasItsEntries }
+{
+    Ok(Reply::Is(world.answer(alloc, r, object)?))
+}
+
+/// Replica `r` sends a no-op where one is due.
+#[inline(never)]
+fn send_noop(alloc: Global, world: &mut World, r: u8) -> Result<Reply, NoMemory>
+    requires { r < length world.old.nodes.items }
+    ensures told { (plain : PlainWorld) → ShowsPlain world.old plain → Told plain (Command.Beat r) result world.new }
+    ensures entries { IfOk result HasItsEntries }
+{
+    beat_reply(&world.beat(alloc, r))
+}
+
+/// Replica `r` receives message `s` of replica `k`.
+#[inline(never)]
+fn give(alloc: Global, world: &mut World, r: u8, k: u8, s: u32) -> Result<Reply, NoMemory>
+    requires from { k < length world.old.nodes.items }
+    requires to { r < length world.old.nodes.items }
+    ensures told { (plain : PlainWorld) → ShowsPlain world.old plain → Told plain (Command.Give r k s) result world.new }
+    ensures entries { IfOk result HasItsEntries }
+{
+    given_reply(world.give(alloc, r, k, s))
+}
+
+/// Replica `r` receives what replica `k` has in its outbox.
+#[inline(never)]
+fn resend(alloc: Global, world: &mut World, r: u8, k: u8) -> Result<Reply, NoMemory>
+    requires from { k < length world.old.nodes.items }
+    requires to { r < length world.old.nodes.items }
+    ensures told { (plain : PlainWorld) → ShowsPlain world.old plain → Told plain (Command.Resend r k) result world.new }
+    ensures entries { IfOk result HasItsEntries }
+{
+    resent_reply(world.resend(alloc, r, k))
+}
+
+/// Replica `r` receives the bytes of a frame.
+#[inline(never)]
+fn offer_bytes(alloc: Global, world: &mut World, r: u8, bytes: &ByteList) -> Result<Reply, NoMemory>
+    requires { r < length world.old.nodes.items }
+    ensures told { (plain : PlainWorld) → ShowsPlain world.old plain → Told plain (Command.Raw r bytes.now) result world.new }
+    ensures entries { IfOk result HasItsEntries }
+{
+    raw_reply(world.raw(alloc, r, bytes.as_slice()))
+}
+
+/// All replicas exchange what they have until nothing moves.
+#[inline(never)]
+fn settle(alloc: Global, world: &mut World) -> Result<Reply, NoMemory>
+    ensures told { (plain : PlainWorld) → ShowsPlain world.old plain → Told plain Command.Settle result world.new }
+    ensures entries { IfOk result HasItsEntries }
+{
+    settle_reply(world.settle(alloc))
+}
+
+/// The ids of replica `r`'s log.
+#[inline(never)]
+fn list_log(alloc: Global, world: &World, r: u8) -> Result<Reply, NoMemory>
+    requires { r < length world.now.nodes.items }
+    ensures told { (plain : PlainWorld) → ShowsPlain world.now plain → Told plain (Command.Log r) result world.now }
+    ensures entries { IfOk result HasItsEntries }
+{
+    Ok(Reply::Log(world.kept(alloc, r)?))
 }
 
 /// How much replica `r` keeps.
@@ -81,9 +164,9 @@ pub fn members(world: &World) -> u8
 }
 
 /// The reply to what was sent.
-fn local_reply(answer: Local) -> Result<Reply, NoMemory>
-    requires { HaveNumbers (local_messages answer) }
-    ensures told { IsReply (local_reply answer) result }
+fn local_reply(answer: &Local) -> Result<Reply, NoMemory>
+    requires { HaveNumbers (local_messages answer.now) }
+    ensures told { IsReply (local_reply answer.now) result }
     ensures entries { IfOk result HasItsEntries }
 {
     match answer {
@@ -95,9 +178,9 @@ fn local_reply(answer: Local) -> Result<Reply, NoMemory>
 }
 
 /// The reply to a beat.
-fn beat_reply(answer: Beat) -> Result<Reply, NoMemory>
-    requires { HaveNumbers (beat_messages answer) }
-    ensures told { IsReply (beat_reply answer) result }
+fn beat_reply(answer: &Beat) -> Result<Reply, NoMemory>
+    requires { HaveNumbers (beat_messages answer.now) }
+    ensures told { IsReply (beat_reply answer.now) result }
     ensures entries { IfOk result HasItsEntries }
 {
     match answer {

@@ -1,15 +1,17 @@
 //! The run of a script's lines on a world.
 
-ghost use Rattle.std.specs.Prelude.{◌≡◌, ◌↔◌, ◌++◌, false, IfOk, OnOk, OnErr, IsErr, IsErrOf};
+ghost use Rattle.std.specs.Prelude.{◌≡◌, ◌↔◌, ◌++◌, false, length, IfOk, OnOk, OnErr, IsErr, IsErrOf};
 ghost use Rattle.replica_core.specs.Numbers.{are_numbers};
 ghost use Rattle.world_model.specs.World.{PlainWorld, opening};
 ghost use Rattle.world.specs.Answers.{ShowsPlain};
-ghost use Rattle.script_net.specs.Transcript.{text_of_line, world_of_line};
+ghost use Rattle.script_lang.specs.Ranges.{IsWithin};
+ghost use Rattle.script_net.specs.Commands.{command_at};
+ghost use Rattle.script_net.specs.Transcript.{reply_text, text_of_line, world_of_line};
 
 use crate::reply::{members, reply_to};
 use op_base::{NoMemory, Text};
 use replica_core::CreateFault;
-use script_lang::{Line, Reply, put_reply, read_line};
+use script_lang::{Command, Line, Reply, put_reply, read_line};
 use std::alloc::Global;
 use world::World;
 
@@ -63,10 +65,27 @@ fn run_line(alloc: Global, world: &mut World, line: &[u8], out: &mut Text) -> Re
     match read_line(alloc, line, members(world)) {
         Line::Skip => Ok(()),
         Line::Bad(fault) => put_reply(&Reply::Bad(fault), out),
-        Line::Run(command) => {
-            let reply = reply_to(alloc, world, &command)?;
-            put_reply(&reply, out)
-        }
+        Line::Run(command) => run_command(alloc, world, &command, out),
         Line::NoMemory => Err(NoMemory),
+    }
+}
+
+/// Runs a command on a world, and puts the line of its reply. On `NoMemory` it is as above.
+#[inline(never)]
+fn run_command(
+    alloc: Global,
+    world: &mut World,
+    command: &Command,
+    out: &mut Text,
+) -> Result<(), NoMemory>
+    requires { IsWithin (length world.old.nodes.items) command.now }
+    ensures text { (plain : PlainWorld) → ShowsPlain world.old plain → OnOk result (out.new ≡ out.old ++ reply_text (command_at command.now plain).0) }
+    ensures world { (plain : PlainWorld) → ShowsPlain world.old plain → OnOk result (ShowsPlain world.new (command_at command.now plain).1) }
+    ensures err { OnErr result (out.new ≡ out.old) }
+{
+    let replied = reply_to(alloc, world, command);
+    match &replied {
+        Ok(reply) => put_reply(reply, out),
+        Err(NoMemory) => Err(NoMemory),
     }
 }
