@@ -1,5 +1,5 @@
 -- Objects in their one order, and the place at which a test of rising entries turns.
-use Rattle.std.proofs.Common.{◌≡◌, ℕ, ◌<◌, ◌≤◌, zero, suc, Bool, true, false, List, [], ◌∷◌, length, take, drop, get_or, refl, sym, ap, subst, ◌∙◌, arith}
+use Rattle.std.proofs.Common.{◌≡◌, ℕ, ◌+◌, ◌<◌, ◌≤◌, zero, suc, Bool, true, false, List, [], ◌∷◌, length, take, drop, get_or, refl, sym, ap, subst, ◌∙◌, arith}
 use Rattle.std.specs.declared.cmp.Ordering.{Ordering}
 use Rattle.std.specs.declared.cmp.Ordering.TheVariants.{Less, Equal, Greater}
 use Rattle.std.specs.Prelude.{None}
@@ -35,6 +35,12 @@ module _ {A : Type 0} where
   each-drop P (x ∷ xs) zero at = (at 0 x (omega arith) (omega arith), each-drop P xs zero (λ k d l m. at (suc k) d (omega arith) (omega (arith, m))))
   each-drop P (x ∷ xs) (suc i) at = each-drop P xs i (λ k d l m. at (suc k) d (omega (arith, l)) (omega (arith, m)))
 
+  -- within a list what stands past its end makes no difference
+  pub get-other : (xs : List A) (i : ℕ) (d e : A) → i < length xs → get_or xs i d ≡ get_or xs i e
+  get-other [] i d e l = absurd (omega (arith, l))
+  get-other (x ∷ xs) zero d e l = refl
+  get-other (x ∷ xs) (suc i) d e l = get-other xs i d e (omega (arith, l))
+
   -- where each later item that passes makes each earlier one pass, no item that passes comes after one that fails
   pub passes-first : (p : A → Bool) (xs : List A) → Pairwise (λ a b. p b ≡ true → p a ≡ true) xs → (i j : ℕ) (d : A) → i ≤ j → j < length xs → p (get_or xs j d) ≡ true → p (get_or xs i d) ≡ true
   passes-first p [] pairs i j d l m up = absurd (omega (arith, m))
@@ -42,6 +48,21 @@ module _ {A : Type 0} where
   passes-first p (x ∷ xs) pairs zero (suc j) d l m up = each-at (λ y. p y ≡ true → p x ≡ true) xs pairs.0 j d (omega (arith, m)) up
   passes-first p (x ∷ xs) pairs (suc i) zero d l m up = absurd (omega (arith, l))
   passes-first p (x ∷ xs) pairs (suc i) (suc j) d l m up = passes-first p xs pairs.1 i j d (omega (arith, l)) (omega (arith, m)) up
+
+  -- where the item before a place passes and the one at it fails, those before pass and those from it on fail
+  pub passes-before : (p : A → Bool) (xs : List A) → Pairwise (λ a b. p b ≡ true → p a ≡ true) xs → (at j : ℕ) (d : A) → at ≤ j + 1 → j < length xs → p (get_or xs j d) ≡ true
+      → Each (λ x. p x ≡ true) (take at xs)
+  passes-before p xs pairs at j d l m up =
+      each-take (λ x. p x ≡ true) xs at (λ k e below inside. passes-first p xs pairs k j e (omega (arith, l, below)) m (ap p (get-other xs j e d m) ∙ up))
+
+  pub fails-from : (p : A → Bool) (xs : List A) → Pairwise (λ a b. p b ≡ true → p a ≡ true) xs → (at : ℕ) (d : A) → (at < length xs → p (get_or xs at d) ≡ false)
+      → Each (λ x. p x ≡ false) (drop at xs)
+  fails-from p xs pairs at d fails =
+      each-drop (λ x. p x ≡ false) xs at (λ k e above inside. fails-at k e above inside (p (get_or xs k e)) refl) where
+        fails-at : (k : ℕ) (e : A) → at ≤ k → k < length xs → (b : Bool) → p (get_or xs k e) ≡ b → p (get_or xs k e) ≡ false
+        fails-at k e above inside true up =
+            absurd (false≢true (sym (fails (omega (arith, above, inside))) ∙ ap p (get-other xs at d e (omega (arith, above, inside))) ∙ passes-first p xs pairs at k e above inside up))
+        fails-at k e above inside false down = down
 
 -- ---- objects
 

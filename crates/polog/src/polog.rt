@@ -33,6 +33,9 @@ pub struct Polog {
     rows: Rows,
     /// What was stripped and waits to be handed out, the last to arrive first.
     leaving: Vec<(u64, Entry)>,
+    /// From which place on and up to which place the entries stood of the object that was asked for last. A search tries
+    /// these places first.
+    last: (usize, usize),
 }
 
 impl Model for Polog {
@@ -64,6 +67,7 @@ impl Polog {
             next: 0,
             rows: Rows::create(alloc, room)?,
             leaving: Vec::with_capacity(alloc, room)?,
+            last: (0, 0),
         })
     }
 
@@ -83,8 +87,8 @@ impl Polog {
         ensures pruned { KeepsPruned (T.covers rule.now) message.now self.old self.new }
     {
         if let Op::Update(update) = &message.op {
-            let (from, to) = span_of(self.rows.entries(), &update.object);
-            prune_span(&mut self.rows, from, to, message, rule);
+            let (from, to) = span_of(self.rows.entries(), &update.object, self.last);
+            self.last = (from, prune_span(&mut self.rows, from, to, message, rule));
         }
     }
 
@@ -97,9 +101,10 @@ impl Polog {
         // where the log was pruned for the entry's message, the message is in it
         ensures logged { KeepsLogged entry self.old self.new }
     {
-        let at = count_through(self.rows.entries(), &entry.update.object);
+        let at = count_through(self.rows.entries(), &entry.update.object, self.last.1);
         self.rows.insert(at, self.next, entry);
         self.next += 1;
+        self.last.1 = at + 1;
     }
 
     /// Takes out all entries that are stable where these are the stable counts, in one pass and one move of what stays. They
@@ -158,7 +163,7 @@ impl Polog {
         // of a log of what a member delivered they are those of the object in it
         ensures of { AreLoggedOf object.now self.now result.now }
     {
-        span(self.rows.entries(), object)
+        span(self.rows.entries(), object, self.last)
     }
 
     /// Every entry once, side by side by object in the order of objects, and those of one object in history order.

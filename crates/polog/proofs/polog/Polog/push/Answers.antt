@@ -31,7 +31,7 @@ insert-requires-clause-room c =
     let room : c.self.inside.rows.room ≡ c.args.self.now.room = ap (λ log. log.room) c.self.view_is in
     omega (arith, c.requires.room, length-arrived rows, seen, room)
 
-module _ (c : goal.After-self-1) where
+module _ (c : goal.After-self-2-1) where
   laid : IsLaid c.self.inside.n (c.self.inside.next + 1) (insert c.self.inside.rows.rows c.count_through-at.result (c.self.inside.next, c.args.entry))
   laid = laid-more c.self.inside.n c.self.inside.next c.count_through-at.result c.self.inside.rows.rows c.args.entry c.self.invariant.0
       (subst (λ xs. Each (λ f. is_le (object_cmp f.update.object c.args.entry.update.object) ≡ true) (take c.count_through-at.result xs)) c.entries.ensures c.count_through-at.ensures.before)
