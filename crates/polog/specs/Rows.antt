@@ -1,5 +1,6 @@
 -- Rows of a log: entries beside the numbers of their arrival, side by side by object.
 use Rattle.std.specs.Prelude.{◌≡◌, ◌≢◌, ℕ, ◌+◌, ◌-◌, ◌<◌, ◌≤◌, ◌⊎◌, Bool, true, false, List, ◌++◌, length, take, drop, slice_range, slice_index_or, Option, Some, None, IsTrue}
+use Rattle.std.specs.List.{filter}
 use Rattle.std.specs.List.Sorted.{IsPermutation}
 use Rattle.std.specs.declared.cmp.Ordering.TheVariants.{Less, Equal}
 use Rattle.op_base.specs.Message.{fits}
@@ -26,6 +27,14 @@ pub record IsMovedDown {A : Type 0} (to from end : ℕ) (old new : List A) : Typ
   pub front : take (to + (end - from)) new ≡ take to old ++ slice_range old from end
   pub rest : drop end new ≡ drop end old
   pub same : IsPermutation old new
+
+-- some items that don't pass were taken out of a list: what stands before a place passes, and what stands from a later place on
+pub record IsThinned {A : Type 0} (p : A → Bool) (at end : ℕ) (old new : List A) : Type 0 where
+  pub order : at ≤ end
+  pub places : end ≤ length new
+  pub before : Each (λ x. p x ≡ true) (take at new)
+  pub after : Each (λ x. p x ≡ true) (drop end new)
+  pub same : filter p new ≡ filter p old
 
 -- of two rows the first stands before the second: by object, and within an object by arrival; and they arrived apart
 abbrev pub StandsBefore : ℕ × Entry → ℕ × Entry → Type 0

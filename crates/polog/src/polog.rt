@@ -88,7 +88,8 @@ impl Polog {
     {
         if let Op::Update(update) = &message.op {
             let (from, to) = span_of(self.rows.entries(), &update.object, self.last);
-            self.last = (from, prune_span(&mut self.rows, from, to, message, rule));
+            let kept = prune_span(&mut self.rows, from, to, message, rule);
+            self.last = (from, kept);
         }
     }
 

@@ -116,8 +116,10 @@ impl Rows {
         requires places { to ≤ length self.old.rows }
         ensures { self.new ≡ with_rows self.old (take from self.old.rows ++ drop to self.old.rows) }
     {
-        drop(self.entries.drain(from..to));
-        drop(self.numbers.drain(from..to));
+        if from < to {
+            drop(self.entries.drain(from..to));
+            drop(self.numbers.drain(from..to));
+        }
     }
 
     /// Takes out a row, and hands out its entry.

@@ -21,12 +21,12 @@ span_of-from-requires g c =
     subst (Pairwise (λ (a b : Entry). is_le (object_cmp a.update.object b.update.object) ≡ true)) (sym c.entries.ensures)
     (by-object c.self.inside.rows.rows c.self.invariant.0.grouped)
 
-pub prune_span-requires-clause-places : goal.prune_span-requires-clause-places
-prune_span-requires-clause-places g c =
+pub prune_span-kept-requires-clause-places : goal.prune_span-kept-requires-clause-places
+prune_span-kept-requires-clause-places g c =
     omega (arith, c.span_of-from.ensures.places, ap length c.entries.ensures, length-items c.self.inside.rows.rows)
 
-pub prune_span-requires-clause-entries : goal.prune_span-requires-clause-entries
-prune_span-requires-clause-entries g c =
+pub prune_span-kept-requires-clause-entries : goal.prune_span-kept-requires-clause-entries
+prune_span-kept-requires-clause-entries g c =
     let members = ap (λ log. log.n) c.self.view_is ∙ sym (fits-length c.args.self.now.n c.args.message.now c.requires.fits) in
     subst (λ n. Each (λ r. IsTrue (fits n (message_of r.1))) c.self.inside.rows.rows) members c.self.invariant.0.fit
 
@@ -37,15 +37,15 @@ others-stay g c es each =
     each-weaker (λ e. is_of c.in-Update.update.object e ≡ false) (λ e. stays (g.T.TypeRule.covers c.args.rule.now) c.args.message.now e ≡ true)
     (other-stays (g.T.TypeRule.covers c.args.rule.now) c.args.message.now c.in-Update.update c.in-Update.is (g.met.T.TypeRule.one_object c.args.rule.now c.in-Update.update)) es each
 
-pub prune_span-requires-clause-before : goal.prune_span-requires-clause-before
-prune_span-requires-clause-before g c =
+pub prune_span-kept-requires-clause-before : goal.prune_span-kept-requires-clause-before
+prune_span-kept-requires-clause-before g c =
     let rows = c.self.inside.rows.rows in
     let from = c.span_of-from.result.0 in
     let P : Entry → Type 0 = λ e. stays (g.T.TypeRule.covers c.args.rule.now) c.args.message.now e ≡ true in
     each-of-items P (take from rows) (subst (Each P) (ap (take from) c.entries.ensures ∙ items-take from rows) (others-stay g c (take from c.entries.result.now) c.span_of-from.ensures.before))
 
-pub prune_span-requires-clause-after : goal.prune_span-requires-clause-after
-prune_span-requires-clause-after g c =
+pub prune_span-kept-requires-clause-after : goal.prune_span-kept-requires-clause-after
+prune_span-kept-requires-clause-after g c =
     let rows = c.self.inside.rows.rows in
     let to = c.span_of-from.result.1 in
     let P : Entry → Type 0 = λ e. stays (g.T.TypeRule.covers c.args.rule.now) c.args.message.now e ≡ true in
@@ -56,13 +56,13 @@ invariant_of-self g c =
     let rows = c.self.inside.rows.rows in
     let p : ℕ × Entry → Bool = λ r. stays (g.T.TypeRule.covers c.args.rule.now) c.args.message.now r.1 in
     let I : Table → Type 0 = λ t. IsLaid c.self.inside.n c.self.inside.next t.rows × (length t.rows ≤ t.room) × (t.room ≤ vec_capacity c.self.inside.leaving) in
-    subst I (sym c.prune_span.ensures) (laid-filter c.self.inside.n c.self.inside.next p rows c.self.invariant.0, omega (arith, length-filter-le p rows, c.self.invariant.1), c.self.invariant.2)
+    subst I (sym c.prune_span-kept.ensures) (laid-filter c.self.inside.n c.self.inside.next p rows c.self.invariant.0, omega (arith, length-filter-le p rows, c.self.invariant.1), c.self.invariant.2)
 
 pub returns-in-Update-clause-kept : goal.returns-in-Update-clause-kept
 returns-in-Update-clause-kept g c =
     let p = stays (g.T.TypeRule.covers c.args.rule.now) c.args.message.now in
     let made : Table → Log = λ t. record { n = c.self.inside.n; room = t.room; pushed = c.self.inside.next; entries = arrived t.rows; stripped = reverse (items_of c.self.inside.leaving.items) } in
-    ap made c.prune_span.ensures
+    ap made c.prune_span-kept.ensures
     ∙ ap (with_entries (made c.self.inside.rows)) (arrived-filter p c.self.inside.rows.rows)
     ∙ ap (λ log. with_entries log (filter p log.entries)) c.self.view_is
 
