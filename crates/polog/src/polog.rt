@@ -16,7 +16,7 @@ ghost use Rattle.polog.specs.Standing.{IsLogOf, KeepsPruned, KeepsLogged, KeepsS
 use crate::ids::{numbered_ids, without_numbers};
 use crate::rows::Rows;
 use crate::search::{count_through, span, span_of};
-use crate::sweep::{first_settled, keep_unstable, move_tail, prune_span, sort};
+use crate::sweep::{first_settled, keep_unstable, move_tail, prune_span, sort, sort_falling};
 use causal_model::TypeRule;
 use op_base::{Entry, IdList, Message, NoMemory, ObjectId, Op, Tag};
 use std::alloc::Global;
@@ -119,8 +119,7 @@ impl Polog {
     {
         let kept = keep_unstable(&mut self.rows, stable);
         move_tail(&mut self.rows, kept, &mut self.leaving);
-        sort(&mut self.leaving);
-        self.leaving.reverse();
+        sort_falling(&mut self.leaving);
     }
 
     /// Hands out the first entry, in history order, of those that were stripped. It is `None` exactly where none is left.

@@ -23,23 +23,23 @@ pub move_tail-requires-clause-room : goal.move_tail-requires-clause-room
 move_tail-requires-clause-room c =
     omega (arith, c.self.invariant.1, c.self.invariant.2, length_permutation c.self.inside.rows.rows c.keep_unstable-kept.new.rows.rows c.keep_unstable-kept.ensures.moved)
 
-pub sort-requires : goal.sort-requires
-sort-requires c =
+pub sort_falling-requires : goal.sort_falling-requires
+sort_falling-requires c =
     let rows = c.self.inside.rows.rows in
     let swept = c.keep_unstable-kept in
     subst Apart (sym c.move_tail.ensures.moved)
     (moved-apart (is_settled c.args.stable.now) rows swept.new.rows.rows swept.result swept.ensures.moved (apart-from-laid rows c.self.invariant.0.grouped) swept.ensures.kept)
 
-module _ (c : goal.After-reverse) where
+module _ (c : goal.After-sort_falling) where
   -- the rows that stay
   kept : c.move_tail.new.rows ≡ with_rows c.self.inside.rows (filter (λ r. not (is_settled c.args.stable.now r.1)) c.self.inside.rows.rows)
   kept = c.move_tail.ensures.left ∙ (λ t. record { room = c.keep_unstable-kept.ensures.room t; rows = c.keep_unstable-kept.ensures.kept t })
 
   -- the rows that wait
-  leaving : c.reverse.new.self.items ≡ reverse (in_order (reverse (drop c.keep_unstable-kept.result c.keep_unstable-kept.new.rows.rows)))
-  leaving = c.reverse.ensures.items ∙ ap reverse (c.sort.ensures.order ∙ ap in_order c.move_tail.ensures.moved)
+  leaving : c.sort_falling.new.rows.items ≡ reverse (in_order (reverse (drop c.keep_unstable-kept.result c.keep_unstable-kept.new.rows.rows)))
+  leaving = c.sort_falling.ensures.order ∙ ap (λ rs. reverse (in_order rs)) c.move_tail.ensures.moved
 
-  taken : record { n = c.self.inside.n; room = c.move_tail.new.rows.room; pushed = c.self.inside.next; entries = arrived c.move_tail.new.rows.rows; stripped = reverse (items_of c.reverse.new.self.items) }
+  taken : record { n = c.self.inside.n; room = c.move_tail.new.rows.room; pushed = c.self.inside.next; entries = arrived c.move_tail.new.rows.rows; stripped = reverse (items_of c.sort_falling.new.rows.items) }
       ≡ without_stable c.args.self.now c.args.stable.now
   taken =
       let rows = c.self.inside.rows.rows in
@@ -55,11 +55,11 @@ pub invariant_of-self : goal.invariant_of-self
 invariant_of-self c =
     let rows = c.self.inside.rows.rows in
     let p : ℕ × Entry → Bool = λ r. not (is_settled c.args.stable.now r.1) in
-    let I : Table → Type 0 = λ t. IsLaid c.self.inside.n c.self.inside.next t.rows × (length t.rows ≤ t.room) × (t.room ≤ vec_capacity c.reverse.new.self) in
+    let I : Table → Type 0 = λ t. IsLaid c.self.inside.n c.self.inside.next t.rows × (length t.rows ≤ t.room) × (t.room ≤ vec_capacity c.sort_falling.new.rows) in
     subst I (sym (kept c)) (
       laid-filter c.self.inside.n c.self.inside.next p rows c.self.invariant.0,
       omega (arith, length-filter-le p rows, c.self.invariant.1),
-      omega (arith, c.self.invariant.2, c.move_tail.ensures.capacity, c.sort.ensures.capacity, c.reverse.ensures.capacity),
+      omega (arith, c.self.invariant.2, c.move_tail.ensures.capacity, c.sort_falling.ensures.capacity),
     )
 
 pub returns-clause-taken : goal.returns-clause-taken
