@@ -1,6 +1,6 @@
 //! Entries beside the numbers of their arrival.
 
-ghost use Rattle.std.specs.Prelude.{◌≡◌, ◌<◌, ◌≤◌, ℕ, [], ◌∷◌, ◌++◌, length, take, drop, slice_index_or, IfOk, IfNone};
+ghost use Rattle.std.specs.Prelude.{◌≡◌, ◌<◌, ◌≤◌, ℕ, [], ◌∷◌, ◌++◌, length, take, drop, slice_index_or, vec_len, vec_capacity, IfOk, IfNone};
 ghost use Rattle.std.specs.List.{insert, remove, swap};
 ghost use Rattle.std.specs.Option.{option_to_list};
 ghost use Rattle.op_base.specs.declared.message.Entry.{Entry};
@@ -82,9 +82,8 @@ impl Rows {
         requires room { length self.old.rows < self.old.room }
         ensures { self.new ≡ with_rows self.old (insert self.old.rows at (number, entry)) }
     {
-        // There is room for both, so this needs no memory.
-        self.entries.insert(at, entry).unwrap();
-        self.numbers.insert(at, number).unwrap();
+        put(&mut self.entries, at, entry);
+        put(&mut self.numbers, at, number);
     }
 
     /// Exchanges two rows. Where they are one, nothing is moved.
@@ -139,6 +138,22 @@ impl Rows {
         ensures rows { self.old.rows ≡ self.new.rows ++ option_to_list result }
     {
         Some((self.numbers.pop()?, self.entries.pop()?))
+    }
+}
+
+/// Puts an item in at a place, where there is room for it.
+#[inline(always)]
+fn put<T>(items: &mut Vec<T>, at: usize, item: T)
+    requires place { at ≤ vec_len items.old }
+    requires room { vec_len items.old < vec_capacity items.old }
+    ensures items { items.new.items ≡ insert items.old.items at item }
+    ensures capacity { vec_capacity items.old ≤ vec_capacity items.new }
+{
+    // There is room, so this needs no memory.
+    if at == items.len() {
+        items.push(item).unwrap();
+    } else {
+        items.insert(at, item).unwrap();
     }
 }
 
