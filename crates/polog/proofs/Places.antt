@@ -107,11 +107,14 @@ above-from a b t = above a b (object_cmp a b) refl t
 
 -- ---- one object
 
+pub same-tied : (a b : ObjectId) → same_object a b ≡ true → object_cmp a b ≡ Equal
+same-tied a b same = ap (object_cmp a) (sym (object_from_same a b same)) ∙ tied_itself objects_total a
+
 -- two names are of one object exactly where neither stands before the other
 pub same-is-eq : (a b : ObjectId) → same_object a b ≡ is_eq (object_cmp a b)
 same-is-eq a b = both_ways (same_object a b) (is_eq (object_cmp a b)) there back where
   there : same_object a b ≡ true → is_eq (object_cmp a b) ≡ true
-  there same = ap is_eq (ap (object_cmp a) (sym (object_from_same a b same)) ∙ tied_itself objects_total a)
+  there same = ap is_eq (same-tied a b same)
 
   equal_from : (o : Ordering) → is_eq o ≡ true → o ≡ Equal
   equal_from Less h = absurd (false≢true h)

@@ -8,10 +8,13 @@ ghost use Rattle.polog.specs.Order.{Each, Pairwise};
 
 use op_base::{Entry, ObjectId};
 
-/// Whether an entry stands before those of an object.
+/// Whether an entry stands before those of an object. Where it is of the object, that is told sooner than the order.
 fn stands_before(entry: &Entry, object: &ObjectId) -> bool
     ensures { result ≡ is_lt (object_cmp entry.now.update.object object.now) }
 {
+    if entry.update.object.is_same(object) {
+        return false;
+    }
     entry.update.object.cmp(object).is_lt()
 }
 
@@ -19,6 +22,9 @@ fn stands_before(entry: &Entry, object: &ObjectId) -> bool
 fn stands_within(entry: &Entry, object: &ObjectId) -> bool
     ensures { result ≡ is_le (object_cmp entry.now.update.object object.now) }
 {
+    if entry.update.object.is_same(object) {
+        return true;
+    }
     entry.update.object.cmp(object).is_le()
 }
 
