@@ -3,6 +3,7 @@ use Rattle.std.proofs.Common.{◌≡◌, ◌≢◌, ℕ, ◌+◌, ◌^◌, ◌<�
 use Rattle.std.specs.List.{find, list_any, flat_map}
 use Rattle.std.specs.Option.{is_some, option_map, option_copied, option_to_list}
 use Rattle.std.specs.Bool.{then_some}
+use Rattle.std.specs.Int.{from_bool}
 use Rattle.std.specs.VecDeque.{deque_capacity}
 use Rattle.std.proofs.lemmas.Bool.{and_left, and_right, and_parts, or_left, or_from, lt-ltb, le-ltb, cases_eq, false≢true, false_from_ne_true, ne_eqb, eq-eqb, eqb-true, not-true}
 use Rattle.std.proofs.lemmas.List.{get_or_default, get_or-set_same, get_or-set_other, length-set, length-append, get_or_append_left}
@@ -20,9 +21,9 @@ use Rattle.causal_model.proofs.Early.{All-put_early, IsNear-from_test, IsDeliver
 use Rattle.causal_model.proofs.Finds.{none_found}
 use Rattle.causal_buffer.specs.Buffer.{AreAhead, AreNear, IsNextId}
 use Rattle.causal_buffer.specs.declared.queue.Queue.{Queue}
-use Rattle.causal_buffer.specs.Queue.{messages, IsQueue, AreWithin, IsKept, AreKept, is_ready}
+use Rattle.causal_buffer.specs.Queue.{messages, IsQueue, AreWithin, IsKept, AreKept, AreQueues, is_ready}
 use Rattle.causal_buffer.proofs.Places.{has, all_at, standing_few, find_of_id}
-use Rattle.causal_buffer.proofs.Parts.{All-flat, All-part, any_is_found, IsPartFor, FailElsewhere, find_flat, without_flat, put_flat, first_flat, none_flat}
+use Rattle.causal_buffer.proofs.Parts.{All-flat, All-part, any_is_found, IsPartFor, FailElsewhere, find_flat, without_flat, put_flat, first_flat, none_flat, length-flat}
 
 pub some_copied : {X : Type 0} (r : Option (Bor X)) → is_some r ≡ is_some (option_copied r)
 some_copied None = refl
@@ -31,6 +32,10 @@ some_copied (Some x) = refl
 pub some_mapped : {X Y : Type 0} (f : X → Y) (o : Option X) (y : Y) → Some y ≡ option_map f o → is_some o ≡ true
 some_mapped f None y e = cc
 some_mapped f (Some x) y e = refl
+
+pub length-option : {X : Type 0} (o : Option X) → from_bool (is_some o) ≡ length (option_to_list o)
+length-option None = refl
+length-option (Some x) = refl
 
 none_from : {X : Type 0} (o : Option X) → is_some o ≡ false → o ≡ None
 none_from None e = refl
@@ -222,6 +227,13 @@ module _ (n w : ℕ) where
 -- all that can be early at once of one member
 pub most_is_small : (n w : ℕ) → 1 ≤ n → n ≤ 16 → w ≤ 64 → w + noop_window n w ≤ 1985
 most_is_small n w some few narrow = grind arith
+
+-- and of all members
+pub few_held : (n w held : ℕ) (qs : List Queue) → AreQueues n w held qs → held ≤ 31760
+few_held n w held qs are =
+    let each : (x : ℕ) (d : Queue) → x < length qs → length (messages (get_or qs x d)) ≤ 1985 = λ x d l.
+    omega (arith, few_kept n w x (get_or qs x d) (are.kept x d l), (are.kept x d l).is_queue.counted, most_is_small n w are.some are.few are.narrow) in
+    omega (arith, length-flat messages 1985 qs each, are.counted, are.count, are.few)
 
 -- ---- what is held of the counts once the next message of an origin is taken out and delivered
 

@@ -1,4 +1,5 @@
 pub mod Parts
 pub mod Places
+pub mod Deliverable
 pub mod Kept
 pub mod Standing

@@ -1,9 +1,9 @@
 -- A list of messages that is joined of parts, as of queues or of places: what one part has, the list has.
-use Rattle.std.proofs.Common.{◌≡◌, ◌≢◌, ℕ, zero, suc, ◌+◌, ◌<◌, Bool, true, false, not, cond, ◌||◌, All, List, [], ◌∷◌, ◌++◌, length, get_or, set, take, refl, sym, ap, ap₂, ◌∙◌, Some, None, arith}
+use Rattle.std.proofs.Common.{◌≡◌, ◌≢◌, ℕ, zero, suc, ◌+◌, ◌*◌, ◌<◌, ◌≤◌, Bool, true, false, not, cond, ◌||◌, All, List, [], ◌∷◌, ◌++◌, length, get_or, set, refl, sym, ap, ap₂, ◌∙◌, Some, None, arith}
 use Rattle.std.specs.List.{filter, find, flat_map, list_any}
 use Rattle.std.specs.Option.{is_some}
 use Rattle.std.proofs.lemmas.Bool.{cond-true, cond-false, not_from_false, false≢true}
-use Rattle.std.proofs.lemmas.List.{take_more, append-nil, length-append}
+use Rattle.std.proofs.lemmas.List.{length-append}
 use Rattle.std.proofs.lemmas.List.Concat.{flat_map-append}
 use Rattle.std.proofs.lemmas.List.Elements.{All-nil, All-cons, All-head, All-tail, All-append, All-weaker, filter-append}
 use Rattle.op_base.specs.declared.message.Message.{Message}
@@ -132,14 +132,18 @@ module _ {Q : Type 0} (f : Q → List Message) where
         find-append_right p (f q) (flat_map f qs) (none_passes p (f q) (none 0 q (omega arith)))
         ∙ none_flat qs (λ k d l. none (suc k) d (omega (arith, l)))
 
-  -- one part more
-  pub length_more : (qs : List Q) (i : ℕ) (q : Q) → i < length qs → q ≡ get_or qs i q → length (flat_map f (take (i + 1) qs)) ≡ length (flat_map f (take i qs)) + length (f q)
-  length_more qs i q l at =
-      let one = get_or qs i q in
-      ap (λ l. length (flat_map f l)) (take_more qs i q l)
-      ∙ ap length (flat_map-append f (take i qs) (one ∷ []))
-      ∙ length-append (flat_map f (take i qs)) (f one ++ [])
-      ∙ ap (λ l. length (flat_map f (take i qs)) + length l) (append-nil (f one) ∙ ap f (sym at))
+  -- there are few messages where there are few in each part
+  pub length-flat : (most : ℕ) (qs : List Q) → ((x : ℕ) (d : Q) → x < length qs → length (f (get_or qs x d)) ≤ most) → length (flat_map f qs) ≤ length qs * most
+  length-flat most [] few = omega arith
+  length-flat most (q ∷ qs) few =
+      omega (arith, few 0 q (omega arith), length-flat most qs (λ x d l. few (suc x) d (omega (arith, l))), length-append (f q) (flat_map f qs))
+
+  -- where one part has fewer, so many fewer are in the list
+  pub length-set_flat : (qs : List Q) (x : ℕ) (q d : Q) → x < length qs → length (flat_map f (set qs x q)) + length (f (get_or qs x d)) ≡ length (flat_map f qs) + length (f q)
+  length-set_flat [] x q d l = absurd (omega (arith, l))
+  length-set_flat (y ∷ qs) zero q d l = omega (arith, length-append (f q) (flat_map f qs), length-append (f y) (flat_map f qs))
+  length-set_flat (y ∷ qs) (suc x) q d l =
+      omega (arith, length-set_flat qs x q d (omega (arith, l)), length-append (f y) (flat_map f (set qs x q)), length-append (f y) (flat_map f qs))
 
   pub none_more : (qs : List Q) (q : Q) → flat_map f qs ≡ [] → f q ≡ [] → flat_map f (qs ++ q ∷ []) ≡ []
   none_more qs q e none = flat_map-append f qs (q ∷ []) ∙ ap₂ (λ l r. l ++ (r ++ [])) e none

@@ -44,13 +44,14 @@ pub record IsKept (n w member : ℕ) (queue : Queue) : Type 0 where
 abbrev pub AreKept : ℕ → ℕ → List Queue → Type 0
 AreKept n w queues = (member : ℕ) (d : Queue) → member < length queues → IsKept n w member (slice_index_or queues member d)
 
--- the queues of a store
-pub record AreQueues (n w : ℕ) (queues : List Queue) : Type 0 where
+-- the queues of a store, which have so many messages
+pub record AreQueues (n w held : ℕ) (queues : List Queue) : Type 0 where
   pub some : 1 ≤ n
   pub few : n ≤ MOST_MEMBERS
   pub narrow : w ≤ MOST_WINDOW
   pub count : length queues ≡ n
   pub kept : AreKept n w queues
+  pub counted : held ≡ length (flat_map messages queues)
 
 -- a message is a member's, and can be delivered where so many of each of n members were
 abbrev pub is_ready : ℕ → List ℕ → ℕ → Message → Bool

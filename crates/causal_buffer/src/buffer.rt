@@ -1,6 +1,6 @@
 //! The buffer of early messages.
 
-ghost use Rattle.std.specs.Prelude.{◌≡◌, ℕ, ◌+◌, ◌<◌, ◌≤◌, false, List, [], length, slice_set, IsTrue, IfOk};
+ghost use Rattle.std.specs.Prelude.{◌≡◌, ◌↔◌, ℕ, ◌+◌, ◌<◌, ◌≤◌, false, List, [], length, slice_set, IsTrue, IfOk};
 ghost use Rattle.std.specs.List.{find, list_any, flat_map};
 ghost use Rattle.std.specs.Option.{option_map, IfSome};
 ghost use Rattle.op_base.specs.Timestamp.{entry};
@@ -40,6 +40,8 @@ pub enum Offer {
 pub struct CausalBuffer {
     n: u8,
     w: u8,
+    /// How many messages the queues have.
+    held: usize,
     queues: Vec<Queue>,
 }
 
@@ -52,21 +54,21 @@ impl Model for CausalBuffer {
 
     ghost view = { λ b. record { n = b.n; w = b.w; early = flat_map messages b.queues.items } };
 
-    ghost invariant = { λ b. AreQueues b.n b.w b.queues.items };
+    ghost invariant = { λ b. AreQueues b.n b.w b.held b.queues.items };
 }
 
-/// Whether its origin's next message has seen only what was delivered, where so many of each member were.
-fn is_deliverable(message: &Message, counts: &Tag) -> bool
-    requires fits { IsTrue (fits (length counts.now) message.now) }
-    requires next { number message.now ≡ entry counts.now message.now.origin + 1 }
+/// Whether a message can be delivered where so many of each member were: it is its origin's next, and it has seen only what
+/// was delivered. There is no early end, so that several numbers are tested at once.
+pub fn is_deliverable(message: &Message, counts: &Tag) -> bool
+    requires { IsTrue (fits (length counts.now) message.now) }
     ensures { result ≡ is_deliverable (length counts.now) counts.now message.now }
 {
+    let origin = message.origin;
+    let mut can = message.tag.at(origin) - 1 == counts.at(origin);
     for x in 0..counts.members() {
-        if x != message.origin && message.tag.at(x) > counts.at(x) {
-            return false;
-        }
+        can &= (x == origin) | (message.tag.at(x) <= counts.at(x));
     }
-    true
+    can
 }
 
 impl CausalBuffer {
@@ -86,7 +88,12 @@ impl CausalBuffer {
         for _ in 0..n {
             queues.push(Queue::create(alloc, room)?)?;
         }
-        Ok(CausalBuffer { n, w, queues })
+        Ok(CausalBuffer {
+            n,
+            w,
+            held: 0,
+            queues,
+        })
     }
 
     /// Keeps a message of another member that wasn't delivered, unless one of its id is early already or it is too far ahead:
@@ -143,6 +150,7 @@ impl CausalBuffer {
     {
         let member = message.origin;
         self.queues[member as usize].put(message, counts.at(member));
+        self.held += 1;
     }
 
     /// Whether a message is too far ahead to be kept: by its number, which is above its origin's count, or by own messages
@@ -169,6 +177,9 @@ impl CausalBuffer {
         // Where it is a state's buffer:
         ensures in_state { IsNextInState counts.now self.now result }
     {
+        if self.held == 0 {
+            return None;
+        }
         for member in 0..self.n {
             if let Some(id) = self.ready(member, counts) {
                 return Some(id);
@@ -208,7 +219,9 @@ impl CausalBuffer {
         ensures in_state { TakesNext id self.old result }
         ensures stands { KeepsStep id self.old self.new }
     {
-        self.queues[id.origin as usize].take(id)
+        let taken = self.queues[id.origin as usize].take(id);
+        self.held -= usize::from(taken.is_some());
+        taken
     }
 
     /// Whether a message of an id is early.
@@ -223,10 +236,13 @@ impl CausalBuffer {
     pub fn len(&self) -> usize
         ensures { result ≡ length self.now.early }
     {
-        let mut len = 0;
-        for queue in &self.queues {
-            len += queue.len();
-        }
-        len
+        self.held
+    }
+
+    /// Whether no message is early.
+    pub fn is_empty(&self) -> bool
+        ensures { IsTrue result ↔ (self.now.early ≡ []) }
+    {
+        self.held == 0
     }
 }

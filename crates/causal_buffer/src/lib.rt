@@ -10,5 +10,5 @@ mod queue;
 #[cfg(test)]
 mod tests;
 
-pub use buffer::{CausalBuffer, Offer};
+pub use buffer::{CausalBuffer, Offer, is_deliverable};
 pub use laws::{own_messages_leave_a_buffer, states_meet_what_is_asked};

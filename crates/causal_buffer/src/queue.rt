@@ -2,7 +2,7 @@
 
 ghost use Rattle.std.specs.Prelude.{◌≡◌, ℕ, ◌+◌, ◌-◌, ◌<◌, [], ◌∷◌, ◌++◌, length, take, drop, replicate, min, IfOk};
 ghost use Rattle.std.specs.List.{find};
-ghost use Rattle.std.specs.Option.{option_copied};
+ghost use Rattle.std.specs.Option.{option_copied, option_to_list};
 ghost use Rattle.std.specs.VecDeque.{deque_capacity};
 ghost use Rattle.op_base.specs.Message.{number, id_of};
 ghost use Rattle.causal_model.specs.Early.{has_id, without, put_early};
@@ -60,6 +60,9 @@ impl Queue {
         requires { IsQueue id.origin self.now }
         ensures { option_copied result ≡ find (has_id id) (messages self.now) }
     {
+        if self.filled == 0 {
+            return None;
+        }
         let place = id.seq.checked_sub(self.first)?;
         self.places.get(place as usize)?.as_ref()
     }
@@ -69,6 +72,7 @@ impl Queue {
         requires { IsQueue id.origin self.old }
         ensures taken { result ≡ find (has_id id) (messages self.old) }
         ensures others { messages self.new ≡ without id (messages self.old) }
+        ensures fewer { length (messages self.new) + length (option_to_list result) ≡ length (messages self.old) }
         ensures kept { IsQueue id.origin self.new }
         ensures room { deque_capacity self.new.places ≡ deque_capacity self.old.places }
     {

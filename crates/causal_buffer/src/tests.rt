@@ -250,6 +250,6 @@ fn a_chain_comes_in_reverse(rt: HostRuntime) -> Result<(), Fail> {
     for k in 0..945 {
         assert_eq!(rt; receiver.deliver(), id((k % 15) as u8, k / 15 + 1));
     }
-    assert_eq!(rt; receiver.buffer.len(), 0);
+    assert!(rt; receiver.buffer.is_empty());
     Ok(())
 }

@@ -28,4 +28,5 @@ invariant_of-result c = record {
   narrow = c.requires.narrow;
   count = omega (arith, c.loop.invariant.count);
   kept = c.loop.invariant.kept;
+  counted = sym (ap length c.loop.invariant.none);
 }

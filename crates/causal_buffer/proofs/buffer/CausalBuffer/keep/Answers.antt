@@ -1,4 +1,4 @@
-use Rattle.std.proofs.Common.{◌+◌, ◌<◌, ◌≤◌, IsTrue, length, sym, ap, subst, ◌∙◌, arith}
+use Rattle.std.proofs.Common.{◌≡◌, set, ◌+◌, ◌<◌, ◌≤◌, IsTrue, length, sym, ap, subst, ◌∙◌, arith}
 use Rattle.std.proofs.lemmas.List.{length-set}
 use Rattle.op_base.specs.Timestamp.{entry}
 use Rattle.op_base.specs.Message.{number, fits}
@@ -7,11 +7,13 @@ use Rattle.causal_model.specs.Early.{is_again, put_early}
 use Rattle.causal_model.specs.Stability.{noop_window}
 use Rattle.causal_model.proofs.Early.{All-put_early, IsNew-from_test, IsNear-from_test, fits_member}
 use Rattle.causal_buffer.specs.Buffer.{Buffer, with_messages, AreAhead, AreNear}
+use Rattle.std.specs.List.{flat_map}
+use Rattle.causal_buffer.proofs.Places.{length-put_early}
 use Rattle.causal_buffer.specs.Queue.{messages}
-use Rattle.causal_buffer.proofs.Kept.{kept_at, kept_set, kept_put, fresh_here, near_here, put_in_queue}
+use Rattle.causal_buffer.proofs.Kept.{kept_at, kept_set, kept_put, fresh_here, near_here, put_in_queue, few_held}
 use Rattle.causal_buffer.proofs.Standing.{keeps_early, keep_keeps_state}
 use Rattle.causal_buffer.proofs.buffer.CausalBuffer.keep.Goals as goal
-use Rattle.causal_buffer.proofs.buffer.CausalBuffer.keep.Goals.{Start, After-index_mut}
+use Rattle.causal_buffer.proofs.buffer.CausalBuffer.keep.Goals.{Start, After-index_mut, After-put}
 
 is_ahead : (c : Start) → entry c.args.counts.now c.args.message.origin < number c.args.message
 is_ahead c = (IsNew-from_test c.args.me c.args.counts.now c.args.message c.requires.new).ahead
@@ -38,6 +40,15 @@ put-requires-clause-near c =
     c.at.result c.at.ensures (is_ahead at.Start) not_far
     (subst (λ (b : Buffer). AreAhead counts b.early) (sym c.self.view_is) c.requires.held_ahead) (subst (λ (b : Buffer). AreNear b.n b.w counts b.early) (sym c.self.view_is) c.requires.held_near)
 
+-- the messages of all queues, once it is put into one
+put : (c : After-put) → flat_map messages (set c.self.inside.queues.items c.args.message.origin c.put.new.self) ≡ put_early c.args.message (flat_map messages c.self.inside.queues.items)
+put c =
+    let m = c.args.message in
+    put_in_queue c.self.inside.n c.self.inside.w c.self.inside.queues.items c.index_mut.result.now c.self.invariant.kept m c.put.new.self (has_queue (goal.at-After-put c).After-index_mut) (c.put.ensures.put ∙ ap (λ z. put_early m (messages z)) c.index_mut.ensures.value)
+
+pub overflow_add-self : goal.overflow_add-self
+overflow_add-self c = omega (arith, few_held c.self.inside.n c.self.inside.w c.self.inside.held c.self.inside.queues.items c.self.invariant)
+
 pub invariant_of-self : goal.invariant_of-self
 invariant_of-self c =
     let n = c.self.inside.n in
@@ -52,13 +63,14 @@ invariant_of-self c =
       narrow = c.self.invariant.narrow;
       count = length-set qs m.origin c.put.new.self ∙ c.self.invariant.count;
       kept = kept_set n w qs m.origin c.put.new.self c.self.invariant.kept (kept_put n w m c.index_mut.result.now c.put.new.self kept fit c.put.ensures.kept c.put.ensures.put c.put.ensures.room);
+      counted = omega (arith, c.self.invariant.counted, length-put_early m (flat_map messages qs), ap length (put (goal.at.invariant_of-self c).After-put));
     }
 
 pub returns-clause-early : goal.returns-clause-early
 returns-clause-early c =
     let m = c.args.message in
     ap (λ early. record { n = c.self.inside.n; w = c.self.inside.w; early = early })
-    (put_in_queue c.self.inside.n c.self.inside.w c.self.inside.queues.items c.index_mut.result.now c.self.invariant.kept m c.put.new.self (has_queue (goal.at.returns-clause-early c).After-index_mut) (c.put.ensures.put ∙ ap (λ z. put_early m (messages z)) c.index_mut.ensures.value))
+    (put (goal.at.returns-clause-early c).After-put)
     ∙ ap (λ (b : Buffer). with_messages b (put_early m b.early)) c.self.view_is
 
 pub returns-clause-held_ahead : goal.returns-clause-held_ahead

@@ -11,7 +11,7 @@ use Rattle.causal_model.specs.Early.{has_id}
 use Rattle.causal_model.proofs.Finds.{found}
 use Rattle.causal_buffer.specs.Buffer.{Buffer}
 use Rattle.causal_buffer.specs.Queue.{messages, is_ready}
-use Rattle.causal_buffer.proofs.Kept.{kept_at, has_parts, ready_by_id, none_ready, next_is_told}
+use Rattle.causal_buffer.proofs.Kept.{kept_at, ready_by_id, none_ready, next_is_told}
 use Rattle.causal_buffer.proofs.buffer.CausalBuffer.ready.Goals as goal
 use Rattle.causal_buffer.proofs.buffer.CausalBuffer.ready.Goals.{After-index-queue, After-get, In_ok-message}
 
@@ -43,21 +43,15 @@ returns-in_err-message-clause-ready c =
 held : (c : In_ok-message) → Contains (messages c.index-queue.result.now) c.in_ok-message.message.now × (has_id (record { origin = c.args.member; seq = c.in_ok-seq.seq }) c.in_ok-message.message.now ≡ true)
 held c = found (has_id (record { origin = c.args.member; seq = c.in_ok-seq.seq })) (messages c.index-queue.result.now) c.in_ok-message.message.now (sym c.in_ok-message.ensures)
 
-pub is_deliverable-requires-clause-fits : goal.is_deliverable-requires-clause-fits
-is_deliverable-requires-clause-fits c =
-    let at = goal.at.is_deliverable-requires-clause-fits c in
+pub is_deliverable-requires : goal.is_deliverable-requires
+is_deliverable-requires c =
+    let at = goal.at.is_deliverable-requires c in
     let n = c.self.inside.n in
     let q = c.index-queue.result.now in
     let m = c.in_ok-message.message.now in
     let kept = kept_at n c.self.inside.w c.self.inside.queues.items c.self.invariant.kept c.args.member q (has_queue at.After-index-queue) c.index-queue.ensures in
     let fit : IsTrue (fits n m) = All-contains (λ z. IsTrue (fits n z)) (messages q) m kept.fit (held at.In_ok-message).0 in
     subst (λ k. IsTrue (fits k m)) (ap (λ (b : Buffer). b.n) c.self.view_is ∙ sym c.requires.counts) fit
-
-pub is_deliverable-requires-clause-next : goal.is_deliverable-requires-clause-next
-is_deliverable-requires-clause-next c =
-    let m = c.in_ok-message.message.now in
-    let parts = has_parts (record { origin = c.args.member; seq = c.in_ok-seq.seq }) m (held (goal.at.is_deliverable-requires-clause-next c).In_ok-message).1 in
-    omega (arith, parts.1, c.in_ok-seq.ensures, c.at.ensures, ap (entry c.args.counts.now) parts.0)
 
 pub returns-clause-ready : goal.returns-clause-ready
 returns-clause-ready c =

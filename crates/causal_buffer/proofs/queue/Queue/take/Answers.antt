@@ -79,6 +79,13 @@ pub returns-clause-others : goal.returns-clause-others
 returns-clause-others c =
     ap (λ o. standing (set c.args.self.now.places.items c.in_ok-place.place o)) c.take.ensures.after ∙ left (goal.at.returns-clause-others c).After-get_mut
 
+pub returns-clause-fewer : goal.returns-clause-fewer
+returns-clause-fewer c =
+    let items = c.args.self.now.places.items in
+    let k = c.in_ok-place.place in
+    let is = sym (held (goal.at.returns-clause-fewer c).After-take) ∙ c.in_ok-message.was in
+    omega (arith, length-taken items k c.in_ok-message.message is, ap (λ o. length (standing (set items k o))) c.take.ensures.after)
+
 pub returns-clause-kept : goal.returns-clause-kept
 returns-clause-kept c =
     let q = c.args.self.now in
