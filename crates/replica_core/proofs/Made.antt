@@ -37,6 +37,17 @@ all_are_made w s made now has new none stands =
       stands = subst (StandsFor new) (sym (ap (λ (some : List Step × State). some.1) all)) stands;
     }
 
+-- where none can be made after one, that one is all
+pub one_is_all : (w : ℕ) (s : State) (step : Step) (new : Replica) (is : IsStepOf w s step new) → next_of (state_with w s is.message) ≡ None → HasStepped w s (step ∷ []) new
+one_is_all w s step new is none =
+    let later = state_with w s is.message in
+    let all : steps w s ≡ (step ∷ [], later)
+    = steps_of_one_more w s is.message is.next ∙ ap (λ (made : Step). (made ∷ (steps w later).0, (steps w later).1)) (sym is.is) ∙ ap (λ (some : List Step × State). (step ∷ some.0, some.1)) (steps_of_none w later none) in
+    record {
+      are = sym (ap (λ (some : List Step × State). some.0) all);
+      stands = subst (StandsFor new) (sym (ap (λ (some : List Step × State). some.1) all)) is.stands;
+    }
+
 -- two replicas are of the same settings where each is of those of one between them
 pub same_settings_after : (old now new : Replica) → SameSettings old now → SameSettings now new → SameSettings old new
 same_settings_after old now new first next = record {

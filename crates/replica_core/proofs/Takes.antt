@@ -1,4 +1,4 @@
--- An early message that is taken out of the buffer of fields that stand for a state.
+-- The next early message of a state: how it is taken out of the buffer of fields that stand for the state, and what becomes of it.
 use Rattle.std.proofs.Common.{◌≡◌, ◌≢◌, ℕ, ◌<◌, false, not, ◌&&◌, ◌==◌, nat_lt, IsTrue, List, [], ◌∷◌, ◌++◌, length, refl, sym, ap, ap₂, subst, ◌∙◌, Option, Some, None, Result, Ok, Err, if◌then◌else◌, arith}
 use Rattle.std.proofs.lemmas.Bool.{and_parts, eqb-true, ne_eqb}
 use Rattle.std.specs.List.{Contains}
@@ -32,15 +32,11 @@ use Rattle.tag_window.specs.History.{IsWindowOf}
 use Rattle.causal_buffer.specs.Buffer.{Buffer, with_messages as with_early_messages}
 use Rattle.causal_buffer.specs.Standing.{IsNextInState, TakesNext}
 use Rattle.causal_buffer.proofs.Standing.{next_id_is_of_message}
-use Rattle.replica_core.specs.Rules.{StandsFor}
+use Rattle.replica_core.specs.Rules.{StandsFor, fields_of}
 use Rattle.replica_core.specs.Standing.{Fields, Standing, StandsForSome}
-use Rattle.replica_core.specs.Steps.{IsStepOf}
+use Rattle.replica_core.specs.Steps.{state_without, IsNextOf, IsStepOf}
 use Rattle.replica_core.specs.declared.replica.Replica.{Replica}
 use Rattle.replica_core.proofs.Stands.{member_of, chapter_of, with_buffer}
-
--- the state without the early message of an id
-abbrev pub state_without : MessageId → State → State
-state_without id s = record { history = s.history; early = without id s.early }
 
 without_is_state : (w limit : ℕ) (id : MessageId) (s : State) → IsState w limit s → IsState w limit (state_without id s)
 without_is_state w limit id s is =
@@ -73,10 +69,15 @@ pub is_crooked : (o : Option Crook) (crook : Crook) → Err crook ≡ verdict o 
 is_crooked None crook e = cc
 is_crooked (Some other) crook e = cc
 
+-- ---- the next early message is taken out by its id
+
 -- a message of an id is the one that is taken next
-pub record IsTaken (s : State) (id : MessageId) (m : Message) : Type 0 where
+record IsTaken (s : State) (id : MessageId) (m : Message) : Type 0 where
   pub next : next_of s ≡ Some m
   pub of_id : id ≡ id_of m
+
+absurd_is_alone : (a b : ⊥) → a ≡ b
+absurd_is_alone a b = absurd a
 
 module _ (f : Fields) (s : State) (stands : Standing f s) (id : MessageId) where
   -- without the early message of an id the fields stand for the state without it
@@ -90,107 +91,119 @@ module _ (f : Fields) (s : State) (stands : Standing f s) (id : MessageId) where
       (omega (arith, stands.items_room, ap (λ (b : Buffer). length b.early) is, length-filter_both (λ m. not (has_id id m)) (λ m. not (not (has_id id m))) (λ m. refl) f.buffer.early))
 
   -- by the id of what is next the next message is found
-  pub next_is_found : (taken : Option Message) → IsNextInState f.counts f.buffer (Some id) → TakesNext id f.buffer taken → (m : Message) × (taken ≡ Some m) × IsTaken s id m
+  next_is_found : (taken : Option Message) → IsNextInState f.counts f.buffer (Some id) → TakesNext id f.buffer taken → (m : Message) × (taken ≡ Some m) × IsTaken s id m
   next_is_found taken next takes =
       let named = next_id_is_of_message s id (sym (next f.w s stands.buffer stands.counts)) in
       (named.0, takes f.w f.limit s named.0 stands.is_state stands.buffer named.1 named.2, record { next = named.1; of_id = named.2 })
 
-  pub is_taken : (m : Message) → IsNextInState f.counts f.buffer (Some id) → TakesNext id f.buffer (Some m) → IsTaken s id m
+  is_taken : (m : Message) → IsNextInState f.counts f.buffer (Some id) → TakesNext id f.buffer (Some m) → IsTaken s id m
   is_taken m next takes =
       let there = next_is_found (Some m) next takes in
       let same : there.0 ≡ m = cc there.1 in
       subst (IsTaken s id) same there.2
 
-  module _ (m : Message) (taken : IsTaken s id m) where
-    is_found : Contains s.early m × IsTrue (is_deliverable s.history.present.n (counted s.history) m)
-    is_found = found (is_deliverable s.history.present.n (counted s.history)) s.early m taken.next
-
-    pub taken_fits : IsTrue (fits f.n m)
-    taken_fits = subst (λ n. IsTrue (fits n m)) stands.of_store (All-contains (λ y. IsTrue (fits s.history.present.n y)) s.early m stands.is_state.are_early.fit is_found.0)
-
-    pub taken_is_of_other : m.origin ≢ f.me
-    taken_is_of_other =
-        subst (λ me. m.origin ≢ me) stands.of_member
-        (IsNew-from_test s.history.present.me (counted s.history) m (All-contains (λ y. is_old s.history.present.me (counted s.history) y ≡ false) s.early m stands.is_state.are_early.new is_found.0)).other
-
-    taken_is_deliverable : IsTrue (is_deliverable f.n (counts f.n s.history.present.messages) m)
-    taken_is_deliverable = subst (λ n. IsTrue (is_deliverable n (counts n s.history.present.messages) m)) stands.of_store is_found.1
-
-    pub fewer_are_left : length (without id f.buffer.early) < length f.buffer.early
-    fewer_are_left =
-        subst (λ early. length (without id early) < length early) (sym stands.buffer.early)
-        (fewer_pass (λ (y : Message). not (has_id id y)) s.early m is_found.0 (ap not (ap (λ i. has_id i m) taken.of_id ∙ has_own_id m)))
-
-    -- the stable counts after the message
-    stable_is : (stable : List ℕ) → StableAfter m.origin m.tag f.matrix stable → stable ≡ stable_vector f.n f.me (s.history.present.messages ++ m ∷ [])
-    stable_is stable after = after f.n f.me s.history.present.messages m stands.matrix (record { of_origin = refl; with_tag = refl; deliverable = taken_is_deliverable })
-
-    pub length-stable_after : (stable : List ℕ) → StableAfter m.origin m.tag f.matrix stable → length stable ≡ f.n
-    length-stable_after stable after = ap length (stable_is stable after) ∙ length-map-range_with_len (stable_count f.n f.me (s.history.present.messages ++ m ∷ [])) 0 f.n
-
-    -- what a check with the sender's last timestamp and the stable counts after the message tells
-    pub check_tells : (result : Result (Unit {0}) Crook) (last stable : List ℕ)
-        → ((n me : ℕ) (messages : List Message) → IsMatrixOf n me messages f.matrix → last ≡ known_vector n me messages m.origin) → StableAfter m.origin m.tag f.matrix stable
-        → ((n w me : ℕ) (ms : List Message) → me < n → IsTrue (is_chapter n w me ms) → IsWindowOf n w me ms f.window → IsTrue (is_deliverable n (counts n ms) m) → m.origin ≢ me → last ≡ last_tag n ms m.origin
-        → stable ≡ stable_vector n me (ms ++ m ∷ []) → result ≡ verdict (crook_of n w me ms m))
-        → result ≡ verdict (crook_after f.w s.history m)
-    check_tells result last stable row after told =
-        let messages = s.history.present.messages in
-        let from_row : last ≡ last_tag f.n messages m.origin
-        = row f.n f.me messages stands.matrix ∙ ap (λ own. if own then counts f.n messages else last_tag f.n messages m.origin) (ne_eqb m.origin f.me taken_is_of_other) in
-        told f.n f.w f.me messages (member_of f s stands) (chapter_of f s stands) stands.window taken_is_deliverable taken_is_of_other from_row
-        (stable_is stable after)
-        ∙ ap₂ (λ n me. verdict (crook_of n f.w me messages m)) (sym stands.of_store) (sym stands.of_member)
-
-    -- where it isn't crooked it is delivered
-    module _ (right : crook_after f.w s.history m ≡ None) where
-      delivered : with_own (state_without id s) m ≡ state_with f.w s m
-      delivered =
-          ap₂ (λ o i. record { history = with_messages s.history (messages_with s.history.present.messages m o); early = without i s.early }) (sym right) taken.of_id
-
-      pub delivered_is_state : IsState f.w f.limit (with_own (state_without id s) m)
-      delivered_is_state = subst (IsState f.w f.limit) (sym delivered) (step_keeps_state f.w f.limit s m stands.is_state taken.next)
-
-      pub is_step_of_delivered : (new : Replica) → StandsFor new (with_own (state_without id s) m) → IsStepOf f.w s (step.Took id) new
-      is_step_of_delivered new stays = record {
-        message = m;
+  -- it is the next of the state
+  pub taken_is_next : (m : Message) → IsNextInState f.counts f.buffer (Some id) → TakesNext id f.buffer (Some m) → (new : Replica) → (buffer : Buffer) → buffer ≡ with_early_messages f.buffer (without id f.buffer.early)
+      → fields_of new ≡ record f { buffer = buffer } → IsNextOf new m s
+  taken_is_next m next takes new buffer left is =
+      let taken = is_taken m next takes in
+      record {
+        is_state = subst (λ (g : Fields). IsState g.w g.limit s) (sym is) stands.is_state;
         next = taken.next;
-        is = ap step.Took taken.of_id ∙ ap (step_of m) (sym right);
-        stands = subst (StandsFor new) delivered stays;
+        left = subst (λ g. Standing g (state_without (id_of m) s)) (sym is) (subst (λ i. Standing (record f { buffer = buffer }) (state_without i s)) taken.of_id (without_stands buffer left));
       }
 
-    -- and dropped where it is
-    pub is_step_of_dropped : (crook : Crook) → crook_after f.w s.history m ≡ Some crook → (new : Replica) → StandsFor new (state_without id s) → IsStepOf f.w s (step.Crook id crook) new
-    is_step_of_dropped crook wrong new stays = record {
-      message = m;
-      next = taken.next;
-      is = ap (λ i. step.Crook i crook) taken.of_id ∙ ap (step_of m) (sym wrong);
-      stands = subst (StandsFor new) (ap₂ (λ o i. record { history = with_messages s.history (messages_with s.history.present.messages m o); early = without i s.early }) (sym wrong) taken.of_id) stays;
-    }
+  fewer_are_left : (m : Message) → IsTaken s id m → length (without id f.buffer.early) < length f.buffer.early
+  fewer_are_left m taken =
+      let there = found (is_deliverable s.history.present.n (counted s.history)) s.early m taken.next in
+      subst (λ early. length (without id early) < length early) (sym stands.buffer.early)
+      (fewer_pass (λ (y : Message). not (has_id id y)) s.early m there.0 (ap not (ap (λ i. has_id i m) taken.of_id ∙ has_own_id m)))
 
-absurd_is_alone : (a b : ⊥) → a ≡ b
-absurd_is_alone a b = absurd a
-
--- what is true of a message that was taken, for some state, where it is a proposition
+-- what is true of it for some state, where it is a proposition
 module _ (f : Fields) (some : ∥ StandsForSome f ∥₁) (id : MessageId) (next : IsNextInState f.counts f.buffer (Some id)) where
   pub next_is_found_in : (taken : Option Message) → TakesNext id f.buffer taken → ((m : Message) → taken ≡ Some m → ⊥) → ⊥
   next_is_found_in taken takes missing = ∥∥₁_elim {P = ⊥} some absurd_is_alone (λ (x : StandsForSome f). missing (next_is_found f x.0 x.1 id taken next takes).0 (next_is_found f x.0 x.1 id taken next takes).1)
 
-  module _ (m : Message) (takes : TakesNext id f.buffer (Some m)) where
-    pub taken_fits_in : IsTrue (fits f.n m)
-    taken_fits_in = ∥∥₁_elim some (search props) (λ x. taken_fits f x.0 x.1 id m (is_taken f x.0 x.1 id m next takes))
+  pub fewer_are_left_in : (m : Message) → TakesNext id f.buffer (Some m) → length (without id f.buffer.early) < length f.buffer.early
+  fewer_are_left_in m takes = ∥∥₁_elim some (search props) (λ x. fewer_are_left f x.0 x.1 id m (is_taken f x.0 x.1 id m next takes))
 
-    pub taken_entries_in : length m.tag ≡ f.n
-    taken_entries_in = fits_entries f.n m taken_fits_in
+-- ---- the next message of a state, which is early no more
 
-    pub taken_member_in : m.origin < f.n
-    taken_member_in = fits_member f.n m taken_fits_in
+module _ (r : Replica) (m : Message) (s : State) (is : IsNextOf r m s) where
+  is_found : Contains s.early m × IsTrue (is_deliverable s.history.present.n (counted s.history) m)
+  is_found = found (is_deliverable s.history.present.n (counted s.history)) s.early m is.next
 
-    pub taken_is_of_other_in : m.origin ≢ f.me
-    taken_is_of_other_in own = ∥∥₁_elim {P = ⊥} some absurd_is_alone (λ (x : StandsForSome f). taken_is_of_other f x.0 x.1 id m (is_taken f x.0 x.1 id m next takes) own)
+  next_fits : IsTrue (fits r.n m)
+  next_fits = subst (λ n. IsTrue (fits n m)) is.left.of_store (All-contains (λ y. IsTrue (fits s.history.present.n y)) s.early m is.is_state.are_early.fit is_found.0)
 
-    pub fewer_are_left_in : length (without id f.buffer.early) < length f.buffer.early
-    fewer_are_left_in = ∥∥₁_elim some (search props) (λ x. fewer_are_left f x.0 x.1 id m (is_taken f x.0 x.1 id m next takes))
+  next_is_of_other : m.origin ≢ r.me
+  next_is_of_other =
+      subst (λ me. m.origin ≢ me) is.left.of_member
+      (IsNew-from_test s.history.present.me (counted s.history) m (All-contains (λ y. is_old s.history.present.me (counted s.history) y ≡ false) s.early m is.is_state.are_early.new is_found.0)).other
 
-    pub length-stable_in : (stable : List ℕ) → StableAfter m.origin m.tag f.matrix stable → length stable ≡ f.n
-    length-stable_in stable after = ∥∥₁_elim some (search props) (λ x. length-stable_after f x.0 x.1 id m (is_taken f x.0 x.1 id m next takes) stable after)
+  next_is_deliverable : IsTrue (is_deliverable r.n (counts r.n s.history.present.messages) m)
+  next_is_deliverable = subst (λ n. IsTrue (is_deliverable n (counts n s.history.present.messages) m)) is.left.of_store is_found.1
+
+  -- the stable counts after the message
+  stable_is : (stable : List ℕ) → StableAfter m.origin m.tag r.matrix stable → stable ≡ stable_vector r.n r.me (s.history.present.messages ++ m ∷ [])
+  stable_is stable after = after r.n r.me s.history.present.messages m is.left.matrix (record { of_origin = refl; with_tag = refl; deliverable = next_is_deliverable })
+
+  length-stable_after : (stable : List ℕ) → StableAfter m.origin m.tag r.matrix stable → length stable ≡ r.n
+  length-stable_after stable after = ap length (stable_is stable after) ∙ length-map-range_with_len (stable_count r.n r.me (s.history.present.messages ++ m ∷ [])) 0 r.n
+
+  -- what a check with the sender's last timestamp and the stable counts after the message tells
+  pub check_tells : (result : Result (Unit {0}) Crook) (last stable : List ℕ)
+      → ((n me : ℕ) (messages : List Message) → IsMatrixOf n me messages r.matrix → last ≡ known_vector n me messages m.origin) → StableAfter m.origin m.tag r.matrix stable
+      → ((n w me : ℕ) (ms : List Message) → me < n → IsTrue (is_chapter n w me ms) → IsWindowOf n w me ms r.window → IsTrue (is_deliverable n (counts n ms) m) → m.origin ≢ me → last ≡ last_tag n ms m.origin
+      → stable ≡ stable_vector n me (ms ++ m ∷ []) → result ≡ verdict (crook_of n w me ms m))
+      → result ≡ verdict (crook_after r.w s.history m)
+  check_tells result last stable row after told =
+      let f = fields_of r in
+      let messages = s.history.present.messages in
+      let from_row : last ≡ last_tag r.n messages m.origin
+      = row r.n r.me messages is.left.matrix ∙ ap (λ own. if own then counts r.n messages else last_tag r.n messages m.origin) (ne_eqb m.origin r.me next_is_of_other) in
+      told r.n r.w r.me messages (member_of f (state_without (id_of m) s) is.left) (chapter_of f (state_without (id_of m) s) is.left) is.left.window next_is_deliverable next_is_of_other from_row
+      (stable_is stable after)
+      ∙ ap₂ (λ n me. verdict (crook_of n r.w me messages m)) (sym is.left.of_store) (sym is.left.of_member)
+
+  -- where it isn't crooked it is delivered
+  module _ (right : crook_after r.w s.history m ≡ None) where
+    delivered : with_own (state_without (id_of m) s) m ≡ state_with r.w s m
+    delivered = ap (λ o. record { history = with_messages s.history (messages_with s.history.present.messages m o); early = without (id_of m) s.early }) (sym right)
+
+    pub delivered_is_state : IsState r.w r.limit (with_own (state_without (id_of m) s) m)
+    delivered_is_state = subst (IsState r.w r.limit) (sym delivered) (step_keeps_state r.w r.limit s m is.is_state is.next)
+
+    pub is_step_of_delivered : (new : Replica) → StandsFor new (with_own (state_without (id_of m) s) m) → IsStepOf r.w s (step.Took (id_of m)) new
+    is_step_of_delivered new stays = record {
+      message = m;
+      next = is.next;
+      is = ap (step_of m) (sym right);
+      stands = subst (StandsFor new) delivered stays;
+    }
+
+  -- and dropped where it is
+  pub is_step_of_dropped : (crook : Crook) → crook_after r.w s.history m ≡ Some crook → IsStepOf r.w s (step.Crook (id_of m) crook) r
+  is_step_of_dropped crook wrong = record {
+    message = m;
+    next = is.next;
+    is = ap (step_of m) (sym wrong);
+    stands = subst (StandsFor r) (ap (λ o. record { history = with_messages s.history (messages_with s.history.present.messages m o); early = without (id_of m) s.early }) (sym wrong)) is.left;
+  }
+
+-- what is true of it, where it is the next of some state, and what is true is a proposition
+module _ (r : Replica) (m : Message) (some : ∥ ((s : State) × IsNextOf r m s) ∥₁) where
+  pub next_fits_in : IsTrue (fits r.n m)
+  next_fits_in = ∥∥₁_elim some (search props) (λ x. next_fits r m x.0 x.1)
+
+  pub next_entries_in : length m.tag ≡ r.n
+  next_entries_in = fits_entries r.n m next_fits_in
+
+  pub next_member_in : m.origin < r.n
+  next_member_in = fits_member r.n m next_fits_in
+
+  pub next_is_of_other_in : m.origin ≢ r.me
+  next_is_of_other_in own = ∥∥₁_elim {P = ⊥} some absurd_is_alone (λ (x : (s : State) × IsNextOf r m s). next_is_of_other r m x.0 x.1 own)
+
+  pub length-stable_in : (stable : List ℕ) → StableAfter m.origin m.tag r.matrix stable → length stable ≡ r.n
+  length-stable_in stable after = ∥∥₁_elim some (search props) (λ x. length-stable_after r m x.0 x.1 stable after)

@@ -1,11 +1,15 @@
 -- What one message more makes of parts of a replica, and what the steps of receiving make of all its fields.
 use Rattle.std.specs.Prelude.{◌≡◌, ◌≢◌, ℕ, Bool, not, ◌&&◌, ◌||◌, ◌==◌, IsTrue, List, [], ◌∷◌, ◌++◌, Some, if◌then◌else◌}
+use Rattle.op_base.specs.Message.{id_of}
 use Rattle.op_base.specs.declared.message.Message.{Message}
 use Rattle.op_base.specs.declared.outcome.Step.{Step}
+use Rattle.op_base.specs.declared.tag.MessageId.{MessageId}
 use Rattle.causal_model.specs.Chapter.{is_chapter}
+use Rattle.causal_model.specs.Early.{without}
 use Rattle.causal_model.specs.Receiving.{next_of, crook_after, step_of, state_with, steps}
 use Rattle.causal_model.specs.State.{State}
 use Rattle.causal_model.specs.Stability.{carries_operation}
+use Rattle.causal_model.specs.States.{IsState}
 use Rattle.stability_matrix.specs.Rows.{Known, stable_of, noted}
 use Rattle.stability_matrix.specs.Standing.{IsMatrixOf}
 use Rattle.replica_core.specs.Rules.{StandsFor}
@@ -35,6 +39,16 @@ is_due_after me due m = not (m.origin == me) && (due || carries_operation m.op)
 pub record HasStepped (w : ℕ) (s : State) (made : List Step) (new : Replica) : Type 0 where
   pub are : made ≡ (steps w s).0
   pub stands : StandsFor new (steps w s).1
+
+-- a state without the early messages of an id
+abbrev pub state_without : MessageId → State → State
+state_without id s = record { history = s.history; early = without id s.early }
+
+-- a message is the next of a state that a replica can be in, and the fields stand for the state without it
+pub record IsNextOf (r : Replica) (m : Message) (s : State) : Type 0 where
+  pub is_state : IsState r.w r.limit s
+  pub next : next_of s ≡ Some m
+  pub left : StandsFor r (state_without (id_of m) s)
 
 -- it is the next step of a state, and the fields stand for the state after it
 pub record IsStepOf (w : ℕ) (s : State) (step : Step) (new : Replica) : Type 0 where

@@ -1,23 +1,26 @@
 //! Receiving messages of others, and delivering them in causal order.
 
-ghost use Rattle.std.specs.Prelude.{◌≡◌, ◌<◌, ◌≤◌, false, [], length, vec_capacity, IsTrue, IfOk, OnErr, None};
+ghost use Rattle.std.specs.Prelude.{◌≡◌, ◌+◌, ◌<◌, ◌≤◌, false, [], length, vec_capacity, IsTrue, IfOk, OnErr, None};
 ghost use Rattle.std.specs.Option.{IfSome, IfNone};
 ghost use Rattle.op_base.specs.Message.{fits, id_of};
 ghost use Rattle.op_base.specs.declared.message.Message.{Message as AMessage};
-ghost use Rattle.causal_model.specs.Counts.{is_carried};
+ghost use Rattle.causal_model.specs.Counts.{is_carried, is_deliverable};
+ghost use Rattle.causal_model.specs.Early.{is_again};
 ghost use Rattle.causal_model.specs.Follows.{Follows};
 ghost use Rattle.causal_model.specs.Receiving.{is_old, is_far, next_of, with_early, refusal_by_id, refusal_of, is_accepted, receive_rule};
 ghost use Rattle.causal_model.specs.State.{State};
+ghost use Rattle.stable_state.specs.Shown.{shown};
 
 use crate::replica::Replica;
 use crate::step::Sender;
+use causal_buffer::is_deliverable;
 use causal_model::{Receive, Refusal};
 use op_base::{Message, MessageId, NoMemory, Step, StepList};
 use std::alloc::Global;
 
 impl Replica {
     ghost use Rattle.replica_core.specs.Rules.{StandsFor, SameSettings, Unchanged, IsBounded};
-    ghost use Rattle.replica_core.specs.Steps.{HasStepped, IsStepOf};
+    ghost use Rattle.replica_core.specs.Steps.{HasStepped, IsNextOf, IsStepOf};
 
     /// Receives a message of the store, none of whose entries is above the limit and whose operation is valid. One that is
     /// old, early already or too far ahead is let go, and changes nothing. Each other becomes early; then early messages are
@@ -80,9 +83,39 @@ impl Replica {
         let most = self.buffer.len() + 1;
         let mut steps = Vec::with_capacity(alloc, most)?;
         self.items.reserve(self.log.len() + most)?;
-        self.buffer.keep(message, self.me, &self.counts);
-        self.make_steps(&mut steps);
+        self.take_in(message, &mut steps);
         Ok(StepList::from_vec(steps))
+    }
+
+    /// Takes in a message that is neither old nor early already nor far, and makes the steps that follow. Where none is early
+    /// and it can be delivered, it never becomes early. There is room for a step of each early message and of this one, and for
+    /// what they can make of the items.
+    fn take_in(&mut self, message: Message, steps: &mut Vec<Step>)
+        requires fits { IsTrue (fits self.old.n message) }
+        requires carried { IsTrue (is_carried self.old.limit message) }
+        requires new { is_old self.old.me self.old.counts message ≡ false }
+        requires apart { is_again self.old.buffer.early message ≡ false }
+        requires near { is_far self.old.buffer.n self.old.buffer.w self.old.me self.old.counts message ≡ false }
+        requires none { steps.old.items ≡ [] }
+        requires room { length self.old.buffer.early + 1 ≤ vec_capacity steps.old }
+        requires spare { length self.old.log.entries + length self.old.buffer.early + 1 ≤ (shown self.old.items).spare }
+        ensures steps { (s : State) → StandsFor self.old s → HasStepped self.old.w (with_early s message) steps.new.items self.new }
+        ensures settings { SameSettings self.old self.new }
+    {
+        if self.comes_alone(&message) {
+            steps.push_reserved(self.take(message));
+        } else {
+            self.buffer.keep(message, self.me, &self.counts);
+            self.make_steps(steps);
+        }
+    }
+
+    /// Whether no message is early, and this one can be delivered.
+    fn comes_alone(&self, message: &Message) -> bool
+        requires { IsTrue (fits self.now.n message.now) }
+        ensures { IsTrue result → (self.now.buffer.early ≡ []) × IsTrue (is_deliverable self.now.n self.now.counts message.now) }
+    {
+        self.buffer.is_empty() && is_deliverable(message, &self.counts)
     }
 
     /// Makes the steps that can be made, one after the other. There is room for a step of each early message.
@@ -108,14 +141,27 @@ impl Replica {
         let Some(message) = self.buffer.remove(id) else {
             unreachable!()
         };
+        Some(self.take(message))
+    }
+
+    /// Takes the next message of a state, whose other early messages are still early: it is delivered, or dropped where it is
+    /// crooked.
+    fn take(&mut self, message: Message) -> Step
+        requires next { ∥ ((s : State) × IsNextOf self.old message s) ∥₁ }
+        requires spare { length self.old.log.entries + length self.old.buffer.early + 1 ≤ (shown self.old.items).spare }
+        ensures step { (s : State) → IsNextOf self.old message s → IsStepOf self.old.w s result self.new }
+        ensures settings { SameSettings self.old self.new }
+        ensures buffer { self.new.buffer ≡ self.old.buffer }
+    {
+        let id = message.id();
         let last = self.matrix.row(message.origin);
         let stable = self.matrix.stable_after(message.origin, message.tag);
         match self.window.check(&message, &last, &stable) {
             Ok(()) => {
                 self.step(message, Sender::Other(stable));
-                Some(Step::Took(id))
+                Step::Took(id)
             }
-            Err(crook) => Some(Step::Crook(id, crook)),
+            Err(crook) => Step::Crook(id, crook),
         }
     }
 }
