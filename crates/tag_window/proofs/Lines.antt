@@ -1,16 +1,19 @@
 -- The queues of all members, as what a window holds of each.
-use Rattle.std.proofs.Common.{◌≡◌, ℕ, ◌+◌, ◌<◌, ◌≤◌, Bool, true, false, nat_lt, List, [], ◌∷◌, ◌++◌, length, take, drop, append-nil, map, set, get_or, replicate, zero, suc, refl, sym, ap, subst, ◌∙◌, arith, Option, Some, None}
+use Rattle.std.proofs.Common.{◌≡◌, ℕ, ◌+◌, ◌<◌, ◌≤◌, Bool, true, false, nat_lt, All, min, List, [], ◌∷◌, ◌++◌, length, map, set, get_or, replicate, zero, suc, refl, sym, ap, subst, ◌∙◌, inl, inr, arith, Option, Some, None}
 use Rattle.std.specs.Prelude.{is_some}
 use Rattle.std.specs.List.{filter, find, range_with_len}
-use Rattle.std.proofs.lemmas.Bool.{cond-true, cond-false, false≢true}
-use Rattle.std.proofs.lemmas.List.{get_or-map, length-map, map-set, same_lists, get_or-replicate, length-replicate, drop_all, take_all}
+use Rattle.std.proofs.lemmas.Bool.{cases_eq, cond-true, cond-false, lt-ltb, false≢true}
+use Rattle.std.proofs.lemmas.List.{get_or-map, length-map, map-set, same_lists, set-get_or, get_or-set_same, get_or-set_other, length-set, get_or-replicate, length-replicate}
+use Rattle.std.proofs.lemmas.List.Elements.{All-nil, All-push, All-weaker}
+use Rattle.std.proofs.Math.Nat.{min-le_left, min-le_right}
+use Rattle.causal_model.proofs.ItemMaps.{filter_all_of}
 use Rattle.op_base.specs.Timestamp.{entry, zero_tag}
 use Rattle.causal_model.specs.Counts.{members}
 use Rattle.causal_model.specs.Crook.{first_some}
 use Rattle.causal_model.specs.Stability.{noop_window}
 use Rattle.tag_window.specs.declared.held.Held.{Held}
-use Rattle.tag_window.specs.Queue.{Line, tag_held}
-use Rattle.tag_window.specs.Queues.{AreQueues}
+use Rattle.tag_window.specs.Queue.{Line, tag_held, left_of}
+use Rattle.tag_window.specs.Queues.{AreQueues, AreFirsts}
 
 -- what queues hold
 abbrev pub held_by : List Line → List (List Held)
@@ -37,15 +40,6 @@ not_found w z lines x q seq are l at none =
     let held : q.held ≡ get_or (held_by lines) x [] = ap (λ (p : Line). p.held) at ∙ sym (held_by-at lines x q l) in
     sym (λ i. tag_held (n i) (origin i) (held i) seq) ∙ none ∙ ap zero_tag n
 
--- what a queue holds where the stable ones went
-abbrev pub left_of : List ℕ → Line → Line
-left_of stable q = record q { held = filter (λ h. nat_lt (entry stable q.origin) (entry h.tag q.origin)) q.held }
-
--- a vector whose items were all written over has what was written
-pub written_over : (n : ℕ) (old new : List Line) → n ≡ length old → length new ≡ length old → take n (new ++ drop (length new) old) ≡ new
-written_over n old new len same =
-    ap (λ rest. take n (new ++ rest)) (drop_all (length new) old (omega (arith, same))) ∙ ap (take n) (append-nil new) ∙ take_all n new (omega (arith, len, same))
-
 -- queues that let go of the stable ones are the queues of a window
 pub left_are_queues : (w z : ℕ) (stable : List ℕ) (old new : List Line) → AreQueues w z old → length new ≡ length old → ((x : ℕ) (q : Line) → x < length old → get_or new x q ≡ left_of stable (get_or old x q)) → AreQueues w z new
 left_are_queues w z stable old new are same each = record {
@@ -68,6 +62,27 @@ held_by-left w z stable old new are same each x l =
     held_by-at new x q (omega (arith, k, same)) ∙ ap (λ (p : Line). p.held) (each x q k)
     ∙ (λ i. filter (λ h. nat_lt (entry stable ((are.each x q k).1 i)) (entry h.tag ((are.each x q k).1 i))) (sym (held_by-at old x q k) i))
 
+-- and so are those of which one changed what it holds
+pub queues-set : (w z : ℕ) (lines : List Line) (x : ℕ) (q new : Line) → x < length lines → q ≡ get_or lines x q → new.n ≡ q.n → new.origin ≡ q.origin → new.room ≡ q.room → AreQueues w z lines → AreQueues w z (set lines x new)
+queues-set w z lines x q new l at n origin room are =
+    let same = length-set lines x new in record {
+      some = omega (arith, same, are.some);
+      few = omega (arith, same, are.few);
+      noops = are.noops ∙ ap (λ k. noop_window k w) (sym same);
+      each = λ y d k.
+          let inside : y < length lines = omega (arith, k, same) in
+          elim (cases_eq y x) [
+            | inl e ↦
+                let now : get_or (set lines x new) y d ≡ new = ap (λ i. get_or (set lines x new) i d) e ∙ get_or-set_same lines x new d l in
+                let was = are.each x q l in
+                (ap (λ (p : Line). p.n) now ∙ n ∙ ap (λ (p : Line). p.n) at ∙ was.0 ∙ sym same, ap (λ (p : Line). p.origin) now ∙ origin ∙ ap (λ (p : Line). p.origin) at ∙ was.1 ∙ sym e, ap (λ (p : Line). p.room) now ∙ room ∙ ap (λ (p : Line). p.room) at ∙ was.2)
+            | inr ne ↦
+                let stays = get_or-set_other lines x y new d ne in
+                let was = are.each y d inside in
+                (ap (λ (p : Line). p.n) stays ∙ was.0 ∙ sym same, ap (λ (p : Line). p.origin) stays ∙ was.1, ap (λ (p : Line). p.room) stays ∙ was.2)
+          ];
+    }
+
 -- empty queues, one a member
 pub empty_are_queues : (n w z room : ℕ) (lines : List Line) → 1 ≤ n → n ≤ 16 → z ≡ noop_window n w → room ≡ w + z → length lines ≡ n → ((x : ℕ) (q : Line) → x < n → get_or lines x q ≡ record { n = n; origin = x; room = room; held = [] }) → AreQueues w z lines
 empty_are_queues n w z room lines some few noops is len each = record {
@@ -84,6 +99,57 @@ held_by-empty n room lines len each = same_lists (held_by lines) (replicate n []
     let q : Line = record { n = 0; origin = 0; room = 0; held = [] } in
     let k : x < n = omega (arith, l, length-map lines (λ (p : Line). p.held), len) in
     get_or-map (λ (p : Line). p.held) lines x q d (omega (arith, k, len)) ∙ ap (λ (p : Line). p.held) (each x q k) ∙ sym (get_or-replicate n x [] d k))
+
+-- ---- a number for each member that is not above any number held of it
+
+-- where it is above the stable count, nothing is stable
+pub none_goes : (stable firsts : List ℕ) (x : ℕ) (held : List Held) → entry stable x < entry firsts x → All (λ h. entry firsts x ≤ entry h.tag x) held → filter (λ h. nat_lt (entry stable x) (entry h.tag x)) held ≡ held
+none_goes stable firsts x held below lowest =
+    filter_all_of (λ h. nat_lt (entry stable x) (entry h.tag x)) held
+    (All-weaker (λ h. entry firsts x ≤ entry h.tag x) (λ h. nat_lt (entry stable x) (entry h.tag x) ≡ true) (λ h le. lt-ltb (entry stable x) (entry h.tag x) (omega (arith, le, below))) held lowest)
+
+pub none_goes_of : (stable firsts : List ℕ) (lines : List Line) (x : ℕ) (q : Line) → (get_or lines x q).origin ≡ x → x < length lines → entry stable x < entry firsts x → AreFirsts firsts lines → set lines x (left_of stable (get_or lines x q)) ≡ lines
+none_goes_of stable firsts lines x q origin l below are =
+    let line = get_or lines x q in
+    (λ i. set lines x (record line { held = filter (λ h. nat_lt (entry stable (origin i)) (entry h.tag (origin i))) line.held }))
+    ∙ ap (λ held. set lines x (record line { held = held })) (none_goes stable firsts x line.held below (are.lowest x q l)) ∙ set-get_or lines x q
+
+-- one queue that changes, and its number
+pub firsts-set : (firsts : List ℕ) (lines : List Line) (x low : ℕ) (new : Line) → x < length lines → All (λ h. low ≤ entry h.tag x) new.held → AreFirsts firsts lines → AreFirsts (set firsts x low) (set lines x new)
+firsts-set firsts lines x low new l lowest are = record {
+  entries = omega (arith, are.entries, length-set firsts x low, length-set lines x new);
+  lowest = λ y d k.
+      let inside : y < length lines = omega (arith, k, length-set lines x new) in
+      elim (cases_eq y x) [
+        | inl e ↦
+            let at : get_or (set lines x new) y d ≡ new = ap (λ z. get_or (set lines x new) z d) e ∙ get_or-set_same lines x new d l in
+            let number : entry (set firsts x low) y ≡ low = ap (entry (set firsts x low)) e ∙ get_or-set_same firsts x low 0 (omega (arith, l, are.entries)) in
+            subst (λ (q : Line). All (λ h. entry (set firsts x low) y ≤ entry h.tag y) q.held) (sym at)
+            (All-weaker (λ h. low ≤ entry h.tag x) (λ h. entry (set firsts x low) y ≤ entry h.tag y) (λ h le. omega (arith, le, number, ap (entry h.tag) e)) new.held lowest)
+        | inr ne ↦
+            subst (λ (q : Line). All (λ h. entry (set firsts x low) y ≤ entry h.tag y) q.held) (sym (get_or-set_other lines x y new d ne))
+            (All-weaker (λ h. entry firsts y ≤ entry h.tag y) (λ h. entry (set firsts x low) y ≤ entry h.tag y) (λ h le. omega (arith, le, get_or-set_other firsts x y low 0 ne)) (get_or lines y d).held (are.lowest y d inside))
+      ];
+}
+
+-- one that takes one more
+pub firsts-push : (firsts : List ℕ) (lines : List Line) (x low : ℕ) (q new : Line) (h : Held) → x < length lines → q ≡ get_or lines x q → new ≡ record q { held = q.held ++ h ∷ [] } → low ≡ min (entry firsts x) (entry h.tag x) → AreFirsts firsts lines
+    → AreFirsts (set firsts x low) (set lines x new)
+firsts-push firsts lines x low q new h l at is least are =
+    let first : low ≤ entry firsts x = omega (arith, least, min-le_left (entry firsts x) (entry h.tag x)) in
+    let last : low ≤ entry h.tag x = omega (arith, least, min-le_right (entry firsts x) (entry h.tag x)) in
+    let lowest : All (λ e. entry firsts x ≤ entry e.tag x) q.held = subst (λ (p : Line). All (λ e. entry firsts x ≤ entry e.tag x) p.held) (sym at) (are.lowest x q l) in
+    firsts-set firsts lines x low new l
+    (subst (λ (p : Line). All (λ e. low ≤ entry e.tag x) p.held) (sym is) (All-push (λ e. low ≤ entry e.tag x) q.held h (All-weaker (λ e. entry firsts x ≤ entry e.tag x) (λ e. low ≤ entry e.tag x) (λ e le. omega (arith, le, first)) q.held lowest) last))
+    are
+
+-- zeros, where nothing is held
+pub zeros_are_firsts : (n room : ℕ) (lines : List Line) → length lines ≡ n → ((x : ℕ) (q : Line) → x < n → get_or lines x q ≡ record { n = n; origin = x; room = room; held = [] }) → AreFirsts (zero_tag n) lines
+zeros_are_firsts n room lines len each = record {
+  entries = length-replicate n 0 ∙ sym len;
+  lowest = λ x q l.
+      subst (λ (p : Line). All (λ h. entry (zero_tag n) x ≤ entry h.tag x) p.held) (sym (each x q (omega (arith, l, len)))) (All-nil (λ h. entry (zero_tag n) x ≤ entry h.tag x));
+}
 
 -- ---- the first member of whom something is told
 

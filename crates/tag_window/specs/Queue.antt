@@ -1,5 +1,5 @@
 -- The queue of one member: what is held of it, and what is true of every queue.
-use Rattle.std.specs.Prelude.{◌≡◌, ℕ, ◌+◌, ◌<◌, ◌≤◌, List, [], ◌∷◌, length, count_by, All, slice_index_or, ◌==◌, if◌then◌else◌}
+use Rattle.std.specs.Prelude.{◌≡◌, ℕ, ◌+◌, ◌<◌, ◌≤◌, List, [], ◌∷◌, length, filter, nat_lt, count_by, All, slice_index_or, ◌==◌, if◌then◌else◌}
 use Rattle.op_base.specs.Timestamp.{entry, zero_tag}
 use Rattle.tag_window.specs.declared.held.Held.{Held}
 
@@ -28,3 +28,7 @@ pub record IsSound (line : Line) (capacity noops : ℕ) : Type 0 where
 abbrev pub tag_held : ℕ → ℕ → List Held → ℕ → List ℕ
 tag_held n x [] seq = zero_tag n
 tag_held n x (h ∷ hs) seq = if entry h.tag x == seq then h.tag else tag_held n x hs seq
+
+-- a queue without what is stable, where these are the stable counts
+abbrev pub left_of : List ℕ → Line → Line
+left_of stable q = record q { held = filter (λ h. nat_lt (entry stable q.origin) (entry h.tag q.origin)) q.held }

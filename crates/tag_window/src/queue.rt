@@ -1,9 +1,9 @@
 //! The queue of one member: its unstable timestamps in the order of their numbers.
 
-ghost use Rattle.std.specs.Prelude.{◌≡◌, ℕ, ◌+◌, ◌<◌, ◌≤◌, [], ◌∷◌, ◌++◌, length, filter, count_by, not, nat_lt, IfOk, IfSome, IfNone};
+ghost use Rattle.std.specs.Prelude.{◌≡◌, ℕ, ◌+◌, ◌<◌, ◌≤◌, [], ◌∷◌, ◌++◌, length, All, count_by, not, IfOk, IfSome, IfNone};
 ghost use Rattle.op_base.specs.Timestamp.{entry, zero_tag};
 ghost use Rattle.tag_window.specs.Window.{IsNextNumber};
-ghost use Rattle.tag_window.specs.Queue.{tag_held};
+ghost use Rattle.tag_window.specs.Queue.{tag_held, left_of};
 
 use crate::held::Held;
 use op_base::{NoMemory, Tag};
@@ -61,21 +61,24 @@ impl Queue {
         self.held.push_back_reserved(held);
     }
 
-    /// Lets go of all whose number is at most the stable count.
-    pub fn drop_stable(&mut self, stable: &Tag)
+    /// Lets go of all whose number is at most the stable count, and tells a number that is not above any that is left.
+    pub fn drop_stable(&mut self, stable: &Tag) -> u32
         requires { length stable.now ≡ self.old.n }
-        ensures { self.new ≡ record self.old { held = filter (λ h. nat_lt (entry stable.now self.old.origin) (entry h.tag self.old.origin)) self.old.held } }
+        ensures left { self.new ≡ left_of stable.now self.old }
+        ensures first { All (λ h. result ≤ entry h.tag self.old.origin) self.new.held }
     {
         let count = stable.at(self.origin);
         while let Some(first) = self.held.front() {
-            if first.tag.at(self.origin) > count {
-                return;
+            let number = first.tag.at(self.origin);
+            if number > count {
+                return number;
             }
             if first.noop {
                 self.noops -= 1;
             }
             self.held.pop_front();
         }
+        u32::MAX
     }
 
     /// The timestamp with a number, where it is held.

@@ -12,6 +12,7 @@ ghost use Rattle.tag_window.specs.Window.{held_of, held_count, IsNextNumber};
 ghost use Rattle.tag_window.specs.Check.{verdict, regress_in, unclosed_in, overrun_in, noop_overrun_in, added, crook_in};
 ghost use Rattle.tag_window.specs.History.{IsWindowOf, IsWindowWith};
 
+use crate::dropping::{drop_of_each, is_everywhere_below};
 use crate::held::Held;
 use crate::queue::Queue;
 use causal_model::{MOST_WINDOW, most_noops, most_unstable};
@@ -27,6 +28,8 @@ pub struct TagWindow {
     w: u8,
     /// The no-op window.
     z: u32,
+    /// A number for each member that is not above any number held of it.
+    firsts: Tag,
     queues: Vec<Queue>,
 }
 
@@ -36,11 +39,11 @@ impl Model for TagWindow {
 
     ghost Value = { Window };
 
-    ghost use Rattle.tag_window.specs.Queues.{AreQueues};
+    ghost use Rattle.tag_window.specs.Queues.{AreHeld};
 
     ghost view = { λ t. record { w = t.w; held = map (λ q. q.held) t.queues.items } };
 
-    ghost invariant = { λ t. AreQueues t.w t.z t.queues.items };
+    ghost invariant = { λ t. AreHeld t.w t.z t.firsts t.queues.items };
 }
 
 /// Whether a timestamp is nowhere below another of as many members. There is no early end, so that several numbers are
@@ -139,7 +142,12 @@ impl TagWindow {
         for origin in 0..n {
             queues.push(Queue::create(alloc, n, origin, room)?)?;
         }
-        Ok(TagWindow { w, z, queues })
+        Ok(TagWindow {
+            w,
+            z,
+            firsts: Tag::zero(n),
+            queues,
+        })
     }
 
     /// Why a message is crooked that can be delivered, where `last` is its sender's last timestamp and `stable_after` has
@@ -170,6 +178,8 @@ impl TagWindow {
     {
         let queue = &mut self.queues[origin as usize];
         queue.push(Held { tag, noop });
+        let first = self.firsts.at(origin).min(tag.at(origin));
+        self.firsts.set(origin, first);
     }
 
     /// Lets go of the timestamps of all messages that are stable where these are the stable counts.
@@ -181,9 +191,10 @@ impl TagWindow {
         // where it had a message beside a member's unstable ones, it is of the unstable ones after the message
         ensures of { (n w me : ℕ) (ms : List AMessage) (m : AMessage) → me < n → IsTrue (is_chapter n w me (ms ++ m ∷ [])) → stable.now ≡ stable_vector n me (ms ++ m ∷ []) → IsWindowWith n w me ms m self.old → IsWindowOf n w me (ms ++ m ∷ []) self.new }
     {
-        for queue in self.queues.iter_mut() {
-            queue.drop_stable(stable);
+        if is_everywhere_below(stable, &self.firsts) {
+            return;
         }
+        drop_of_each(&mut self.queues, &mut self.firsts, stable);
     }
 
     /// How many no-ops, or how many operations, of a member are held.

@@ -9,13 +9,13 @@ use Rattle.tag_window.proofs.Queues.{left_after, all_above, first_goes, sound-dr
 use Rattle.tag_window.proofs.queue.Queue.drop_stable.Goals as goal
 use Rattle.tag_window.proofs.queue.Queue.drop_stable.Goals.{then-first, else-first}
 
-pub returns-then-at-count : goal.returns-then-at-count
-returns-then-at-count c =
+pub returns-then-number-count-clause-left : goal.returns-then-number-count-clause-left
+returns-then-number-count-clause-left c =
     let q = c.self.inside in
     let now = c.loop-first.self-inside in
     let inv = c.loop-first.invariant in
     let first = c.in-Some.first.now in
-    let above : c.at-count.result < entry (get_or now.held.items 0 first).tag now.origin = omega (arith, c.if-at-count.true, c.at.ensures, ap (λ (h : Held). entry h.tag now.origin) c.in-Some.ensures.lookup) in
+    let above : c.at-count.result < entry (get_or now.held.items 0 first).tag now.origin = omega (arith, c.if-number-count.true, c.at-number.ensures, ap (λ (h : Held). entry h.tag now.origin) c.in-Some.ensures.lookup) in
     subst (λ (o : Line). record { n = now.n; origin = now.origin; room = now.room; held = now.held.items } ≡ record o { held = filter (λ h. nat_lt (entry c.args.stable.now o.origin) (entry h.tag o.origin)) o.held }) c.self.view_is
     (left_after (record { n = q.n; origin = q.origin; room = q.room; held = q.held.items }) (record { n = now.n; origin = now.origin; room = now.room; held = now.held.items }) c.at-count.result c.args.stable.now
     inv.members inv.origin inv.room c.at-count.ensures inv.kept (all_above now.origin c.at-count.result now.held.items first inv.sound.numbered above))
@@ -28,7 +28,7 @@ loop-first-preserved c =
     let popped = c.pop_front.new.self in
     let first = c.in-Some.first.now in
     let at_first : get_or now.held.items 0 first ≡ first = sym c.in-Some.ensures.lookup in
-    let low : entry (get_or now.held.items 0 first).tag now.origin ≤ c.at-count.result = omega (arith, c.if-at-count.false, c.at.ensures, ap (λ (h : Held). entry h.tag now.origin) at_first) in
+    let low : entry (get_or now.held.items 0 first).tag now.origin ≤ c.at-count.result = omega (arith, c.if-number-count.false, c.at-number.ensures, ap (λ (h : Held). entry h.tag now.origin) at_first) in
     let some : 0 < length now.held.items = omega (arith, c.in-Some.ensures.variant.0 refl, now.held.ok.0) in
     let changed : (noops : ℕ) × (after ≡ record now { noops = noops }) × (noops ≡ now.noops - (if first.noop then 1 else 0)) = elim c.if-first.branch [
       | then-first w ↦ (now.noops - 1, w.self-inside-is, ap (λ b. now.noops - (if b then 1 else 0)) (sym w.if-first.true))

@@ -1,11 +1,27 @@
-use Rattle.std.proofs.Common.{◌≡◌, ◌<◌, ◌++◌, ◌∷◌, [], length, set, ap, subst, arith}
+use Rattle.std.proofs.Common.{◌≡◌, ◌<◌, ◌++◌, ◌∷◌, [], length, min, set, sym, ap, ap₂, subst, ◌∙◌, arith}
 use Rattle.std.proofs.lemmas.List.{length-map}
 use Rattle.tag_window.specs.declared.held.Held.{Held}
+use Rattle.op_base.specs.Timestamp.{entry}
 use Rattle.tag_window.specs.Queue.{Line}
+use Rattle.tag_window.specs.Queues.{AreFirsts}
 use Rattle.tag_window.specs.Window.{Window, held_of}
-use Rattle.tag_window.proofs.Lines.{held_by, held_by-push}
+use Rattle.tag_window.proofs.Lines.{held_by, held_by-push, queues-set, firsts-push}
 use Rattle.tag_window.proofs.Kept.{with_message}
 use Rattle.tag_window.proofs.window.TagWindow.push.Goals as goal
+
+pub invariant_of-self : goal.invariant_of-self
+invariant_of-self c =
+    let lines = c.self.inside.queues.items in
+    let x = c.args.origin in
+    let q = c.index_mut-queue.result.now in
+    let new = c.push.new.self in
+    let h : Held = record { tag = c.args.tag; noop = c.args.noop } in
+    let l : x < length lines = omega (arith, c.requires.member, ap (λ (v : Window). length v.held) c.self.view_is, length-map lines (λ (q : Line). q.held)) in
+    let least : c.min-first.result ≡ min (entry c.self.inside.firsts x) (entry h.tag x) = c.min-first.ensures ∙ ap₂ min c.at.ensures c.at-2.ensures in
+    record {
+      are_queues = queues-set c.self.inside.w c.self.inside.z lines x q new l c.index_mut-queue.ensures.value (ap (λ (p : Line). p.n) c.push.ensures) (ap (λ (p : Line). p.origin) c.push.ensures) (ap (λ (p : Line). p.room) c.push.ensures) c.self.invariant.are_queues;
+      are_firsts = subst (λ firsts. AreFirsts firsts (set lines x new)) (sym c.set.ensures) (firsts-push c.self.inside.firsts lines x c.min-first.result q new h l c.index_mut-queue.ensures.value c.push.ensures least c.self.invariant.are_firsts);
+    }
 
 pub returns-clause-held : goal.returns-clause-held
 returns-clause-held c =

@@ -15,5 +15,5 @@ returns-in_err-had c =
     let m = c.args.message.now in
     let member : x < length lines = omega (arith, c.requires.member, ap (λ (v : Window). length v.held) c.self.view_is, length-map lines (λ (q : Line). q.held)) in
     let none : tag_held (length (held_by lines)) x (get_or (held_by lines) x []) (entry m.tag x) ≡ zero_tag (length (held_by lines)) =
-    ap (tag_held (length (held_by lines)) x (get_or (held_by lines) x [])) (sym c.at-seq.ensures) ∙ not_found c.self.inside.w c.self.inside.z lines x c.index-queue.result.now c.at-seq.result c.self.invariant member c.index-queue.ensures c.in_err-had.ensures.none in
+    ap (tag_held (length (held_by lines)) x (get_or (held_by lines) x [])) (sym c.at-seq.ensures) ∙ not_found c.self.inside.w c.self.inside.z lines x c.index-queue.result.now c.at-seq.result c.self.invariant.are_queues member c.index-queue.ensures c.in_err-had.ensures.none in
     c.from_residual.ensures ∙ sym (subst (λ (v : Window). unclosed_in (length v.held) v m c.args.last.now x ≡ None) c.self.view_is (closed_where_none (length (held_by lines)) (record { w = c.self.inside.w; held = held_by lines }) m c.args.last.now x none))
