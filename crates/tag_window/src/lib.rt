@@ -3,6 +3,7 @@
 //! They are what is needed of the messages that were delivered to tell whether one that comes is crooked.
 #![tactic(auto)]
 
+mod block;
 mod dropping;
 mod held;
 mod laws;

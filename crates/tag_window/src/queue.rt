@@ -5,10 +5,10 @@ ghost use Rattle.op_base.specs.Timestamp.{entry, zero_tag};
 ghost use Rattle.tag_window.specs.Window.{IsNextNumber};
 ghost use Rattle.tag_window.specs.Queue.{tag_held, left_of};
 
+use crate::block::Block;
 use crate::held::Held;
 use op_base::{NoMemory, Tag};
 use std::alloc::Global;
-use std::collections::VecDeque;
 use std::marker::Model;
 
 /// What is held of one member. It has its whole room from the start.
@@ -17,19 +17,18 @@ pub struct Queue {
     n: u8,
     origin: u8,
     room: usize,
-    held: VecDeque<Held>,
+    held: Block,
     noops: u32,
 }
 
 impl Model for Queue {
-    ghost use Rattle.std.specs.VecDeque.{deque_capacity};
     ghost use Rattle.tag_window.specs.Queue.{Line, IsSound};
 
     ghost Value = { Line };
 
     ghost view = { λ q. record { n = q.n; origin = q.origin; room = q.room; held = q.held.items } };
 
-    ghost invariant = { λ q. IsSound (record { n = q.n; origin = q.origin; room = q.room; held = q.held.items }) (deque_capacity q.held) q.noops };
+    ghost invariant = { λ q. IsSound (record { n = q.n; origin = q.origin; room = q.room; held = q.held.items }) q.held.room q.noops };
 }
 
 impl Queue {
@@ -43,7 +42,7 @@ impl Queue {
             n,
             origin,
             room,
-            held: VecDeque::with_capacity(alloc, room)?,
+            held: Block::create(alloc, room)?,
             noops: 0,
         })
     }
@@ -58,7 +57,7 @@ impl Queue {
         if held.noop {
             self.noops += 1;
         }
-        self.held.push_back_reserved(held);
+        self.held.push(held);
     }
 
     /// Lets go of all whose number is at most the stable count, and tells a number that is not above any that is left.

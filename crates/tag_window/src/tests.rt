@@ -181,10 +181,10 @@ fn a_member_has_a_window_of_operations_and_one_of_no_ops(rt: HostRuntime) -> Res
 }
 
 #[test]
-fn timestamps_are_found_by_their_numbers_as_a_queue_wraps_round(
+fn timestamps_are_found_by_their_numbers_as_a_queue_moves_to_the_front(
     rt: HostRuntime,
 ) -> Result<(), Fail> {
-    // with room for four, three at a time go past the end of the memory in the second round, and in later ones
+    // with room for four, three at a time have room only where what is held moves to the front
     let mut queue = Queue::create(rt.alloc(), 3, 0, 4)?;
     for round in 0..9u32 {
         let sent = round * 3;

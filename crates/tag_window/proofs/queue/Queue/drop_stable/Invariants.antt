@@ -1,4 +1,4 @@
-use Rattle.std.proofs.Common.{◌≡◌, length, deque_capacity}
+use Rattle.std.proofs.Common.{◌≡◌, length}
 use Rattle.std.specs.Prelude.{nat_lt}
 use Rattle.std.specs.List.{filter}
 use Rattle.op_base.specs.Timestamp.{entry}
@@ -7,7 +7,7 @@ use Rattle.tag_window.proofs.queue.Queue.drop_stable.Given as goal
 
 abbrev pub invariant-loop-first : goal.invariant-loop-first
 invariant-loop-first l = record {
-  sound : IsSound (record { n = l.self-inside.n; origin = l.self-inside.origin; room = l.self-inside.room; held = l.self-inside.held.items }) (deque_capacity l.self-inside.held) l.self-inside.noops;
+  sound : IsSound (record { n = l.self-inside.n; origin = l.self-inside.origin; room = l.self-inside.room; held = l.self-inside.held.items }) l.self-inside.held.room l.self-inside.noops;
   members : l.self-inside.n ≡ l.initial.self-inside.n;
   origin : l.self-inside.origin ≡ l.initial.self-inside.origin;
   room : l.self-inside.room ≡ l.initial.self-inside.room;

@@ -20,7 +20,7 @@ returns-in_err-get-clause-none c =
     let q = c.self.inside in
     let first = c.in_ok-front.field-0.now in
     let past : length q.held.items ≤ c.args.seq - c.at-first.result = elim (cases_lt (c.args.seq - c.at-first.result) (length q.held.items)) [
-      | inl l ↦ absurd (false≢true (c.in_err-get.ensures.variant.1 (omega (arith, l, q.held.ok.0))))
+      | inl l ↦ absurd (false≢true (c.in_err-get.ensures.variant.1 l))
       | inr high ↦ high
     ] in
     let none = subst (λ (l : Line). tag_held l.n l.origin l.held c.args.seq ≡ zero_tag l.n) c.self.view_is
@@ -32,7 +32,7 @@ returns-clause-found c =
     let q = c.self.inside in
     let first = c.in_ok-front.field-0.now in
     let here = c.in_ok-get.field-0.now in
-    let within : c.args.seq - c.at-first.result < length q.held.items = omega (arith, c.in_ok-get.ensures.variant.0 refl, q.held.ok.0) in
+    let within : c.args.seq - c.at-first.result < length q.held.items = c.in_ok-get.ensures.variant.0 refl in
     ap (λ (h : Held). h.tag) c.in_ok-get.ensures.lookup
     ∙ ap (λ (h : Held). h.tag) (get_or_default q.held.items (c.args.seq - c.at-first.result) here first within)
     ∙ sym (tag_held-at q.n q.origin q.held.items (c.args.seq - c.at-first.result) c.args.seq first c.self.invariant.numbered within (omega (arith, c.if-seq-first.false, c.at-first.ensures, ap (λ (h : Held). entry h.tag q.origin) c.in_ok-front.ensures.lookup)))

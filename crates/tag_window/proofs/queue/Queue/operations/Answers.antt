@@ -8,4 +8,4 @@ use Rattle.tag_window.proofs.queue.Queue.operations.Goals as goal
 pub returns-clause-value : goal.returns-clause-value
 returns-clause-value c =
     subst (λ (l : Line). c.len.result - c.self.inside.noops ≡ count_by (λ (h : Held). not h.noop) l.held) c.self.view_is
-    (omega (arith, count_by-not (λ (h : Held). h.noop) c.self.inside.held.items, c.self.invariant.counted, c.len.ensures, c.self.inside.held.ok.0))
+    (omega (arith, count_by-not (λ (h : Held). h.noop) c.self.inside.held.items, c.self.invariant.counted, c.len.ensures))

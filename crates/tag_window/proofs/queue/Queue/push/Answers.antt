@@ -1,5 +1,6 @@
-use Rattle.std.proofs.Common.{◌≡◌, ℕ, ◌+◌, ◌<◌, length, if◌then◌else◌, ◌++◌, ◌∷◌, [], deque_capacity, sym, ap, subst, ◌∙◌, arith}
+use Rattle.std.proofs.Common.{◌≡◌, ℕ, ◌+◌, ◌<◌, length, if◌then◌else◌, ◌++◌, ◌∷◌, [], sym, ap, subst, ◌∙◌, arith}
 use Rattle.tag_window.specs.declared.queue.Queue.TheInside.{Inside}
+use Rattle.tag_window.specs.Filled.{Filled}
 use Rattle.tag_window.specs.Queue.{Line}
 use Rattle.tag_window.specs.Window.{IsNextNumber}
 use Rattle.tag_window.proofs.Queues.{sound-push}
@@ -11,14 +12,14 @@ invariant_of-self c =
     let q = c.self.inside in
     let line : Line = record { n = q.n; origin = q.origin; room = q.room; held = q.held.items } in
     let now = c.if-held.self-inside in
-    let pushed = c.push_back_reserved.new.self in
+    let pushed = c.push.new.self in
     let goes = λ (noops : ℕ) (is : now ≡ record q { noops = noops }) (count : noops ≡ q.noops + (if c.args.held.noop then 1 else 0)).
-    sound-push line (record { n = now.n; origin = now.origin; room = now.room; held = pushed.items }) (deque_capacity q.held) q.noops (deque_capacity pushed) now.noops c.args.held c.self.invariant
+    sound-push line (record { n = now.n; origin = now.origin; room = now.room; held = pushed.items }) q.held.room q.noops pushed.room now.noops c.args.held c.self.invariant
     (subst (λ (l : Line). length l.held < l.room) (sym c.self.view_is) c.requires.room)
     (subst (λ (l : Line). length c.args.held.tag ≡ l.n) (sym c.self.view_is) c.requires.entries)
     (subst (λ (l : Line). IsNextNumber l.origin l.held c.args.held.tag) (sym c.self.view_is) c.requires.next)
-    (λ i. record { n = (is i).n; origin = (is i).origin; room = (is i).room; held = (c.push_back_reserved.ensures.items ∙ ap (λ (a : Inside). a.held.items ++ c.args.held ∷ []) is) i })
-    (c.push_back_reserved.ensures.capacity ∙ ap (λ (a : Inside). deque_capacity a.held) is)
+    (λ i. record { n = (is i).n; origin = (is i).origin; room = (is i).room; held = (ap (λ (b : Filled). b.items) c.push.ensures ∙ ap (λ (a : Inside). a.held.items ++ c.args.held ∷ []) is) i })
+    (ap (λ (b : Filled). b.room) c.push.ensures ∙ ap (λ (a : Inside). a.held.room) is)
     (ap (λ (a : Inside). a.noops) is ∙ count) in
     elim c.if-held.branch [
       | then-held w ↦ goes (q.noops + 1) w.self-inside-is (ap (λ b. q.noops + (if b then 1 else 0)) (sym w.if-held.true))

@@ -1,0 +1,118 @@
+//! A queue in a block of memory, of which little is touched while it holds few.
+
+ghost use Rattle.std.specs.Prelude.{◌≡◌, ◌↔◌, ◌+◌, ◌<◌, ◌≤◌, [], ◌∷◌, ◌++◌, length, drop, slice_index_or, vec_capacity, IsSome, IfOk};
+ghost use Rattle.std.specs.Option.{IfSome};
+
+use crate::held::Held;
+use op_base::NoMemory;
+use std::alloc::Global;
+use std::marker::Model;
+
+/// A queue that has its whole room from the start.
+///
+/// What it holds stands behind places that are free again. Once these are as many as it holds, all moves to the front: so at
+/// most one is moved for each one that goes, and of a block with much room only as much is touched as is twice what was held
+/// at once.
+#[derive(Drop)]
+pub struct Block {
+    /// How many places are free in front.
+    start: usize,
+    places: Vec<Held>,
+}
+
+impl Model for Block {
+    ghost use Rattle.std.specs.Prelude.{◌≤◌, length, drop, vec_capacity};
+    ghost use Rattle.tag_window.specs.Filled.{Filled};
+
+    ghost Value = { Filled };
+
+    ghost view = { λ b. record { room = vec_capacity b.places; items = drop b.start b.places.items } };
+
+    ghost invariant = { λ b. b.start ≤ length b.places.items };
+}
+
+impl Block {
+    /// The empty queue with room for so many.
+    pub fn create(alloc: Global, room: usize) -> Result<Block, NoMemory>
+        ensures { IfOk result (λ b. b ≡ record { room = room; items = [] }) }
+    {
+        Ok(Block {
+            start: 0,
+            places: Vec::with_capacity(alloc, room)?,
+        })
+    }
+
+    /// How many it holds.
+    pub fn len(&self) -> usize
+        ensures { result ≡ length self.now.items }
+    {
+        self.places.len() - self.start
+    }
+
+    /// The one with so many before it.
+    pub fn get(&self, i: usize) -> Option<&Held>
+        ensures variant { IsSome result ↔ (i < length self.now.items) }
+        ensures lookup { IfSome result (λ h. h.now ≡ slice_index_or self.now.items i h.now) }
+    {
+        if i < self.len() {
+            Some(&self.places[self.start + i])
+        } else {
+            None
+        }
+    }
+
+    /// The first.
+    pub fn front(&self) -> Option<&Held>
+        ensures variant { IsSome result ↔ (0 < length self.now.items) }
+        ensures lookup { IfSome result (λ h. h.now ≡ slice_index_or self.now.items 0 h.now) }
+    {
+        self.get(0)
+    }
+
+    /// Takes one in behind the others.
+    pub fn push(&mut self, held: Held)
+        requires { length self.old.items < self.old.room }
+        ensures { self.new ≡ record self.old { items = self.old.items ++ held ∷ [] } }
+    {
+        self.start = with_room(&mut self.places, self.start);
+        self.places.push_reserved(held);
+    }
+
+    /// Lets go of the first.
+    pub fn pop_front(&mut self)
+        requires { 0 < length self.old.items }
+        ensures { self.new ≡ record self.old { items = drop 1 self.old.items } }
+    {
+        self.start += 1;
+    }
+}
+
+/// Makes room for one more behind those that stand behind so many free places, and tells how many these are then.
+fn with_room(places: &mut Vec<Held>, start: usize) -> usize
+    requires within { start ≤ length places.old.items }
+    requires room { length places.old.items < vec_capacity places.old + start }
+    ensures same { drop result places.new.items ≡ drop start places.old.items }
+    ensures within { result ≤ length places.new.items }
+    ensures room { length places.new.items < vec_capacity places.new }
+    ensures capacity { vec_capacity places.new ≡ vec_capacity places.old }
+{
+    let held = places.len() - start;
+    if start < held && places.len() < places.capacity() {
+        return start;
+    }
+    move_to_front(places, start);
+    0
+}
+
+/// Moves those that stand behind so many free places to the front.
+fn move_to_front(places: &mut Vec<Held>, start: usize)
+    requires { start ≤ length places.old.items }
+    ensures items { places.new.items ≡ drop start places.old.items }
+    ensures capacity { vec_capacity places.new ≡ vec_capacity places.old }
+{
+    let held = places.len() - start;
+    for i in 0..held {
+        places[i] = places[start + i];
+    }
+    places.truncate(held);
+}
