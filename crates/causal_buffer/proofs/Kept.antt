@@ -4,7 +4,6 @@ use Rattle.std.specs.List.{find, list_any, flat_map}
 use Rattle.std.specs.Option.{is_some, option_map, option_copied, option_to_list}
 use Rattle.std.specs.Bool.{then_some}
 use Rattle.std.specs.Int.{from_bool}
-use Rattle.std.specs.VecDeque.{deque_capacity}
 use Rattle.std.proofs.lemmas.Bool.{and_left, and_right, and_parts, or_left, or_from, lt-ltb, le-ltb, cases_eq, false≢true, false_from_ne_true, ne_eqb, eq-eqb, eqb-true, not-true}
 use Rattle.std.proofs.lemmas.List.{get_or_default, get_or-set_same, get_or-set_other, length-set, length-append, get_or_append_left}
 use Rattle.std.proofs.Math.Seq.{get_or-append_seam}
@@ -108,21 +107,21 @@ module _ (n w : ℕ) where
       ]
 
   -- a queue with a message put into it, and one without a message
-  pub kept_put : (m : Message) (old new : Queue) → IsKept n w m.origin old → IsTrue (fits n m) → IsQueue m.origin new → messages new ≡ put_early m (messages old) → deque_capacity new.places ≡ deque_capacity old.places → IsKept n w m.origin new
+  pub kept_put : (m : Message) (old new : Queue) → IsKept n w m.origin old → IsTrue (fits n m) → IsQueue m.origin new → messages new ≡ put_early m (messages old) → new.places.room ≡ old.places.room → IsKept n w m.origin new
   kept_put m old new is fit queue e room = record {
     is_queue = queue;
     fit = subst (All (λ z. IsTrue (fits n z))) (sym e) (All-put_early (λ z. IsTrue (fits n z)) m (messages old) fit is.fit);
     room = room ∙ is.room;
   }
 
-  pub kept_without : (id : MessageId) (old new : Queue) → IsKept n w id.origin old → IsQueue id.origin new → messages new ≡ without id (messages old) → deque_capacity new.places ≡ deque_capacity old.places → IsKept n w id.origin new
+  pub kept_without : (id : MessageId) (old new : Queue) → IsKept n w id.origin old → IsQueue id.origin new → messages new ≡ without id (messages old) → new.places.room ≡ old.places.room → IsKept n w id.origin new
   kept_without id old new is queue e room = record {
     is_queue = queue;
     fit = subst (All (λ z. IsTrue (fits n z))) (sym e) (All-filter (λ m. not (has_id id m)) (λ z. IsTrue (fits n z)) (messages old) is.fit);
     room = room ∙ is.room;
   }
 
-  pub kept_empty : (x : ℕ) (q : Queue) → IsQueue x q → messages q ≡ [] → deque_capacity q.places ≡ w + noop_window n w → IsKept n w x q
+  pub kept_empty : (x : ℕ) (q : Queue) → IsQueue x q → messages q ≡ [] → q.places.room ≡ w + noop_window n w → IsKept n w x q
   kept_empty x q queue e room = record {
     is_queue = queue;
     fit = subst (All (λ z. IsTrue (fits n z))) (sym e) (All-nil (λ z. IsTrue (fits n z)));
@@ -131,7 +130,7 @@ module _ (n w : ℕ) where
 
   -- it has at most as many messages as it has room for
   pub few_kept : (x : ℕ) (q : Queue) → IsKept n w x q → q.filled ≤ w + noop_window n w
-  few_kept x q is = omega (arith, is.is_queue.counted, standing_few q.places.items, q.places.ok.0, q.places.small, is.room)
+  few_kept x q is = omega (arith, is.is_queue.counted, standing_few q.places.items, is.is_queue.within, is.room)
 
   pub kept_push : (qs : List Queue) (q : Queue) → AreKept n w qs → IsKept n w (length qs) q → AreKept n w (qs ++ q ∷ [])
   kept_push qs q kept is x d l = elim (cases_eq x (length qs)) [
@@ -212,13 +211,13 @@ module _ (n w : ℕ) where
       fresh_here fresh = none_from (find (has_id (id_of m)) (messages q)) (ap (λ z. is_some (find (has_id (id_of m)) (messages z))) at ∙ sym (any_in_queue qs q kept (id_of m) l) ∙ fresh)
 
       pub near_here : (count : ℕ) → count ≡ entry counted m.origin → entry counted m.origin < number m → is_far n w me counted m ≡ false
-          → AreAhead counted (flat_map messages qs) → AreNear n w counted (flat_map messages qs) → AreWithin count (deque_capacity q.places) (m ∷ messages q)
+          → AreAhead counted (flat_map messages qs) → AreNear n w counted (flat_map messages qs) → AreWithin count q.places.room (m ∷ messages q)
       near_here count is ahead not_far held_ahead held_near =
           let kept_here = kept_at m.origin q l at in
           let near = IsNear-from_test n w me counted m not_far in
           let above = part_at (λ e. entry counted e.origin < number e) m.origin q l at held_ahead in
           let below = part_at (λ e. number e ≤ entry counted e.origin + (w + noop_window n w)) m.origin q l at held_near in
-          All-cons (λ e. (count < number e) × (number e ≤ count + deque_capacity q.places)) m (messages q)
+          All-cons (λ e. (count < number e) × (number e ≤ count + q.places.room)) m (messages q)
           (omega (arith, is, ahead), omega (arith, is, near.within, kept_here.room))
           (λ k d i.
           let own = ap (entry counted) (queue_own m.origin q kept_here.is_queue k d i) in

@@ -1,11 +1,12 @@
 -- The places of a member's queue: what is found by a number stands at its place, and what edits of places make of the messages.
-use Rattle.std.proofs.Common.{◌≡◌, ◌≢◌, ℕ, zero, suc, ◌+◌, ◌-◌, ◌<◌, ◌≤◌, Bool, true, false, not, cond, ◌&&◌, ◌==◌, nat_lt, ◌↔◌, All, List, [], ◌∷◌, ◌++◌, length, get_or, set, take, drop, replicate, min, refl, sym, ap, subst, ◌∙◌, inl, inr, Option, Some, None, arith}
+use Rattle.std.proofs.Common.{◌≡◌, ◌≢◌, ℕ, zero, suc, ◌+◌, ◌-◌, ◌<◌, ◌≤◌, Bool, true, false, not, cond, ◌&&◌, ◌==◌, nat_lt, All, List, [], ◌∷◌, ◌++◌, length, get_or, set, take, drop, replicate, min, refl, sym, ap, subst, ◌∙◌, inl, inr, Option, Some, None, arith}
 use Rattle.std.specs.List.{find, filter}
 use Rattle.std.specs.Option.{option_to_list}
-use Rattle.std.proofs.lemmas.Bool.{and_from, and_right, or_right, or_from, cond-true, cond-false, cases_eq, cases_lt, eq-eqb, ne_eqb, lt-ltb, le-ltb, not_from_true, false≢true}
-use Rattle.std.proofs.lemmas.List.{get_or_default, get_or_past, get_or_append_left, get_or-append_right, get_or-replicate, get_or-take, get_or-drop, get_or-set_same, get_or-set_other, set_past, length-append, length-replicate, length-take}
+use Rattle.std.proofs.lemmas.Bool.{and_from, and_right, or_right, or_from, cond-true, cond-false, cases_eq, cases_lt, eq-eqb, ne_eqb, lt-ltb, le-ltb, not_from_true}
+use Rattle.std.proofs.lemmas.List.{get_or_default, get_or_past, get_or_append_left, get_or-append_right, get_or-replicate, get_or-take, get_or-drop, get_or-set_same, get_or-set_other, set_past, length-append, length-replicate, length-take, take_all}
 use Rattle.std.proofs.lemmas.List.Concat.{flat_map-append}
 use Rattle.std.proofs.lemmas.List.Elements.{All-nil, All-cons}
+use Rattle.std.proofs.Math.Nat.{min-le_left}
 use Rattle.op_base.specs.Message.{number, id_of}
 use Rattle.op_base.specs.declared.message.Message.{Message}
 use Rattle.op_base.specs.declared.tag.MessageId.{MessageId}
@@ -38,9 +39,6 @@ length-put_early m (e ∷ q) =
 
 pub below_from : (a b : ℕ) → ¬ (b ≤ a) → a < b
 below_from a b not_above = elim (cases_lt a b) [ inl l ↦ l | inr high ↦ absurd (not_above high) ]
-
-pub past_from : (k n len : ℕ) → ((false ≡ true) ↔ (k < len)) → len ≡ n → n ≤ k
-past_from k n len seen e = elim (cases_lt k n) [ inl l ↦ absurd (false≢true (seen.1 (omega (arith, l, e)))) | inr past ↦ past ]
 
 -- ---- one place
 
@@ -120,6 +118,12 @@ nones_stand n = none_stand (nones n) (λ k m e. let none = get_or-nones n k in c
 pub standing-longer : (n : ℕ) (ps : List (Option Message)) → standing (ps ++ nones n) ≡ standing ps
 standing-longer n [] = nones_stand n
 standing-longer n (p ∷ ps) = ap (λ l. option_to_list p ++ l) (standing-longer n ps)
+
+-- where none come before, all stay that there is room for
+pub none_before : (count room : ℕ) (ps : List (Option Message)) → count ≡ 0 → length ps ≤ room → ps ≡ nones (min count room) ++ take (room - count) ps
+none_before count room ps e few =
+    let none : min count room ≡ 0 = omega (arith, e, min-le_left count room) in
+    sym (take_all (room - count) ps (omega (arith, e, few))) ∙ ap (λ n. nones n ++ take (room - count) ps) (sym none)
 
 -- ---- places from a number on
 
@@ -253,15 +257,12 @@ module _ (member first : ℕ) (ps qs : List (Option Message)) (m : Message) (pla
     same : standing qs ≡ standing ps
     same = ap standing longer ∙ standing-longer (place + 1 - length ps) ps
 
-    inside : place < length qs
+    -- its place is there, and empty
+    pub inside : place < length qs
     inside = omega (arith, ap length longer, length-append ps (nones (place + 1 - length ps)), length-nones (place + 1 - length ps))
 
-    is_empty : get_or qs place None ≡ None
+    pub is_empty : get_or qs place None ≡ None
     is_empty = sym (found_at member first qs are_longer (id_of m) own place numbered) ∙ ap (find (has_id (id_of m))) same ∙ fresh
-
-    -- its place is empty
-    pub empty_place : (o : Option Message) → o ≡ get_or qs place o → o ≡ None
-    empty_place o at = at ∙ get_or_default qs place o None inside ∙ is_empty
 
     pub standing_put : standing (set qs place (Some m)) ≡ put_early m (standing ps)
     standing_put = put_at member first qs are_longer place m own numbered inside is_empty ∙ ap (put_early m) same

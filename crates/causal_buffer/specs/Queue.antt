@@ -2,7 +2,6 @@
 use Rattle.std.specs.Prelude.{◌≡◌, ℕ, ◌+◌, ◌^◌, ◌<◌, ◌≤◌, Bool, ◌&&◌, ◌==◌, List, length, slice_index_or, All, IsTrue, Option, Some, None}
 use Rattle.std.specs.List.{flat_map}
 use Rattle.std.specs.Option.{option_to_list}
-use Rattle.std.specs.VecDeque.{deque_capacity}
 use Rattle.op_base.specs.Message.{number, fits}
 use Rattle.op_base.specs.declared.message.Message.{Message}
 use Rattle.op_base.specs.declared.tag.TheConstants.{MOST_MEMBERS}
@@ -24,9 +23,10 @@ pub record ArePlaces (member first : ℕ) (places : List (Option Message)) : Typ
 abbrev pub messages : Queue → List Message
 messages queue = standing queue.places.items
 
--- a queue is a member's, its messages are counted, and their numbers fit a number's type
+-- a queue is a member's, there is room for its places, its messages are counted, and their numbers fit a number's type
 pub record IsQueue (member : ℕ) (queue : Queue) : Type 0 where
   pub are_places : ArePlaces member queue.first queue.places.items
+  pub within : length queue.places.items ≤ queue.places.room
   pub counted : queue.filled ≡ length (messages queue)
   pub small : All (λ m. number m < 2 ^ 32) (messages queue)
 
@@ -38,7 +38,7 @@ AreWithin count room early = All (λ m. (count < number m) × (number m ≤ coun
 pub record IsKept (n w member : ℕ) (queue : Queue) : Type 0 where
   pub is_queue : IsQueue member queue
   pub fit : All (λ m. IsTrue (fits n m)) (messages queue)
-  pub room : deque_capacity queue.places ≡ w + noop_window n w
+  pub room : queue.places.room ≡ w + noop_window n w
 
 -- queues are those of the members, from the first on
 abbrev pub AreKept : ℕ → ℕ → List Queue → Type 0

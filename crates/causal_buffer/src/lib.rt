@@ -7,6 +7,7 @@
 mod buffer;
 mod laws;
 mod queue;
+mod row;
 #[cfg(test)]
 mod tests;
 

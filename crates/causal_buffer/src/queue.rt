@@ -1,16 +1,15 @@
-//! The early messages of one member: a deque with a place for each number, so that a message is found by its number alone.
+//! The early messages of one member: a row with a place for each number, so that a message is found by its number alone.
 
 ghost use Rattle.std.specs.Prelude.{◌≡◌, ℕ, ◌+◌, ◌-◌, ◌<◌, [], ◌∷◌, ◌++◌, length, take, drop, replicate, min, IfOk};
 ghost use Rattle.std.specs.List.{find};
 ghost use Rattle.std.specs.Option.{option_copied, option_to_list};
-ghost use Rattle.std.specs.VecDeque.{deque_capacity};
 ghost use Rattle.op_base.specs.Message.{number, id_of};
 ghost use Rattle.causal_model.specs.Early.{has_id, without, put_early};
 ghost use Rattle.causal_buffer.specs.Queue.{IsQueue, AreWithin, messages};
 
+use crate::row::Places;
 use op_base::{Message, MessageId, NoMemory};
 use std::alloc::Global;
-use std::collections::VecDeque;
 
 /// A message's number, and 0 where its origin is no member.
 pub fn number(message: &Message) -> u32
@@ -25,12 +24,13 @@ pub fn number(message: &Message) -> u32
 
 /// The early messages of one member: a place for each number from `first` on, empty where none of that number is early.
 ///
-/// A number's place is found by one subtraction. While the member's count only rises, a place is pushed once and popped once
-/// for each number, so a message costs the same however many are early, and in whatever order they come.
+/// A number's place is found by one subtraction. While the member's count only rises, a place is made once for each number,
+/// and moved at most once for each that goes, so a message costs the same however many are early, and in whatever order they
+/// come.
 #[derive(Debug, Drop)]
 pub struct Queue {
     first: u32,
-    places: VecDeque<Option<Message>>,
+    places: Places,
     filled: usize,
 }
 
@@ -39,11 +39,11 @@ impl Queue {
     pub fn create(alloc: Global, room: usize) -> Result<Queue, NoMemory>
         ensures kept { IfOk result (λ queue. (member : ℕ) → IsQueue member queue) }
         ensures empty { IfOk result (λ queue. messages queue ≡ []) }
-        ensures room { IfOk result (λ queue. deque_capacity queue.places ≡ room) }
+        ensures room { IfOk result (λ queue. queue.places.room ≡ room) }
     {
         Ok(Queue {
             first: 1,
-            places: VecDeque::with_capacity(alloc, room)?,
+            places: Places::create(alloc, room)?,
             filled: 0,
         })
     }
@@ -64,7 +64,7 @@ impl Queue {
             return None;
         }
         let place = id.seq.checked_sub(self.first)?;
-        self.places.get(place as usize)?.as_ref()
+        self.places.get(place as usize)
     }
 
     /// Takes out the message of an id of the queue's member. `None` exactly where there is none.
@@ -74,10 +74,10 @@ impl Queue {
         ensures others { messages self.new ≡ without id (messages self.old) }
         ensures fewer { length (messages self.new) + length (option_to_list result) ≡ length (messages self.old) }
         ensures kept { IsQueue id.origin self.new }
-        ensures room { deque_capacity self.new.places ≡ deque_capacity self.old.places }
+        ensures room { self.new.places.room ≡ self.old.places.room }
     {
         let place = id.seq.checked_sub(self.first)?;
-        let message = self.places.get_mut(place as usize)?.take()?;
+        let message = self.places.take(place as usize)?;
         self.filled -= 1;
         Some(message)
     }
@@ -87,63 +87,21 @@ impl Queue {
     pub fn put(&mut self, message: Message, count: u32)
         requires queue { IsQueue message.origin self.old }
         requires new { find (has_id (id_of message)) (messages self.old) ≡ None }
-        requires near { AreWithin count (deque_capacity self.old.places) (message ∷ messages self.old) }
+        requires near { AreWithin count self.old.places.room (message ∷ messages self.old) }
         ensures put { messages self.new ≡ put_early message (messages self.old) }
         ensures kept { IsQueue message.origin self.new }
-        ensures room { deque_capacity self.new.places ≡ deque_capacity self.old.places }
+        ensures room { self.new.places.room ≡ self.old.places.room }
     {
         let seq = number(&message);
         let first = count + 1;
-        pop_front(&mut self.places, first.saturating_sub(self.first) as usize);
-        push_front(&mut self.places, self.first.saturating_sub(first) as usize);
+        self.places
+            .pop_front(first.saturating_sub(self.first) as usize);
+        self.places
+            .push_front(self.first.saturating_sub(first) as usize);
         self.first = first;
         let place = (seq - first) as usize;
-        reach(&mut self.places, place);
-        fill(&mut self.places[place], message);
+        self.places.reach(place);
+        self.places.fill(place, message);
         self.filled += 1;
     }
-}
-
-/// Lets go of so many places in front.
-fn pop_front(places: &mut VecDeque<Option<Message>>, count: usize)
-    ensures left { places.new.items ≡ drop count places.old.items }
-    ensures room { deque_capacity places.new ≡ deque_capacity places.old }
-{
-    for _ in 0..count.min(places.len()) {
-        places.pop_front();
-    }
-}
-
-/// Makes so many empty places in front, as there is room for them, and lets go of those at the back that have none then. It
-/// makes none while counts only rise.
-fn push_front(places: &mut VecDeque<Option<Message>>, count: usize)
-    ensures made { places.new.items ≡ replicate (min count (deque_capacity places.old)) None ++ take (deque_capacity places.old - count) places.old.items }
-    ensures room { deque_capacity places.new ≡ deque_capacity places.old }
-{
-    let room = places.capacity();
-    places.truncate(room.saturating_sub(count));
-    for _ in 0..count.min(room) {
-        places.push_front_reserved(None);
-    }
-}
-
-/// Makes empty places at the back until there is this one.
-fn reach(places: &mut VecDeque<Option<Message>>, place: usize)
-    requires { place < deque_capacity places.old }
-    ensures made { places.new.items ≡ places.old.items ++ replicate (place + 1 - length places.old.items) None }
-    ensures room { deque_capacity places.new ≡ deque_capacity places.old }
-{
-    let more = (place + 1).saturating_sub(places.len());
-    for _ in 0..more {
-        places.push_back_reserved(None);
-    }
-}
-
-/// Puts a message at an empty place. It is told to be empty, so that nothing of it is read: it may lie far away in memory.
-fn fill(place: &mut Option<Message>, message: Message)
-    requires { place.old ≡ None }
-    ensures { place.new ≡ Some message }
-{
-    let None = place else { unreachable!() };
-    *place = Some(message);
 }

@@ -1,15 +1,16 @@
-use Rattle.std.proofs.Common.{◌≡◌, ◌+◌, ◌^◌, ◌<◌, false, not, All, length, get_or, set, refl, sym, ap, subst, ◌∙◌, None, arith}
+use Rattle.std.proofs.Common.{◌≡◌, ◌+◌, ◌^◌, ◌<◌, false, not, All, length, get_or, refl, sym, ap, subst, ◌∙◌, None, arith}
 use Rattle.std.specs.List.{find}
-use Rattle.std.proofs.lemmas.List.{get_or_default, get_or_past, set_past}
+use Rattle.std.proofs.lemmas.List.{length-set}
 use Rattle.std.proofs.lemmas.List.Elements.{All-filter}
 use Rattle.op_base.specs.Message.{number}
 use Rattle.causal_model.specs.Early.{has_id, without}
 use Rattle.causal_model.proofs.Finds.{none_found}
-use Rattle.causal_buffer.specs.Queue.{standing, messages}
+use Rattle.causal_buffer.specs.Queue.{ArePlaces, standing, messages}
+use Rattle.causal_buffer.specs.Row.{Row}
 use Rattle.causal_buffer.proofs.Parts.{all_stay}
-use Rattle.causal_buffer.proofs.Places.{below_from, past_from, found_at, none_has_id, without_at, places_set, length-taken}
+use Rattle.causal_buffer.proofs.Places.{below_from, found_at, none_has_id, without_at, places_set, length-taken}
 use Rattle.causal_buffer.proofs.queue.Queue.take.Goals as goal
-use Rattle.causal_buffer.proofs.queue.Queue.take.Goals.{Start, After-get_mut, After-take}
+use Rattle.causal_buffer.proofs.queue.Queue.take.Goals.{Start, After-take}
 
 -- ---- the number is below all places
 
@@ -28,71 +29,53 @@ returns-in_err-place-clause-others c =
 
 -- ---- it is at a place, or behind all
 
-at : (c : After-get_mut) → c.args.id.seq ≡ c.args.self.now.first + c.in_ok-place.place
+at : (c : After-take) → c.args.id.seq ≡ c.args.self.now.first + c.in_ok-place.place
 at c = omega (arith, c.in_ok-place.ensures)
 
-found : (c : After-get_mut) → find (has_id c.args.id) (messages c.args.self.now) ≡ get_or c.args.self.now.places.items c.in_ok-place.place None
+found : (c : After-take) → find (has_id c.args.id) (messages c.args.self.now) ≡ get_or c.args.self.now.places.items c.in_ok-place.place None
 found c = found_at c.args.id.origin c.args.self.now.first c.args.self.now.places.items c.requires.are_places c.args.id refl c.in_ok-place.place (at c)
 
-left : (c : After-get_mut) → standing (set c.args.self.now.places.items c.in_ok-place.place None) ≡ without c.args.id (messages c.args.self.now)
-left c = without_at c.args.id.origin c.args.self.now.first c.args.self.now.places.items c.requires.are_places c.args.id refl c.in_ok-place.place (at c)
-
-pub returns-in_err-get_mut-clause-taken : goal.returns-in_err-get_mut-clause-taken
-returns-in_err-get_mut-clause-taken c =
-    let items = c.args.self.now.places.items in
-    let past = past_from c.in_ok-place.place (length items) _ c.in_err-get_mut.ensures.variant c.args.self.now.places.ok.0 in
-    c.from_residual-in_err-get_mut.ensures ∙ sym (found (goal.at.returns-in_err-get_mut-clause-taken c).After-get_mut ∙ get_or_past items c.in_ok-place.place None past)
-
-pub returns-in_err-get_mut-clause-others : goal.returns-in_err-get_mut-clause-others
-returns-in_err-get_mut-clause-others c =
-    let items = c.args.self.now.places.items in
-    let past = past_from c.in_ok-place.place (length items) _ c.in_err-get_mut.ensures.variant c.args.self.now.places.ok.0 in
-    sym (ap standing (set_past items c.in_ok-place.place None past)) ∙ left (goal.at.returns-in_err-get_mut-clause-others c).After-get_mut
-
--- ---- what stood there
-
-held : (c : After-take) → c.take.result ≡ get_or c.args.self.now.places.items c.in_ok-place.place None
-held c =
-    let items = c.args.self.now.places.items in
-    let within : c.in_ok-place.place < length items = omega (arith, c.in_ok-get_mut.ensures.variant.0 refl, c.args.self.now.places.ok.0) in
-    c.take.ensures.value ∙ c.in_ok-get_mut.ensures.value ∙ get_or_default items c.in_ok-place.place c.in_ok-get_mut.field-0.now None within
+-- what is left
+left : (c : After-take) → standing c.take.new.self.items ≡ without c.args.id (messages c.args.self.now)
+left c =
+    ap (λ (row : Row). standing row.items) c.take.ensures.left
+    ∙ without_at c.args.id.origin c.args.self.now.first c.args.self.now.places.items c.requires.are_places c.args.id refl c.in_ok-place.place (at c)
 
 pub returns-in_err-message-clause-taken : goal.returns-in_err-message-clause-taken
 returns-in_err-message-clause-taken c =
     let here = goal.at.returns-in_err-message-clause-taken c in
-    c.from_residual-in_err-message.ensures ∙ sym c.in_err-message.was ∙ held here.After-take ∙ sym (found here.After-get_mut)
+    c.from_residual-in_err-message.ensures ∙ sym c.in_err-message.was ∙ c.take.ensures.taken ∙ sym (found here.After-take)
 
 pub returns-in_err-message-clause-others : goal.returns-in_err-message-clause-others
-returns-in_err-message-clause-others c =
-    ap (λ o. standing (set c.args.self.now.places.items c.in_ok-place.place o)) c.take.ensures.after ∙ left (goal.at.returns-in_err-message-clause-others c).After-get_mut
+returns-in_err-message-clause-others c = left (goal.at.returns-in_err-message-clause-others c).After-take
 
 pub overflow_sub-self : goal.overflow_sub-self
 overflow_sub-self c =
-    omega (arith, length-taken c.args.self.now.places.items c.in_ok-place.place c.in_ok-message.message (sym (held (goal.at.overflow_sub-self c).After-take) ∙ c.in_ok-message.was), c.requires.counted)
+    omega (arith, length-taken c.args.self.now.places.items c.in_ok-place.place c.in_ok-message.message (sym c.take.ensures.taken ∙ c.in_ok-message.was), c.requires.counted)
 
 pub returns-clause-taken : goal.returns-clause-taken
 returns-clause-taken c =
     let here = goal.at.returns-clause-taken c in
-    sym c.in_ok-message.was ∙ held here.After-take ∙ sym (found here.After-get_mut)
+    sym c.in_ok-message.was ∙ c.take.ensures.taken ∙ sym (found here.After-take)
 
 pub returns-clause-others : goal.returns-clause-others
-returns-clause-others c =
-    ap (λ o. standing (set c.args.self.now.places.items c.in_ok-place.place o)) c.take.ensures.after ∙ left (goal.at.returns-clause-others c).After-get_mut
+returns-clause-others c = left (goal.at.returns-clause-others c).After-take
 
 pub returns-clause-fewer : goal.returns-clause-fewer
 returns-clause-fewer c =
     let items = c.args.self.now.places.items in
     let k = c.in_ok-place.place in
-    let is = sym (held (goal.at.returns-clause-fewer c).After-take) ∙ c.in_ok-message.was in
-    omega (arith, length-taken items k c.in_ok-message.message is, ap (λ o. length (standing (set items k o))) c.take.ensures.after)
+    omega (arith, length-taken items k c.in_ok-message.message (sym c.take.ensures.taken ∙ c.in_ok-message.was), ap (λ (row : Row). length (standing row.items)) c.take.ensures.left)
 
 pub returns-clause-kept : goal.returns-clause-kept
 returns-clause-kept c =
     let q = c.args.self.now in
     let k = c.in_ok-place.place in
-    let is = sym (held (goal.at.returns-clause-kept c).After-take) ∙ c.in_ok-message.was in
+    let is = sym c.take.ensures.taken ∙ c.in_ok-message.was in
+    let row = c.take.ensures.left in
     record {
-      are_places = places_set c.args.id.origin q.first q.places.items c.requires.are_places k c.take.new.self (λ m e. let none = c.take.ensures.after in absurd (cc));
-      counted = omega (arith, length-taken q.places.items k c.in_ok-message.message is, c.requires.counted, ap (λ o. length (standing (set q.places.items k o))) c.take.ensures.after);
+      are_places = subst (λ (r : Row). ArePlaces c.args.id.origin q.first r.items) (sym row) (places_set c.args.id.origin q.first q.places.items c.requires.are_places k None (λ m e. absurd (cc)));
+      within = omega (arith, ap (λ (r : Row). length r.items) row, length-set q.places.items k None, ap (λ (r : Row). r.room) row, c.requires.within);
+      counted = omega (arith, length-taken q.places.items k c.in_ok-message.message is, c.requires.counted, ap (λ (r : Row). length (standing r.items)) row);
       small = subst (All (λ m. number m < 2 ^ 32)) (sym (returns-clause-others c)) (All-filter (λ m. not (has_id c.args.id m)) (λ m. number m < 2 ^ 32) (messages q) c.requires.small);
     }

@@ -1,8 +1,0 @@
-use Rattle.std.proofs.Common.{◌≡◌, ◌++◌, replicate, None, deque_capacity}
-use Rattle.causal_buffer.proofs.queue.push_front.Given as goal
-
-abbrev pub invariant-loop : goal.invariant-loop
-invariant-loop l = record {
-  made : l.places.items ≡ replicate l.counter None ++ l.initial.places.items;
-  room : deque_capacity l.places ≡ deque_capacity l.initial.places;
-}
