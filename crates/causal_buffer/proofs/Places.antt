@@ -201,7 +201,7 @@ module _ (member first : ℕ) (ps : List (Option Message)) (are : ArePlaces memb
 
 -- ---- a new message that is put at its place
 
--- the places from another number on, in a deque with so much room
+-- the places from another number on, in a row with so much room
 abbrev pub begun : ℕ → ℕ → ℕ → List (Option Message) → List (Option Message)
 begun first begin room ps = nones (min (first - begin) room) ++ take (room - (first - begin)) (drop (begin - first) ps)
 

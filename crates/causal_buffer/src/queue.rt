@@ -1,6 +1,6 @@
 //! The early messages of one member: a row with a place for each number, so that a message is found by its number alone.
 
-ghost use Rattle.std.specs.Prelude.{◌≡◌, ℕ, ◌+◌, ◌-◌, ◌<◌, [], ◌∷◌, ◌++◌, length, take, drop, replicate, min, IfOk};
+ghost use Rattle.std.specs.Prelude.{◌≡◌, ℕ, ◌+◌, ◌-◌, ◌<◌, ◌≤◌, [], ◌∷◌, ◌++◌, length, take, drop, replicate, min, IfOk};
 ghost use Rattle.std.specs.List.{find};
 ghost use Rattle.std.specs.Option.{option_copied, option_to_list};
 ghost use Rattle.op_base.specs.Message.{number, id_of};
@@ -37,6 +37,7 @@ pub struct Queue {
 impl Queue {
     /// The queue with no message and with room for so many places.
     pub fn create(alloc: Global, room: usize) -> Result<Queue, NoMemory>
+        requires { room ≤ 65535 }
         ensures kept { IfOk result (λ queue. (member : ℕ) → IsQueue member queue) }
         ensures empty { IfOk result (λ queue. messages queue ≡ []) }
         ensures room { IfOk result (λ queue. queue.places.room ≡ room) }

@@ -1,6 +1,6 @@
 //! Places for the early messages of one member, in a block of memory of which little is touched while there are few.
 
-ghost use Rattle.std.specs.Prelude.{◌≡◌, ℕ, ◌+◌, ◌-◌, ◌^◌, ◌<◌, ◌≤◌, [], ◌++◌, length, take, drop, replicate, min, slice_index_or, slice_set, vec_capacity, IfOk, Some, None};
+ghost use Rattle.std.specs.Prelude.{◌≡◌, ℕ, ◌+◌, ◌-◌, ◌*◌, ◌^◌, ◌<◌, ◌≤◌, [], ◌++◌, length, take, drop, replicate, min, slice_index_or, slice_set, vec_capacity, IfOk, Some, None};
 ghost use Rattle.std.specs.Option.{option_copied};
 
 use op_base::{Message, NoMemory};
@@ -9,35 +9,38 @@ use std::marker::Model;
 
 /// A row of places, each empty or with a message, with its whole room from the start.
 ///
-/// The row stands behind places of the block that are free again. Where there are as many of these as the row has, and it
+/// The row stands behind places of the block that are free again. Where there are more of these than the row has, and it
 /// grows, it moves to the front: so at most one place is moved for each one that goes, and of a block with much room only as
-/// much is touched as is twice the longest row.
+/// much is touched as is twice the longest row. The block has twice the room, so that there is no other reason to move.
 #[derive(Debug, Drop)]
 pub struct Places {
+    room: usize,
     /// How many places of the block are free in front.
     start: usize,
     block: Vec<Option<Message>>,
 }
 
 impl Model for Places {
-    ghost use Rattle.std.specs.Prelude.{◌≤◌, length, drop, vec_capacity};
+    ghost use Rattle.std.specs.Prelude.{◌≤◌, ◌*◌, length, drop, vec_capacity};
     ghost use Rattle.causal_buffer.specs.Row.{Row};
 
     ghost Value = { Row };
 
-    ghost view = { λ p. record { room = vec_capacity p.block; items = drop p.start p.block.items } };
+    ghost view = { λ p. record { room = p.room; items = drop p.start p.block.items } };
 
-    ghost invariant = { λ p. p.start ≤ length p.block.items };
+    ghost invariant = { λ p. (p.start ≤ length p.block.items) × (length (drop p.start p.block.items) ≤ p.room) × (2 * p.room ≤ vec_capacity p.block) };
 }
 
 impl Places {
     /// No places, with room for so many.
     pub fn create(alloc: Global, room: usize) -> Result<Places, NoMemory>
+        requires { room ≤ 65535 }
         ensures { IfOk result (λ p. p ≡ record { room = room; items = [] }) }
     {
         Ok(Places {
+            room,
             start: 0,
-            block: Vec::with_capacity(alloc, room)?,
+            block: Vec::with_capacity(alloc, 2 * room)?,
         })
     }
 
@@ -92,7 +95,7 @@ impl Places {
     pub fn push_front(&mut self, count: usize)
         ensures { self.new ≡ record self.old { items = replicate (min count self.old.room) None ++ take (self.old.room - count) self.old.items } }
     {
-        self.start = put_before(&mut self.block, self.start, count);
+        self.start = put_before(&mut self.block, self.start, self.room, count);
     }
 
     /// Makes empty places at the back until there is this one.
@@ -109,17 +112,18 @@ impl Places {
     }
 }
 
-/// Makes room for so many places more behind a row that stands behind free places, and tells how many these are then.
+/// Makes room for so many places more behind a row that stands behind free places, and tells how many these are then. The
+/// block has twice the room.
 fn with_room(block: &mut Vec<Option<Message>>, start: usize, more: usize) -> usize
     requires within { start ≤ length block.old.items }
-    requires room { length block.old.items + more ≤ vec_capacity block.old + start }
+    requires room { 2 * (length block.old.items + more) ≤ vec_capacity block.old + 2 * start }
     ensures same { drop result block.new.items ≡ drop start block.old.items }
     ensures within { result ≤ length block.new.items }
     ensures room { length block.new.items + more ≤ vec_capacity block.new }
     ensures capacity { vec_capacity block.new ≡ vec_capacity block.old }
 {
     let row = block.len() - start;
-    if start <= row && more <= block.capacity() - block.len() {
+    if start <= row {
         return start;
     }
     move_to_front(block, start);
@@ -163,9 +167,11 @@ fn put_behind(block: &mut Vec<Option<Message>>, count: usize)
 
 /// Puts so many empty places before a row that stands behind free places, as there is room for them, and tells how many of
 /// these there are then.
-fn put_before(block: &mut Vec<Option<Message>>, start: usize, count: usize) -> usize
-    requires { start ≤ length block.old.items }
-    ensures made { drop result block.new.items ≡ replicate (min count (vec_capacity block.old)) None ++ take (vec_capacity block.old - count) (drop start block.old.items) }
+fn put_before(block: &mut Vec<Option<Message>>, start: usize, room: usize, count: usize) -> usize
+    requires within { start ≤ length block.old.items }
+    requires row { length (drop start block.old.items) ≤ room }
+    requires room { room ≤ vec_capacity block.old }
+    ensures made { drop result block.new.items ≡ replicate (min count room) None ++ take (room - count) (drop start block.old.items) }
     ensures within { result ≤ length block.new.items }
     ensures capacity { vec_capacity block.new ≡ vec_capacity block.old }
 {
@@ -173,7 +179,6 @@ fn put_before(block: &mut Vec<Option<Message>>, start: usize, count: usize) -> u
         return start;
     }
     move_to_front(block, start);
-    let room = block.capacity();
     block.truncate(room.saturating_sub(count));
     let count = count.min(room);
     put_behind(block, count);

@@ -132,7 +132,7 @@ fn messages_wait_for_what_they_have_seen(rt: HostRuntime) -> Result<(), Fail> {
 }
 
 #[test]
-fn a_queue_goes_round(rt: HostRuntime) -> Result<(), Fail> {
+fn a_queue_moves_on(rt: HostRuntime) -> Result<(), Fail> {
     let mut receiver = Receiver {
         me: 0,
         counts: Tag::zero(3),
@@ -158,7 +158,7 @@ fn a_queue_goes_round(rt: HostRuntime) -> Result<(), Fail> {
 }
 
 #[test]
-fn a_full_queue_goes_round(rt: HostRuntime) -> Result<(), Fail> {
+fn a_full_queue_moves_on(rt: HostRuntime) -> Result<(), Fail> {
     // a member of three with a window of 1 has room for 6
     let mut receiver = Receiver {
         me: 0,

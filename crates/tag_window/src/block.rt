@@ -1,6 +1,6 @@
 //! A queue in a block of memory, of which little is touched while it holds few.
 
-ghost use Rattle.std.specs.Prelude.{◌≡◌, ◌↔◌, ◌+◌, ◌<◌, ◌≤◌, [], ◌∷◌, ◌++◌, length, drop, slice_index_or, vec_capacity, IsSome, IfOk};
+ghost use Rattle.std.specs.Prelude.{◌≡◌, ◌↔◌, ◌+◌, ◌*◌, ◌<◌, ◌≤◌, [], ◌∷◌, ◌++◌, length, drop, slice_index_or, vec_capacity, IsSome, IfOk};
 ghost use Rattle.std.specs.Option.{IfSome};
 
 use crate::held::Held;
@@ -12,33 +12,36 @@ use std::marker::Model;
 ///
 /// What it holds stands behind places that are free again. Once these are as many as it holds, all moves to the front: so at
 /// most one is moved for each one that goes, and of a block with much room only as much is touched as is twice what was held
-/// at once.
+/// at once. The block has twice the room, so that there is no other reason to move.
 #[derive(Drop)]
 pub struct Block {
+    room: usize,
     /// How many places are free in front.
     start: usize,
     places: Vec<Held>,
 }
 
 impl Model for Block {
-    ghost use Rattle.std.specs.Prelude.{◌≤◌, length, drop, vec_capacity};
+    ghost use Rattle.std.specs.Prelude.{◌≤◌, ◌*◌, length, drop, vec_capacity};
     ghost use Rattle.tag_window.specs.Filled.{Filled};
 
     ghost Value = { Filled };
 
-    ghost view = { λ b. record { room = vec_capacity b.places; items = drop b.start b.places.items } };
+    ghost view = { λ b. record { room = b.room; items = drop b.start b.places.items } };
 
-    ghost invariant = { λ b. b.start ≤ length b.places.items };
+    ghost invariant = { λ b. (b.start ≤ length b.places.items) × (2 * b.room ≤ vec_capacity b.places) };
 }
 
 impl Block {
     /// The empty queue with room for so many.
     pub fn create(alloc: Global, room: usize) -> Result<Block, NoMemory>
+        requires { room ≤ 65535 }
         ensures { IfOk result (λ b. b ≡ record { room = room; items = [] }) }
     {
         Ok(Block {
+            room,
             start: 0,
-            places: Vec::with_capacity(alloc, room)?,
+            places: Vec::with_capacity(alloc, 2 * room)?,
         })
     }
 
@@ -87,17 +90,18 @@ impl Block {
     }
 }
 
-/// Makes room for one more behind those that stand behind so many free places, and tells how many these are then.
+/// Makes room for one more behind those that stand behind so many free places, and tells how many these are then. The block
+/// has twice the room.
 fn with_room(places: &mut Vec<Held>, start: usize) -> usize
     requires within { start ≤ length places.old.items }
-    requires room { length places.old.items < vec_capacity places.old + start }
+    requires room { 2 * (length places.old.items + 1) ≤ vec_capacity places.old + 2 * start }
     ensures same { drop result places.new.items ≡ drop start places.old.items }
     ensures within { result ≤ length places.new.items }
     ensures room { length places.new.items < vec_capacity places.new }
     ensures capacity { vec_capacity places.new ≡ vec_capacity places.old }
 {
     let held = places.len() - start;
-    if start < held && places.len() < places.capacity() {
+    if start < held {
         return start;
     }
     move_to_front(places, start);

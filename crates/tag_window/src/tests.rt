@@ -184,7 +184,7 @@ fn a_member_has_a_window_of_operations_and_one_of_no_ops(rt: HostRuntime) -> Res
 fn timestamps_are_found_by_their_numbers_as_a_queue_moves_to_the_front(
     rt: HostRuntime,
 ) -> Result<(), Fail> {
-    // with room for four, three at a time have room only where what is held moves to the front
+    // with room for four, so many come that what is held has to move to the front again and again
     let mut queue = Queue::create(rt.alloc(), 3, 0, 4)?;
     for round in 0..9u32 {
         let sent = round * 3;
