@@ -1,5 +1,6 @@
 pub mod Logged
 pub mod Finds
-pub mod Merges
-pub mod SettledFinds
+pub mod Groups
+pub mod NextValue
+pub mod Cells
 pub mod Listed

@@ -1,11 +1,17 @@
 -- What is found of the values of an object, one find an item or entry: words of private contracts.
-use Rattle.std.specs.Prelude.{◌≡◌, ◌⊎◌, ℕ, Bool, false, ◌&&◌, List, ◌∷◌, Option, Some, None, AllPairs}
+use Rattle.std.specs.Prelude.{◌≡◌, ℕ, Bool, true, false, ◌&&◌, ◌||◌, List, Option, Some, None, All, AllPairs}
+use Rattle.std.specs.List.{list_any}
 use Rattle.std.specs.Ordering.{is_lt}
 use Rattle.std.specs.declared.cmp.Ordering.TheVariants.{Less}
 use Rattle.op_base.specs.Name.{same_text}
 use Rattle.op_base.specs.Order.{text_cmp}
+use Rattle.op_base.specs.declared.name.Kind.{Kind}
+use Rattle.op_base.specs.declared.name.ObjectId.{ObjectId}
 use Rattle.op_base.specs.declared.operation.Act.{Act}
-use Rattle.causal_model.specs.Parts.{puts, takes}
+use Rattle.op_base.specs.declared.outcome.Item.{Item}
+use Rattle.causal_model.specs.Items.{cell_in}
+use Rattle.causal_model.specs.Parts.{puts, takes, is_in}
+use Rattle.causal_model.specs.Query.{TextsRise}
 use Rattle.part_queries.specs.declared.found.Found.{Found}
 
 -- whether a find is of a value, and puts it in
@@ -33,6 +39,37 @@ AreRising finds = AllPairs (λ (a b : Found). text_cmp a.value.now b.value.now �
 abbrev pub AreInOrder : List Found → Type 0
 AreInOrder finds = AllPairs (λ (a b : Found). IsNotBefore b a) finds
 
--- the first of one of two lists, and what is left of both
-abbrev pub IsNextOf : List Found → List Found → Found → List Found → List Found → Type 0
-IsNextOf xs ys found xs_rest ys_rest = ((xs ≡ found ∷ xs_rest) × (ys ≡ ys_rest)) ⊎ ((xs ≡ xs_rest) × (ys ≡ found ∷ ys_rest))
+-- whether a value passes, or a find puts it in
+abbrev pub or_put : (List ℕ → Bool) → List Found → List ℕ → Bool
+or_put passes finds value = passes value || list_any (puts_in value) finds
+
+-- whether a value passes, or a find takes it out
+abbrev pub or_taken : (List ℕ → Bool) → List Found → List ℕ → Bool
+or_taken passes finds value = passes value || list_any (takes_out value) finds
+
+-- whether an item of an object or a find puts in a value
+abbrev pub is_put : ObjectId → List Item → List Found → List ℕ → Bool
+is_put object items finds = or_put (λ value. (cell_in items object (Some value)).on) finds
+
+-- whether an item of an object or a find takes out a value
+abbrev pub is_taken : ObjectId → List Item → List Found → List ℕ → Bool
+is_taken object items finds = or_taken (λ value. (cell_in items object (Some value)).off) finds
+
+-- whether a value is the one with a mark, or passes
+abbrev pub with_mark : List ℕ → Bool → (List ℕ → Bool) → List ℕ → Bool
+with_mark marked mark passes value = (same_text marked value && mark) || passes value
+
+-- each value that passes is behind one
+abbrev pub IsBehind : List ℕ → (List ℕ → Bool) → Type 0
+IsBehind value passes = (v : List ℕ) → passes v ≡ true → text_cmp value v ≡ Less
+
+-- no value passes
+abbrev pub AreNone : (List ℕ → Bool) → Type 0
+AreNone passes = (v : List ℕ) → passes v ≡ false
+
+-- Values are listed so far: of all that are in, each but those that are still ahead with their marks, which are of greater
+-- values.
+pub record AreListed (kind : Kind) (put taken whole : List ℕ → Bool) (values : List (List ℕ)) : Type 0 where
+  pub rise : TextsRise values
+  pub put_ahead : (v : List ℕ) → put v ≡ true → All (λ value. text_cmp value v ≡ Less) values
+  pub exact : (v : List ℕ) → (list_any (λ value. same_text value v) values || is_in kind (put v) (taken v)) ≡ whole v

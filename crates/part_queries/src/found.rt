@@ -2,13 +2,11 @@
 
 ghost use Rattle.std.specs.Prelude.{◌≡◌, ℕ, List, map, IfOk, Some};
 ghost use Rattle.std.specs.List.{list_any};
-ghost use Rattle.causal_model.specs.Items.{cell_in};
 ghost use Rattle.causal_model.specs.Log.{message_of};
 ghost use Rattle.causal_model.specs.Parts.{has_logged, puts, takes};
-ghost use Rattle.part_queries.specs.Finds.{puts_in, takes_out, IsFoundOf, AreRising, AreInOrder};
+ghost use Rattle.part_queries.specs.Finds.{puts_in, takes_out, IsFoundOf, AreInOrder};
 
 use crate::marks::Marks;
-use causal_model::ItemView;
 use op_base::{Act, Entry, NoMemory, ObjectId, Value};
 use std::alloc::Global;
 
@@ -42,32 +40,6 @@ fn found_of(act: &Act) -> Option<Found<'_>>
         }),
         Act::Clear | Act::Enable | Act::Disable | Act::Inc(_) | Act::Dec(_) => None,
     }
-}
-
-/// What the items of an object say of its values, by rising value. `NoMemory` leaves nothing behind.
-pub fn settled<'a, V: ItemView>(
-    alloc: Global,
-    items: &'a V,
-    object: &ObjectId,
-) -> Result<Vec<Found<'a>>, NoMemory>
-    ensures rise { IfOk result (λ finds. AreRising finds.items) }
-    ensures put { IfOk result (λ finds. (v : List ℕ) → list_any (puts_in v) finds.items ≡ (cell_in (V.items items.now) object.now (Some v)).on) }
-    ensures taken { IfOk result (λ finds. (v : List ℕ) → list_any (takes_out v) finds.items ≡ (cell_in (V.items items.now) object.now (Some v)).off) }
-{
-    let mut finds = Vec::with_capacity(alloc, items.len())?;
-    for place in 0..items.len() {
-        let (owner, value, cell) = items.item_at(place);
-        if let Some(value) = value {
-            if owner.is_same(object) {
-                let marks = Marks {
-                    put: cell.on,
-                    taken: cell.off,
-                };
-                finds.push(Found { value, marks })?;
-            }
-        }
-    }
-    Ok(finds)
 }
 
 /// What the entries of an object say of its values, none before a lesser one. `NoMemory` leaves nothing behind.

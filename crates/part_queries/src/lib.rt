@@ -6,10 +6,10 @@
 #![tactic(auto)]
 
 mod found;
+mod grouping;
 mod listing;
 mod marks;
 mod membership;
-mod merging;
 #[cfg(test)]
 mod tests;
 

@@ -1,6 +1,6 @@
 //! The values of a set or a register. The queries of the kinds are this project's own profile.
 
-ghost use Rattle.std.specs.Prelude.{◌≡◌, ◌↔◌, ℕ, ◌||◌, List, map, Contains, IfOk, IsTrue, Some};
+ghost use Rattle.std.specs.Prelude.{◌≡◌, ◌↔◌, ◌≤◌, ℕ, Bool, List, length, drop, [], ◌∷◌, ◌++◌, map, Contains, IfOk, OnOk, IsTrue, Some, if◌then◌else◌};
 ghost use Rattle.std.specs.List.{list_any};
 ghost use Rattle.causal_model.specs.History.{History, events, is_history};
 ghost use Rattle.causal_model.specs.Items.{cell_in};
@@ -8,13 +8,16 @@ ghost use Rattle.causal_model.specs.Query.{TextsRise, values_that};
 ghost use Rattle.causal_model.specs.Log.{message_of};
 ghost use Rattle.causal_model.specs.Parts.{has, has_by_parts, is_in, ArePartsOf};
 ghost use Rattle.part_queries.specs.Asked.{has_values};
-ghost use Rattle.part_queries.specs.Finds.{puts_in, takes_out, AreRising};
+ghost use Rattle.op_base.specs.Name.{same_text};
+ghost use Rattle.part_queries.specs.Finds.{is_put, is_taken, or_put, or_taken, with_mark, AreRising, AreListed, AreNone, IsBehind};
 
-use crate::found::{Found, logged, settled};
-use crate::merging::merged;
+use crate::found::{Found, logged};
+use crate::grouping::grouped;
+use crate::marks::Marks;
 use causal_model::ItemView;
 use op_base::{Entry, Kind, NoMemory, ObjectId, ValueList};
 use std::alloc::Global;
+use std::cmp::Ordering;
 
 /// The values of a set or a register, in byte order and each once: by the object's entries and items. Entries and items of
 /// other objects are passed over. `NoMemory` leaves nothing behind.
@@ -33,23 +36,103 @@ pub fn values<V: ItemView>(
     ensures of { IfOk result (λ values. (w : ℕ) (h : History) → IsTrue (is_history w h) → ArePartsOf h object.now (map message_of entries.now) (V.items items.now)
         → values ≡ values_that (λ v. has object.now.kind object.now (events h) (Some v)) object.now (events h)) }
 {
-    let settled = settled(alloc, items, object)?;
     let logged = logged(alloc, entries, object)?;
-    values_in(alloc, object.kind, &merged(alloc, &settled, &logged)?)
+    listed(alloc, &grouped(alloc, &logged)?, items, object)
 }
 
-/// The values that are in an object of a kind by what was found of them. `NoMemory` leaves nothing behind.
-fn values_in(alloc: Global, kind: Kind, finds: &[Found<'_>]) -> Result<ValueList, NoMemory>
+/// The values that are in an object by its items and by finds, in byte order and each once. Items of other objects are passed
+/// over. `NoMemory` leaves nothing behind.
+fn listed<V: ItemView>(
+    alloc: Global,
+    finds: &[Found<'_>],
+    items: &V,
+    object: &ObjectId,
+) -> Result<ValueList, NoMemory>
     requires { AreRising finds.now }
     ensures rise { IfOk result (λ values. TextsRise values) }
-    ensures exact { IfOk result (λ values. (v : List ℕ)
-        → (Contains values v ↔ IsTrue (is_in kind (list_any (puts_in v) finds.now) (list_any (takes_out v) finds.now)))) }
+    ensures exact { IfOk result (λ values. (v : List ℕ) → list_any (λ value. same_text value v) values
+        ≡ is_in object.now.kind (is_put object.now (V.items items.now) finds.now v) (is_taken object.now (V.items items.now) finds.now v)) }
 {
-    let mut values = ValueList::with_capacity(alloc, finds.len())?;
-    for found in finds {
-        if found.marks.is_in(kind) {
-            values.push(found.value.copy(alloc)?)?;
+    let mut values = ValueList::with_capacity(alloc, items.len().saturating_add(finds.len()))?;
+    let mut done = 0;
+    for place in 0..items.len() {
+        let (owner, value, cell) = items.item_at(place);
+        if let Some(value) = value {
+            if owner.is_same(object) {
+                let marks = Marks {
+                    put: cell.on,
+                    taken: cell.off,
+                };
+                let own = Found { value, marks };
+                done += put_item(alloc, object.kind, &mut values, &finds[done..], own)?;
+            }
         }
     }
+    put_finds(alloc, object.kind, &mut values, &finds[done..])?;
     Ok(values)
+}
+
+/// Puts the values of the finds up to one of an item, and the item's own, at the end, each that is in. How many finds these
+/// are.
+fn put_item(
+    alloc: Global,
+    kind: Kind,
+    values: &mut ValueList,
+    finds: &[Found<'_>],
+    own: Found<'_>,
+) -> Result<usize, NoMemory>
+    requires { AreRising finds.now }
+    ensures count { IfOk result (λ count. count ≤ length finds.now) }
+
+    // The item's marks and those of the finds up to it are no longer ahead.
+    ensures listed { IfOk result (λ count. (on off whole : List ℕ → Bool) → IsBehind own.entry.value.now on → IsBehind own.entry.value.now off
+        → AreListed kind (or_put (with_mark own.entry.value.now own.entry.marks.put on) finds.now) (or_taken (with_mark own.entry.value.now own.entry.marks.taken off) finds.now) whole values.old
+        → AreListed kind (or_put on (drop count finds.now)) (or_taken off (drop count finds.now)) whole values.new) }
+{
+    let mut marks = own.marks;
+    let mut count = 0;
+    for found in finds {
+        match found.value.cmp(own.value) {
+            Ordering::Less => put_in(alloc, kind, values, *found)?,
+            Ordering::Equal => marks = marks.join(found.marks),
+            Ordering::Greater => break,
+        }
+        count += 1;
+    }
+    let value = own.value;
+    put_in(alloc, kind, values, Found { value, marks })?;
+    Ok(count)
+}
+
+/// Puts the values of finds at the end, each that is in.
+fn put_finds(
+    alloc: Global,
+    kind: Kind,
+    values: &mut ValueList,
+    finds: &[Found<'_>],
+) -> Result<(), NoMemory>
+    requires { AreRising finds.now }
+    ensures { OnOk result ((on off whole : List ℕ → Bool) → AreNone on → AreNone off
+        → AreListed kind (or_put on finds.now) (or_taken off finds.now) whole values.old
+        → AreListed kind on off whole values.new) }
+{
+    for found in finds {
+        put_in(alloc, kind, values, *found)?;
+    }
+    Ok(())
+}
+
+/// Puts the value of a find at the end, where it is in.
+fn put_in(
+    alloc: Global,
+    kind: Kind,
+    values: &mut ValueList,
+    found: Found<'_>,
+) -> Result<(), NoMemory>
+    ensures { OnOk result (values.new ≡ (if is_in kind found.entry.marks.put found.entry.marks.taken then values.old ++ found.entry.value.now ∷ [] else values.old)) }
+{
+    if found.marks.is_in(kind) {
+        values.push(found.value.copy(alloc)?)?;
+    }
+    Ok(())
 }

@@ -1,4 +1,4 @@
--- What becomes of two lists of finds in order as they are merged.
+-- What becomes of finds in order as each value's are joined.
 use Rattle.std.proofs.Common.{◌≡◌, ℕ, ◌+◌, Bool, true, false, ◌&&◌, ◌||◌, All, List, [], ◌∷◌, ◌++◌, length, refl, sym, ap, subst, ◌∙◌, inl, inr, arith}
 use Rattle.std.specs.List.{list_any}
 use Rattle.std.specs.Cmp.Lexicographic.{texts_ties, bytes_decides, pointwise}
@@ -13,36 +13,9 @@ use Rattle.std.proofs.lemmas.List.Quantifiers.{all_pairs_push}
 use Rattle.op_base.specs.Name.{same_text}
 use Rattle.op_base.specs.Order.{text_cmp}
 use Rattle.causal_model.proofs.Members.{pairs_head, pairs_tail}
-use Rattle.part_queries.specs.Finds.{puts_in, takes_out, IsNotBefore, AreRising, AreInOrder, IsNextOf}
+use Rattle.part_queries.specs.Finds.{puts_in, takes_out, IsNotBefore, AreRising}
 use Rattle.part_queries.specs.declared.found.Found.{Found}
 use Rattle.part_queries.proofs.Finds.{list_any_push, pairs_last, pairs_front, all_front, texts_total, finds_order, after_from}
-
--- ---- the first of one of two lists, and what is left
-
-module _ (xs ys : List Found) (found : Found) (xs_rest ys_rest : List Found) where
-  pub split_any : (p : Found → Bool) → IsNextOf xs ys found xs_rest ys_rest → (list_any p xs || list_any p ys) ≡ (p found || (list_any p xs_rest || list_any p ys_rest))
-  split_any p (inl (e, e')) = (λ i. list_any p (e i) || list_any p (e' i)) ∙ or_assoc (p found) (list_any p xs_rest) (list_any p ys_rest)
-  split_any p (inr (e, e')) = (λ i. list_any p (e i) || list_any p (e' i)) ∙ swap (list_any p xs_rest) (p found) (list_any p ys_rest) where
-    swap : (a b c : Bool) → (a || (b || c)) ≡ (b || (a || c))
-    swap true true c = refl
-    swap true false c = refl
-    swap false b c = refl
-
-  pub split_all : (P : Found → Type 0) → IsNextOf xs ys found xs_rest ys_rest → All P xs → All P ys → P found × All P xs_rest × All P ys_rest
-  split_all P (inl (e, e')) each every =
-      let all = subst (All P) e each in
-      (All-head P found xs_rest all, All-tail P found xs_rest all, subst (All P) e' every)
-  split_all P (inr (e, e')) each every =
-      let all = subst (All P) e' every in
-      (All-head P found ys_rest all, subst (All P) e each, All-tail P found ys_rest all)
-
-  pub split_order : IsNextOf xs ys found xs_rest ys_rest → AreInOrder xs → AreInOrder ys → AreInOrder xs_rest × AreInOrder ys_rest
-  split_order (inl (e, e')) ordered order = (pairs_tail (λ a b. IsNotBefore b a) found xs_rest (subst AreInOrder e ordered), subst AreInOrder e' order)
-  split_order (inr (e, e')) ordered order = (subst AreInOrder e ordered, pairs_tail (λ a b. IsNotBefore b a) found ys_rest (subst AreInOrder e' order))
-
-  pub split_length : IsNextOf xs ys found xs_rest ys_rest → length xs + length ys ≡ length xs_rest + length ys_rest + 1
-  split_length (inl (e, e')) = omega (arith, ap length e, ap length e')
-  split_length (inr (e, e')) = omega (arith, ap length e, ap length e')
 
 -- ---- a find more
 
@@ -126,36 +99,3 @@ tested_same a b t = (bytes_decides a b).0 t
 
 pub tested_apart : (a b : List ℕ) → pointwise nat_eq a b ≡ false → is_eq (text_cmp a b) ≡ false
 tested_apart a b t = sym (texts_ties a b) ∙ t
-
--- ---- a step of merging
-
-pub any_merged : (p : Found → Bool) (xs ys : List Found) (found : Found) (xs_rest ys_rest : List Found) (done more whole : Bool) → IsNextOf xs ys found xs_rest ys_rest
-    → more ≡ (done || p found) → (done || (list_any p xs || list_any p ys)) ≡ whole → (more || (list_any p xs_rest || list_any p ys_rest)) ≡ whole
-any_merged p xs ys found xs_rest ys_rest done more whole next put before =
-    ap (λ b. b || (list_any p xs_rest || list_any p ys_rest)) put ∙ or_assoc done (p found) (list_any p xs_rest || list_any p ys_rest)
-    ∙ ap (λ b. done || b) (sym (split_any xs ys found xs_rest ys_rest p next)) ∙ before
-
--- ---- the least of two lists in order
-
-module _ (xs : List Found) (x : Found) (rest : List Found) (e : xs ≡ x ∷ rest) (ordered : AreInOrder xs) where
-  pub least_of_rest : All (λ f. IsNotBefore f x) rest
-  least_of_rest = pairs_head (λ a b. IsNotBefore b a) x rest (subst AreInOrder e ordered)
-
-  pub least_below : (y : Found) → IsNotBefore x y → All (λ f. IsNotBefore f y) xs
-  least_below y after =
-      subst (All (λ f. IsNotBefore f y)) (sym e) (All-cons (λ f. IsNotBefore f y) x rest after (All-weaker (λ f. IsNotBefore f x) (λ f. IsNotBefore f y) (λ f h. finds_order.chain f x y h after) rest least_of_rest))
-
--- one of two values is not before the other
-pub not_before_either : (a b : List ℕ) → is_le (text_cmp a b) ≡ true → is_lt (text_cmp b a) ≡ false
-not_before_either a b t = ap is_lt (texts_total.antisymm b a) ∙ by (text_cmp a b) t where
-  by : (o : Ordering) → is_le o ≡ true → is_lt (ordering_reverse o) ≡ false
-  by Less t = refl
-  by Equal t = refl
-  by Greater t = absurd (false≢true t)
-
-pub not_at_most : (a b : List ℕ) → is_le (text_cmp a b) ≡ false → is_lt (text_cmp a b) ≡ false
-not_at_most a b t = by (text_cmp a b) t where
-  by : (o : Ordering) → is_le o ≡ false → is_lt o ≡ false
-  by Less t = absurd (false≢true (sym t))
-  by Equal t = refl
-  by Greater t = refl
