@@ -1,13 +1,14 @@
 -- The cells of an object's values among items that rise, item by item.
-use Rattle.std.proofs.Common.{◌≡◌, ℕ, Bool, true, false, ◌&&◌, ◌||◌, All, List, [], ◌∷◌, ◌++◌, refl, sym, ap, subst, ◌∙◌, Option, Some, None, ◌+◌, drop, zero, suc, arith}
+use Rattle.std.proofs.Common.{◌≡◌, ℕ, Bool, true, false, ◌&&◌, ◌||◌, All, List, [], ◌∷◌, ◌++◌, refl, sym, ap, subst, ◌∙◌, Option, Some, None, ◌+◌, ◌-◌, ◌<◌, length, drop, zero, suc, inl, inr, arith}
 use Rattle.std.specs.Prelude.{◌==◌}
+use Rattle.std.specs.Option.{option_cmp}
 use Rattle.std.specs.List.{list_any, slice_index_or, slice_get}
 use Rattle.std.specs.Cmp.Lexicographic.{texts_ties, bytes_decides}
 use Rattle.std.specs.Ordering.{is_eq, ordering_reverse, ordering_then}
 use Rattle.std.specs.declared.cmp.Ordering.{Ordering}
 use Rattle.std.specs.declared.cmp.Ordering.TheVariants.{Less, Equal, Greater}
 use Rattle.std.proofs.Math.Bool.{or_assoc}
-use Rattle.std.proofs.lemmas.Bool.{both_ways, false_from_ne_true, cond-true, cond-false, and_from, eq-eqb}
+use Rattle.std.proofs.lemmas.Bool.{both_ways, cases_lt, false_from_ne_true, cond-true, cond-false, and_from, eq-eqb}
 use Rattle.std.proofs.lemmas.Cmp.{tied_itself}
 use Rattle.std.proofs.lemmas.List.{drop_more}
 use Rattle.std.proofs.lemmas.Option.{get_or_from_slice_get, slice_get_within}
@@ -116,3 +117,45 @@ item_before items place object value cell is = by (slice_get items place) refl i
 
 pub same_itself : (object : ObjectId) → same_object object object ≡ true
 same_itself object = and_from (kind_place object.kind == kind_place object.kind) (same_text object.key object.key) (eq-eqb (kind_place object.kind) (kind_place object.kind) refl) ((bytes_decides object.key object.key).1 refl)
+
+-- ---- items between two of an object
+
+then_equal : (o : Ordering) → ordering_then o Equal ≡ o
+then_equal Less = refl
+then_equal Equal = refl
+then_equal Greater = refl
+
+between_is : (object : ObjectId) (a b : Option (List ℕ)) (x : Item) → item_cmp object a x.object x.value ≡ Less → item_cmp x.object x.value object b ≡ Less → x.object ≡ object
+between_is object a b x above below = by (object_cmp object x.object) (object_cmp x.object object) refl reversed above below where
+  reversed : object_cmp x.object object ≡ ordering_reverse (object_cmp object x.object)
+  reversed = sym (then_equal (object_cmp x.object object)) ∙ places_total.antisymm (x.object, None) (object, None) ∙ ap ordering_reverse (then_equal (object_cmp object x.object))
+
+  by : (o p : Ordering) → object_cmp object x.object ≡ o → p ≡ ordering_reverse o → ordering_then o (option_cmp text_cmp a x.value) ≡ Less → ordering_then p (option_cmp text_cmp x.value b) ≡ Less → x.object ≡ object
+  by Equal p is back above below = sym (items_tied object x.object None None (then_equal (object_cmp object x.object) ∙ is)).0
+  by Less p is back above below = absurd (apart (ap (λ q. ordering_then q (option_cmp text_cmp x.value b)) (sym back) ∙ below)) where
+    apart : Greater ≡ Less → ⊥
+    apart e = cc
+  by Greater p is back above below = absurd (apart above) where
+    apart : Greater ≡ Less → ⊥
+    apart e = cc
+
+pub all_of_object : (items : List Item) (object : ObjectId) → Rise items → 0 < length items → ((d : Item) → (slice_index_or items 0 d).object ≡ object) → ((d : Item) → (slice_index_or items (length items - 1) d).object ≡ object)
+    → All (λ (item : Item). item.object ≡ object) items
+all_of_object items object rising some first last = λ k d l. elim (cases_lt 0 k) [
+  | inr none ↦ let start : 0 ≡ k = omega arith in subst (λ n. (slice_index_or items n d).object ≡ object) start (first d)
+  | inl later ↦ elim (cases_lt k (length items - 1)) [
+    | inr end ↦ let stop : length items - 1 ≡ k = omega arith in subst (λ n. (slice_index_or items n d).object ≡ object) stop (last d)
+    | inl earlier ↦
+        let x = slice_index_or items k d in
+        let a = slice_index_or items 0 d in
+        let b = slice_index_or items (length items - 1) d in
+        between_is object a.value b.value x (subst (λ o. item_cmp o a.value x.object x.value ≡ Less) (first d) (rising 0 k d later l)) (subst (λ o. item_cmp x.object x.value o b.value ≡ Less) (last d) (rising k (length items - 1) d earlier (omega (arith, some))))
+  ]
+]
+
+-- an item at a place, by any other that might stand there
+pub item_is : (items : List Item) (place : ℕ) (object : ObjectId) (value : Option (List ℕ)) (cell : Cell) → IsItem (slice_get items place) object value cell → (d : Item) → (slice_index_or items place d).object ≡ object
+item_is items place object value cell is d = by (slice_get items place) refl is where
+  by : (o : Option Item) → slice_get items place ≡ o → IsItem o object value cell → (slice_index_or items place d).object ≡ object
+  by None there is = absurd is
+  by (Some x) there is = ap (λ (y : Item). y.object) (get_or_from_slice_get items place x d there) ∙ is.0

@@ -1,6 +1,6 @@
 //! The values of a set or a register. The queries of the kinds are this project's own profile.
 
-ghost use Rattle.std.specs.Prelude.{◌≡◌, ◌↔◌, ◌≤◌, ℕ, Bool, List, length, drop, [], ◌∷◌, ◌++◌, map, Contains, IfOk, OnOk, IsTrue, Some, if◌then◌else◌};
+ghost use Rattle.std.specs.Prelude.{◌≡◌, ◌↔◌, ◌≤◌, ℕ, Bool, List, length, drop, All, [], ◌∷◌, ◌++◌, map, Contains, IfOk, OnOk, IsTrue, Some, if◌then◌else◌};
 ghost use Rattle.std.specs.List.{list_any};
 ghost use Rattle.causal_model.specs.History.{History, events, is_history};
 ghost use Rattle.causal_model.specs.Items.{cell_in};
@@ -9,6 +9,7 @@ ghost use Rattle.causal_model.specs.Log.{message_of};
 ghost use Rattle.causal_model.specs.Parts.{has, has_by_parts, is_in, ArePartsOf};
 ghost use Rattle.part_queries.specs.Asked.{has_values};
 ghost use Rattle.op_base.specs.Name.{same_text};
+ghost use Rattle.op_base.specs.Object.{same_object};
 ghost use Rattle.part_queries.specs.Finds.{is_put, is_taken, or_put, or_taken, with_mark, AreRising, AreListed, AreNone, IsBehind};
 
 use crate::found::{Found, logged};
@@ -55,10 +56,11 @@ fn listed<V: ItemView>(
 {
     let mut values = ValueList::with_capacity(alloc, items.len().saturating_add(finds.len()))?;
     let mut done = 0;
+    let all = are_all_of(items, object);
     for place in 0..items.len() {
         let (owner, value, cell) = items.item_at(place);
         if let Some(value) = value {
-            if owner.is_same(object) {
+            if is_of(owner, object, all) {
                 let marks = Marks {
                     put: cell.on,
                     taken: cell.off,
@@ -72,9 +74,56 @@ fn listed<V: ItemView>(
     Ok(values)
 }
 
+/// Whether all items are of an object, as the first and the last tell. No answer but `false` where there are none.
+fn are_all_of<V: ItemView>(items: &V, object: &ObjectId) -> bool
+    ensures { IsTrue result → All (λ item. item.object ≡ object.now) (V.items items.now) }
+{
+    let len = items.len();
+    if len == 0 {
+        return false;
+    }
+    let (first, _, _) = items.item_at(0);
+    let (last, _, _) = items.item_at(len - 1);
+    first.is_same(object) && last.is_same(object)
+}
+
+/// Whether an owner is an object, where it may be known that it is.
+#[inline(always)]
+fn is_of(owner: &ObjectId, object: &ObjectId, known: bool) -> bool
+    requires { IsTrue known → owner.now ≡ object.now }
+    ensures { result ≡ same_object owner.now object.now }
+{
+    known || owner.is_same(object)
+}
+
 /// Puts the values of the finds up to one of an item, and the item's own, at the end, each that is in. How many finds these
 /// are.
+#[inline(always)]
 fn put_item(
+    alloc: Global,
+    kind: Kind,
+    values: &mut ValueList,
+    finds: &[Found<'_>],
+    own: Found<'_>,
+) -> Result<usize, NoMemory>
+    requires { AreRising finds.now }
+    ensures count { IfOk result (λ count. count ≤ length finds.now) }
+
+    // The item's marks and those of the finds up to it are no longer ahead.
+    ensures listed { IfOk result (λ count. (on off whole : List ℕ → Bool) → IsBehind own.entry.value.now on → IsBehind own.entry.value.now off
+        → AreListed kind (or_put (with_mark own.entry.value.now own.entry.marks.put on) finds.now) (or_taken (with_mark own.entry.value.now own.entry.marks.taken off) finds.now) whole values.old
+        → AreListed kind (or_put on (drop count finds.now)) (or_taken off (drop count finds.now)) whole values.new) }
+{
+    if finds.is_empty() {
+        put_in(alloc, kind, values, own)?;
+        return Ok(0);
+    }
+    put_between(alloc, kind, values, finds, own)
+}
+
+/// Does the same, where there are finds that it goes by.
+#[inline(never)]
+fn put_between(
     alloc: Global,
     kind: Kind,
     values: &mut ValueList,
@@ -123,6 +172,7 @@ fn put_finds(
 }
 
 /// Puts the value of a find at the end, where it is in.
+#[inline(always)]
 fn put_in(
     alloc: Global,
     kind: Kind,

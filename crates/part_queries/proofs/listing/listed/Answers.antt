@@ -11,10 +11,10 @@ use Rattle.causal_model.specs.Query.{TextsRise}
 use Rattle.causal_model.proofs.Rules.{object_from_same}
 use Rattle.part_queries.specs.Finds.{is_put, is_taken, or_put, or_taken, with_mark, AreRising, AreListed, AreNone}
 use Rattle.part_queries.proofs.NextValue.{listed_nothing, listed_all, slice_from, rising_from}
-use Rattle.part_queries.proofs.Cells.{listed_but_item, listed_past_item, later_behind, rise_of_rest, item_before, same_itself}
+use Rattle.part_queries.proofs.Cells.{listed_but_item, listed_past_item, later_behind, rise_of_rest, item_before, item_is, same_itself}
 use Rattle.part_queries.proofs.listing.listed.Given as given
 use Rattle.part_queries.proofs.listing.listed.Goals as goal
-use Rattle.part_queries.proofs.listing.listed.Goals.{in-Some+then-is_same+in_ok-done, in-Some+else-is_same, in_default}
+use Rattle.part_queries.proofs.listing.listed.Goals.{in-Some+then-is_of+in_ok-done, in-Some+else-is_of, in_default}
 
 pub loop-place-preserved : goal.loop-place-preserved
 loop-place-preserved g c =
@@ -33,12 +33,12 @@ loop-place-preserved g c =
     let so_far : AreListed kind (is_put object (x ∷ rest) left) (is_taken object (x ∷ rest) left) whole old = subst (λ r. AreListed kind (is_put object r left) (is_taken object r left) whole old) it.1 c.loop-place.invariant.listed in
     let rising : Rise (x ∷ rest) = subst Rise it.1 (rise_of_rest place items (g.met.V.ItemView.rise c.args.items.now)) in
     elim c.match-value.branch [
-      | in-Some+then-is_same+in_ok-done w ↦
+      | in-Some+then-is_of+in_ok-done w ↦
           let value = w.in-Some.value.now in
           let n = w.in_ok-done.field-0 in
           let on : List ℕ → Bool = λ v. (cell_in rest object (Some v)).on in
           let off : List ℕ → Bool = λ v. (cell_in rest object (Some v)).off in
-          let own : x.object ≡ object = it.2 ∙ object_from_same c.item_at.result.0.now object (sym w.is_same.ensures ∙ w.if-is_same.true) in
+          let own : x.object ≡ object = it.2 ∙ object_from_same c.item_at.result.0.now object (sym w.is_of.ensures ∙ w.if-is_of.true) in
           let valued : x.value ≡ Some value = it.3 ∙ ap option_copied w.in-Some.is in
           let start : AreListed kind (or_put (with_mark value c.item_at.result.2.on on) left) (or_taken (with_mark value c.item_at.result.2.off off) left) whole old =
           subst (λ (cell : Cell). AreListed kind (or_put (with_mark value cell.on on) left) (or_taken (with_mark value cell.off off) left) whole old) it.4
@@ -52,12 +52,12 @@ loop-place-preserved g c =
                 (subst (λ fs. AreListed kind (or_put on fs) (or_taken off fs) whole c.match-value.values) (ap (drop n) (slice_from finds done) ∙ drop-drop n done finds)
                 (subst (AreListed kind (or_put on _) (or_taken off _) whole) (sym w.values-is) later));
           }
-      | in-Some+else-is_same w ↦
+      | in-Some+else-is_of w ↦
           record {
             done = subst (λ n. n ≤ length finds) (sym w.done-is) c.loop-place.invariant.done;
             listed = subst (λ n. AreListed kind (is_put object rest (drop n finds)) (is_taken object rest (drop n finds)) whole c.match-value.values) (sym w.done-is)
                 (subst (AreListed kind (is_put object rest left) (is_taken object rest left) whole) (sym w.values-is) (listed_past_item object x rest kind left whole old so_far (λ v own valued.
-                both_ways (same_object c.item_at.result.0.now object) (sym w.is_same.ensures ∙ w.if-is_same.false) (ap (λ o. same_object o object) (sym it.2 ∙ own) ∙ same_itself object))));
+                both_ways (same_object c.item_at.result.0.now object) (sym w.is_of.ensures ∙ w.if-is_of.false) (ap (λ o. same_object o object) (sym it.2 ∙ own) ∙ same_itself object))));
           }
       | in_default w ↦
           record {
@@ -68,6 +68,13 @@ loop-place-preserved g c =
                 cc)));
           }
     ]
+
+pub is_of-requires : goal.is_of-requires
+is_of-requires g c = λ known.
+    let items = g.V.ItemView.items c.args.items.now in
+    let place = c.loop-place.place in
+    let x = (item_before items place _ _ _ c.item_at.ensures).0 in
+    sym (item_is items place _ _ _ c.item_at.ensures x) ∙ c.are_all_of-all.ensures known place x (omega (arith, c.len-place-end.ensures, c.loop-place-test.true))
 
 pub put_finds-requires : goal.put_finds-requires
 put_finds-requires g c = subst AreRising (sym (slice_from c.args.finds.now c.loop-place.done)) (rising_from c.args.finds.now c.loop-place.done c.requires)

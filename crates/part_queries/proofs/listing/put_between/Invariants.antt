@@ -1,6 +1,6 @@
 use Rattle.std.proofs.Common.{◌≡◌, ℕ, Bool, List, drop}
 use Rattle.part_queries.specs.Finds.{or_put, or_taken, with_mark, AreRising, AreListed, IsBehind}
-use Rattle.part_queries.proofs.listing.put_item.Given as goal
+use Rattle.part_queries.proofs.listing.put_between.Given as goal
 
 abbrev pub invariant-loop-found : goal.invariant-loop-found
 invariant-loop-found l = record {
