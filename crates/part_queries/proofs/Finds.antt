@@ -18,6 +18,7 @@ use Rattle.op_base.specs.Order.{text_cmp}
 use Rattle.causal_model.proofs.Members.{pairs_head, pairs_tail, list_any_members}
 use Rattle.part_queries.specs.Finds.{AreRising, AreInOrder}
 use Rattle.part_queries.specs.declared.found.Found.{Found}
+use Rattle.part_queries.specs.declared.marks.Marks.{Marks}
 
 pub or_none : (b : Bool) → (b || false) ≡ b
 or_none true = refl
@@ -61,24 +62,13 @@ after_from a b after apart = by (text_cmp a b) refl (texts_total.antisymm b a) a
 pub not_before : (a b : List ℕ) → text_cmp a b ≡ Less → is_lt (text_cmp b a) ≡ false
 not_before a b less = ap is_lt (texts_total.antisymm b a ∙ ap ordering_reverse less)
 
+-- the order of marks
+abbrev pub marks_cmp : Marks → Marks → Ordering
+marks_cmp a b = ordering_then (bool_cmp a.put b.put) (bool_cmp a.taken b.taken)
+
 -- the order of finds by all that they have, which goes by value first
 abbrev pub found_cmp : Found → Found → Ordering
-found_cmp a b = ordering_then (text_cmp a.value.now b.value.now) (ordering_then (bool_cmp a.marks.put b.marks.put) (bool_cmp a.marks.taken b.marks.taken))
-
-less_first : (o p : Ordering) → is_lt o ≡ true → is_lt (ordering_then o p) ≡ true
-less_first Less p t = refl
-less_first Equal p t = absurd (false≢true t)
-less_first Greater p t = absurd (false≢true t)
-
-pub sorted_is_in_order : (finds : List Found) → IsSorted found_cmp finds → AreInOrder finds
-sorted_is_in_order finds sorted = λ i j d lt within. sorted_far (λ (a b : Found). is_lt (text_cmp a.value.now b.value.now)) finds_order finds (λ k e l m.
-    let a = slice_index_or finds (k + 1) e in
-    let b = slice_index_or finds k e in
-    false_from_ne_true (is_lt (text_cmp a.value.now b.value.now)) (λ t. both_ways (is_lt (found_cmp a b)) (sorted k e l m)
-    (less_first (text_cmp a.value.now b.value.now) (ordering_then (bool_cmp a.marks.put b.marks.put) (bool_cmp a.marks.taken b.marks.taken)) t))) i j d (omega (arith, lt)) within
-
-pub rising_is_in_order : (finds : List Found) → AreRising finds → AreInOrder finds
-rising_is_in_order finds rising = λ i j d lt within. not_before (slice_index_or finds i d).value.now (slice_index_or finds j d).value.now (rising i j d lt within)
+found_cmp a b = ordering_then (text_cmp a.value.now b.value.now) (marks_cmp a.marks b.marks)
 
 pub list_any_permuted : {X : Type 0} (p : X → Bool) (xs ys : List X) → IsPermutation xs ys → list_any p ys ≡ list_any p xs
 list_any_permuted p xs ys moved = list_any_members p ys xs (λ x. (Contains-permutation ys xs x (IsPermutation-sym xs ys moved), Contains-permutation xs ys x moved))

@@ -1,5 +1,6 @@
 pub mod Logged
 pub mod Finds
+pub mod HeadOrder
 pub mod Groups
 pub mod NextValue
 pub mod Cells

@@ -1,2 +1,4 @@
 pub mod Asked
 pub mod Finds
+pub mod Heads
+pub mod Headed

@@ -4,8 +4,10 @@ ghost use Rattle.std.specs.Prelude.{◌≡◌, ℕ, List, map, IfOk, Some};
 ghost use Rattle.std.specs.List.{list_any};
 ghost use Rattle.causal_model.specs.Log.{message_of};
 ghost use Rattle.causal_model.specs.Parts.{has_logged, puts, takes};
-ghost use Rattle.part_queries.specs.Finds.{puts_in, takes_out, IsFoundOf, AreInOrder};
+ghost use Rattle.part_queries.specs.Headed.{head_puts_in, head_takes_out, HeadsAreInOrder};
+ghost use Rattle.part_queries.specs.Finds.{IsFoundOf};
 
+use crate::heads::Headed;
 use crate::marks::Marks;
 use op_base::{Act, Entry, NoMemory, ObjectId, Value};
 use std::alloc::Global;
@@ -47,16 +49,16 @@ pub fn logged<'a>(
     alloc: Global,
     entries: &'a [Entry],
     object: &ObjectId,
-) -> Result<Vec<Found<'a>>, NoMemory>
-    ensures order { IfOk result (λ finds. AreInOrder finds.items) }
-    ensures put { IfOk result (λ finds. (v : List ℕ) → list_any (puts_in v) finds.items ≡ has_logged object.now (map message_of entries.now) (puts (Some v))) }
-    ensures taken { IfOk result (λ finds. (v : List ℕ) → list_any (takes_out v) finds.items ≡ has_logged object.now (map message_of entries.now) (takes (Some v))) }
+) -> Result<Vec<Headed<'a>>, NoMemory>
+    ensures order { IfOk result (λ finds. HeadsAreInOrder finds.items) }
+    ensures put { IfOk result (λ finds. (v : List ℕ) → list_any (head_puts_in v) finds.items ≡ has_logged object.now (map message_of entries.now) (puts (Some v))) }
+    ensures taken { IfOk result (λ finds. (v : List ℕ) → list_any (head_takes_out v) finds.items ≡ has_logged object.now (map message_of entries.now) (takes (Some v))) }
 {
     let mut finds = Vec::with_capacity(alloc, entries.len())?;
     for entry in entries {
         if entry.update.object().is_same(object) {
             if let Some(found) = found_of(entry.update.act()) {
-                finds.push(found)?;
+                finds.push(Headed::new(found))?;
             }
         }
     }

@@ -7,6 +7,7 @@
 
 mod found;
 mod grouping;
+mod heads;
 mod listing;
 mod marks;
 mod membership;
