@@ -1,6 +1,6 @@
 //! Places for the early messages of one member, in a block of memory of which little is touched while there are few.
 
-ghost use Rattle.std.specs.Prelude.{◌≡◌, ℕ, ◌+◌, ◌-◌, ◌*◌, ◌^◌, ◌<◌, ◌≤◌, [], ◌++◌, length, take, drop, replicate, min, slice_index_or, slice_set, vec_capacity, IfOk, Some, None};
+ghost use Rattle.std.specs.Prelude.{◌≡◌, ◌+◌, ◌-◌, ◌*◌, ◌^◌, ◌<◌, ◌≤◌, [], ◌++◌, length, take, drop, replicate, min, slice_index_or, slice_set, vec_capacity, IfOk, Some, None};
 ghost use Rattle.std.specs.Option.{option_copied};
 
 use op_base::{Message, NoMemory};

@@ -1,6 +1,6 @@
 //! The queue of one member: its unstable timestamps in the order of their numbers.
 
-ghost use Rattle.std.specs.Prelude.{◌≡◌, ℕ, ◌+◌, ◌<◌, ◌≤◌, [], ◌∷◌, ◌++◌, length, All, count_by, not, IfOk, IfSome, IfNone};
+ghost use Rattle.std.specs.Prelude.{◌≡◌, ◌+◌, ◌<◌, ◌≤◌, [], ◌∷◌, ◌++◌, length, All, count_by, not, IfOk, IfSome, IfNone};
 ghost use Rattle.op_base.specs.Timestamp.{entry, zero_tag};
 ghost use Rattle.tag_window.specs.Window.{IsNextNumber};
 ghost use Rattle.tag_window.specs.Queue.{tag_held, left_of};
