@@ -1,6 +1,6 @@
 //! What is found of the values of an object among its items and its entries. The kinds are this project's own profile.
 
-ghost use Rattle.std.specs.Prelude.{◌≡◌, ℕ, List, map, IfOk, Some};
+ghost use Rattle.std.specs.Prelude.{◌≡◌, ℕ, List, map, IfOk, IsTrue, Some};
 ghost use Rattle.std.specs.List.{list_any};
 ghost use Rattle.causal_model.specs.Log.{message_of};
 ghost use Rattle.causal_model.specs.Parts.{has_logged, puts, takes};
@@ -11,6 +11,7 @@ use crate::heads::Headed;
 use crate::marks::Marks;
 use op_base::{Act, Entry, NoMemory, ObjectId, Value};
 use std::alloc::Global;
+use std::cmp::Ordering;
 
 /// A value, with what an item or an entry says of it.
 #[derive(Clone, Copy, Debug, PartialEq, Eq, PartialOrd, Ord)]
@@ -62,6 +63,21 @@ pub fn logged<'a>(
             }
         }
     }
-    finds.sort_unstable();
+    if !are_in_order(&finds) {
+        finds.sort_unstable();
+    }
     Ok(finds)
+}
+
+/// Whether no find is behind one that comes after it in their order, as where the entries were typed in order.
+fn are_in_order(finds: &[Headed<'_>]) -> bool
+    ensures { IsTrue result → HeadsAreInOrder finds.now }
+{
+    for place in 1..finds.len() {
+        match finds[place].cmp(&finds[place - 1]) {
+            Ordering::Less => return false,
+            Ordering::Equal | Ordering::Greater => {}
+        }
+    }
+    true
 }
