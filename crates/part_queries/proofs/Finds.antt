@@ -1,22 +1,21 @@
 -- Lists of what is found: what they say with one find more, and their orders.
-use Rattle.std.proofs.Common.{◌≡◌, ℕ, ◌+◌, arith, length-append, Bool, true, false, ◌||◌, All, List, [], ◌∷◌, ◌++◌, refl, sym, ap, subst, ◌∙◌}
+use Rattle.std.proofs.Common.{◌≡◌, ℕ, arith, length-append, Bool, true, false, ◌||◌, All, List, [], ◌∷◌, ◌++◌, refl, sym, ap, subst, ◌∙◌}
 use Rattle.std.specs.Prelude.{AllPairs}
-use Rattle.std.specs.List.{list_any, slice_index_or}
-use Rattle.std.specs.List.Sorted.{IsSorted, IsPermutation}
-use Rattle.std.specs.Cmp.{IsTotalOrder, IsStrictWeakOrder}
+use Rattle.std.specs.List.{list_any}
+use Rattle.std.specs.List.Sorted.{IsPermutation}
+use Rattle.std.specs.Cmp.{IsTotalOrder}
 use Rattle.std.specs.Ordering.{is_lt, is_eq, ordering_reverse, ordering_then, bool_cmp}
 use Rattle.std.specs.declared.cmp.Ordering.{Ordering}
 use Rattle.std.specs.declared.cmp.Ordering.TheVariants.{Less, Equal, Greater}
-use Rattle.std.proofs.lemmas.Bool.{false≢true, both_ways, false_from_ne_true}
+use Rattle.std.proofs.lemmas.Bool.{false≢true}
 use Rattle.std.proofs.lemmas.Cmp.{nat_list_cmp_total}
 use Rattle.std.proofs.lemmas.List.{get_or_append_left}
 use Rattle.std.proofs.lemmas.List.Elements.{All-nil, All-cons, All-contains, Contains-push}
 use Rattle.std.proofs.lemmas.List.Folds.{list_any-append}
 use Rattle.std.proofs.lemmas.List.Kept.{AllPairs-cons}
-use Rattle.std.proofs.lemmas.List.Sorted.{ranks_by, sorted_far, Contains-permutation, IsPermutation-sym}
+use Rattle.std.proofs.lemmas.List.Sorted.{Contains-permutation, IsPermutation-sym}
 use Rattle.op_base.specs.Order.{text_cmp}
 use Rattle.causal_model.proofs.Members.{pairs_head, pairs_tail, list_any_members}
-use Rattle.part_queries.specs.Finds.{AreRising, AreInOrder}
 use Rattle.part_queries.specs.declared.found.Found.{Found}
 use Rattle.part_queries.specs.declared.marks.Marks.{Marks}
 
@@ -47,9 +46,6 @@ pairs_front R (x ∷ xs) ys pairs = AllPairs-cons R x xs (all_front (R x) xs ys 
 pub texts_total : IsTotalOrder text_cmp
 texts_total = nat_list_cmp_total
 
-pub finds_order : IsStrictWeakOrder (λ (a b : Found). is_lt (text_cmp a.value.now b.value.now))
-finds_order = ranks_by texts_total (λ (f : Found). f.value.now)
-
 -- what is neither before nor tied is after
 pub after_from : (a b : List ℕ) → is_lt (text_cmp b a) ≡ false → is_eq (text_cmp a b) ≡ false → text_cmp a b ≡ Less
 after_from a b after apart = by (text_cmp a b) refl (texts_total.antisymm b a) apart where
@@ -57,10 +53,6 @@ after_from a b after apart = by (text_cmp a b) refl (texts_total.antisymm b a) a
   by Less is back apart = refl
   by Equal is back apart = absurd (false≢true (sym apart))
   by Greater is back apart = absurd (false≢true (sym after ∙ ap is_lt back))
-
--- what is at most another is not before by it
-pub not_before : (a b : List ℕ) → text_cmp a b ≡ Less → is_lt (text_cmp b a) ≡ false
-not_before a b less = ap is_lt (texts_total.antisymm b a ∙ ap ordering_reverse less)
 
 -- the order of marks
 abbrev pub marks_cmp : Marks → Marks → Ordering

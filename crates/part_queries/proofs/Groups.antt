@@ -1,21 +1,18 @@
 -- What becomes of finds in order as each value's are joined.
-use Rattle.std.proofs.Common.{◌≡◌, ℕ, ◌+◌, Bool, true, false, ◌&&◌, ◌||◌, All, List, [], ◌∷◌, ◌++◌, length, refl, sym, ap, subst, ◌∙◌, inl, inr, arith}
+use Rattle.std.proofs.Common.{◌≡◌, ℕ, Bool, true, false, ◌&&◌, ◌||◌, All, List, [], ◌∷◌, ◌++◌, length, refl, sym, ap, subst, ◌∙◌, arith}
 use Rattle.std.specs.List.{list_any}
 use Rattle.std.specs.Cmp.Lexicographic.{texts_ties, bytes_decides, pointwise}
-use Rattle.std.specs.Ordering.{is_lt, is_le, is_eq, ordering_reverse}
+use Rattle.std.specs.Ordering.{is_eq}
 use Rattle.std.specs.Prelude.{nat_eq}
-use Rattle.std.specs.declared.cmp.Ordering.TheVariants.{Less, Equal, Greater}
-use Rattle.std.specs.declared.cmp.Ordering.{Ordering}
+use Rattle.std.specs.declared.cmp.Ordering.TheVariants.{Less}
 use Rattle.std.proofs.Math.Bool.{or_assoc}
-use Rattle.std.proofs.lemmas.Bool.{false≢true}
-use Rattle.std.proofs.lemmas.List.Elements.{All-head, All-tail, All-cons, All-push, All-weaker, All-contains, Contains-push}
+use Rattle.std.proofs.lemmas.List.Elements.{All-push, All-weaker, All-contains, Contains-push}
 use Rattle.std.proofs.lemmas.List.Quantifiers.{all_pairs_push}
 use Rattle.op_base.specs.Name.{same_text}
 use Rattle.op_base.specs.Order.{text_cmp}
-use Rattle.causal_model.proofs.Members.{pairs_head, pairs_tail}
 use Rattle.part_queries.specs.Finds.{puts_in, takes_out, IsNotBefore, AreRising}
 use Rattle.part_queries.specs.declared.found.Found.{Found}
-use Rattle.part_queries.proofs.Finds.{list_any_push, pairs_last, pairs_front, all_front, texts_total, finds_order, after_from}
+use Rattle.part_queries.proofs.Finds.{list_any_push, pairs_last, pairs_front, all_front, texts_total, after_from}
 
 -- ---- a find more
 

@@ -1,32 +1,19 @@
 -- The values that finds list: those that are in by their marks.
-use Rattle.std.proofs.Common.{◌≡◌, ◌↔◌, ℕ, Bool, true, false, ◌&&◌, ◌||◌, IsTrue, Contains, List, [], ◌∷◌, map, refl, sym, ap, subst, ◌∙◌, inl, inr}
+use Rattle.std.proofs.Common.{◌≡◌, ◌↔◌, ℕ, Bool, IsTrue, Contains, List, refl, sym, subst, ◌∙◌}
 use Rattle.std.specs.Prelude.{Some, Result, Ok, Err, IfOk}
-use Rattle.std.specs.List.{list_any, filter, slice_index_or}
+use Rattle.std.specs.List.{list_any}
 use Rattle.std.specs.Cmp.Lexicographic.{bytes_decides}
-use Rattle.std.specs.declared.cmp.Ordering.TheVariants.{Less, Equal}
-use Rattle.std.proofs.lemmas.Bool.{and_parts, and_from, and_left, false_from_ne_true}
-use Rattle.std.proofs.lemmas.Cmp.{tied_itself}
-use Rattle.std.proofs.lemmas.List.Elements.{All-contains, filter_passes}
-use Rattle.std.proofs.lemmas.List.Folds.{list_any_none}
-use Rattle.std.proofs.lemmas.List.Kept.{AllPairs-filter}
 use Rattle.op_base.specs.Name.{same_text}
-use Rattle.op_base.specs.Order.{text_cmp}
-use Rattle.op_base.specs.declared.name.Kind.{Kind}
-use Rattle.op_base.specs.declared.name.Kind.TheVariants.{AwSet, RwSet, EwFlag, DwFlag, MvReg, Counter, RCounter}
 use Rattle.op_base.specs.declared.name.ObjectId.{ObjectId}
 use Rattle.op_base.specs.declared.message.Message.{Message}
 use Rattle.op_base.specs.declared.outcome.Item.{Item}
 use Rattle.causal_model.specs.History.{History, events, is_history}
 use Rattle.causal_model.specs.Items.{cell_in}
 use Rattle.causal_model.specs.Query.{TextsRise, values_that}
-use Rattle.causal_model.specs.Parts.{has, has_by_parts, is_in, ArePartsOf}
-use Rattle.causal_model.proofs.Elements.{AllPairs-map, Contains-map, item_from_list_any, list_any-from_item}
-use Rattle.causal_model.proofs.Members.{no_member, member_here, member_later, member_cases, member_of_filter, member_from_filter, pairs_head, pairs_tail}
+use Rattle.causal_model.specs.Parts.{has, has_by_parts, ArePartsOf}
+use Rattle.causal_model.proofs.Elements.{item_from_list_any, list_any-from_item}
 use Rattle.causal_model.proofs.ObjectParts.{has_from_parts}
 use Rattle.causal_model.proofs.Values.{values_rise, values_are_exact, only_named_are_in, one_list_of_texts}
-use Rattle.part_queries.specs.Finds.{puts_in, takes_out, AreRising}
-use Rattle.part_queries.specs.declared.found.Found.{Found}
-use Rattle.part_queries.proofs.Finds.{or_none, texts_total}
 
 -- ---- a rising list of what is in by an object's part of a history is the answer over the history
 

@@ -1,10 +1,9 @@
 -- How values are listed: of those that are ahead, always the least is taken.
 use Rattle.std.proofs.Common.{◌≡◌, ℕ, zero, suc, ◌+◌, ◌-◌, ◌<◌, Bool, true, false, ◌&&◌, ◌||◌, All, List, [], ◌∷◌, ◌++◌, length, take, drop, get_or, refl, sym, ap, subst, ◌∙◌, if◌then◌else◌, inl, inr, arith}
-use Rattle.std.specs.List.{list_any, slice_index_or}
+use Rattle.std.specs.List.{list_any}
 use Rattle.std.specs.Cmp.Lexicographic.{bytes_decides, texts_ties}
 use Rattle.std.specs.Ordering.{is_eq, ordering_reverse}
 use Rattle.std.specs.declared.cmp.Ordering.TheVariants.{Less, Equal, Greater}
-use Rattle.std.proofs.Math.Bool.{or_assoc}
 use Rattle.std.proofs.lemmas.Bool.{and_parts, and_left, both_ways, false_from_ne_true, or_cases, or_right, cond-true, cond-false}
 use Rattle.std.proofs.lemmas.Cmp.{tied_itself}
 use Rattle.std.proofs.lemmas.List.{drop_more, take_all, length-drop}
@@ -106,7 +105,7 @@ finds_behind value finds behind mark v t =
     ap (text_cmp value) (sym ((bytes_decides one.0.value.now v).0 (and_parts (same_text one.0.value.now v) (mark one.0) one.1.1).0)) ∙ All-contains (λ (f : Found). text_cmp value f.value.now ≡ Less) finds one.0 behind one.1.0
 
 either_behind : (value : List ℕ) (p q : List ℕ → Bool) → IsBehind value p → IsBehind value q → IsBehind value (λ v. p v || q v)
-either_behind value p q first second v t = elim (or_cases (p v) (q v) t) [ | inl t' ↦ first v t' | inr t' ↦ second v t' ]
+either_behind value p q first second v t = elim (or_cases (p v) (q v) t) [ inl t' ↦ first v t' | inr t' ↦ second v t' ]
 
 module _ (kind : Kind) (on off whole : List ℕ → Bool) (found : Found) (rest : List Found) (values : List (List ℕ)) (rising : AreRising (found ∷ rest))
     (on_behind : IsBehind found.value.now on) (off_behind : IsBehind found.value.now off) where
@@ -226,14 +225,7 @@ rising_alone own = AllPairs-cons (λ (a b : Found). text_cmp a.value.now b.value
 pub slice_from : {X : Type 0} (xs : List X) (n : ℕ) → take (length xs - n) (drop n xs) ≡ drop n xs
 slice_from xs n = take_all (length xs - n) (drop n xs) (omega (arith, length-drop n xs))
 
--- nothing is listed at first, and all is at the end
-pub listed_nothing : (kind : Kind) (put taken : List ℕ → Bool) (values : List (List ℕ)) → values ≡ [] → AreListed kind put taken (λ v. is_in kind (put v) (taken v)) values
-listed_nothing kind put taken values none = subst (AreListed kind put taken (λ v. is_in kind (put v) (taken v))) (sym none) (record {
-  rise = λ i j d lt within. absurd (omega (arith, within));
-  put_ahead = λ v t k d l. absurd (omega (arith, l));
-  exact = λ v. refl;
-})
-
+-- all is listed at the end, where nothing is ahead
 pub listed_all : (kind : Kind) (put taken whole : List ℕ → Bool) (values : List (List ℕ)) → AreNone put → AreListed kind put taken whole values → (v : List ℕ) → list_any (λ value. same_text value v) values ≡ whole v
 listed_all kind put taken whole values none so_far v =
     sym (ap (λ b. list_any (λ value. same_text value v) values || b) (ap (λ b. is_in kind b (taken v)) (none v) ∙ is_in_none kind (taken v)) ∙ or_none (list_any (λ value. same_text value v) values)) ∙ so_far.exact v

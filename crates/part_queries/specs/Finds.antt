@@ -35,10 +35,6 @@ IsNotBefore a b = is_lt (text_cmp a.value.now b.value.now) ≡ false
 abbrev pub AreRising : List Found → Type 0
 AreRising finds = AllPairs (λ (a b : Found). text_cmp a.value.now b.value.now ≡ Less) finds
 
--- no find is behind one of a greater value
-abbrev pub AreInOrder : List Found → Type 0
-AreInOrder finds = AllPairs (λ (a b : Found). IsNotBefore b a) finds
-
 -- whether a value passes, or a find puts it in
 abbrev pub or_put : (List ℕ → Bool) → List Found → List ℕ → Bool
 or_put passes finds value = passes value || list_any (puts_in value) finds
@@ -73,3 +69,10 @@ pub record AreListed (kind : Kind) (put taken whole : List ℕ → Bool) (values
   pub rise : TextsRise values
   pub put_ahead : (v : List ℕ) → put v ≡ true → All (λ value. text_cmp value v ≡ Less) values
   pub exact : (v : List ℕ) → (list_any (λ value. same_text value v) values || is_in kind (put v) (taken v)) ≡ whole v
+
+-- Values are listed past an item's find: it and the finds up to it are no longer ahead, and each of them that is in is
+-- listed, whatever else is ahead of greater values.
+abbrev pub AreListedPast : Kind → Found → List Found → List Found → List (List ℕ) → List (List ℕ) → Type 0
+AreListedPast kind own finds left old new = (on off whole : List ℕ → Bool) → IsBehind own.value.now on → IsBehind own.value.now off
+    → AreListed kind (or_put (with_mark own.value.now own.marks.put on) finds) (or_taken (with_mark own.value.now own.marks.taken off) finds) whole old
+    → AreListed kind (or_put on left) (or_taken off left) whole new

@@ -10,7 +10,7 @@ ghost use Rattle.causal_model.specs.Parts.{has, has_by_parts, is_in, ArePartsOf}
 ghost use Rattle.part_queries.specs.Asked.{has_values};
 ghost use Rattle.op_base.specs.Name.{same_text};
 ghost use Rattle.op_base.specs.Object.{same_object};
-ghost use Rattle.part_queries.specs.Finds.{is_put, is_taken, or_put, or_taken, with_mark, AreRising, AreListed, AreNone, IsBehind};
+ghost use Rattle.part_queries.specs.Finds.{is_put, is_taken, or_put, or_taken, AreRising, AreListed, AreListedPast, AreNone};
 
 use crate::found::{Found, logged};
 use crate::grouping::grouped;
@@ -109,10 +109,7 @@ fn put_item(
     requires { AreRising finds.now }
     ensures count { IfOk result (λ count. count ≤ length finds.now) }
 
-    // The item's marks and those of the finds up to it are no longer ahead.
-    ensures listed { IfOk result (λ count. (on off whole : List ℕ → Bool) → IsBehind own.entry.value.now on → IsBehind own.entry.value.now off
-        → AreListed kind (or_put (with_mark own.entry.value.now own.entry.marks.put on) finds.now) (or_taken (with_mark own.entry.value.now own.entry.marks.taken off) finds.now) whole values.old
-        → AreListed kind (or_put on (drop count finds.now)) (or_taken off (drop count finds.now)) whole values.new) }
+    ensures listed { IfOk result (λ count. AreListedPast kind own.entry finds.now (drop count finds.now) values.old values.new) }
 {
     if finds.is_empty() {
         put_in(alloc, kind, values, own)?;
@@ -121,7 +118,8 @@ fn put_item(
     put_between(alloc, kind, values, finds, own)
 }
 
-/// Does the same, where there are finds that it goes by.
+/// Puts the values of the finds up to one of an item, and the item's own, where there are such finds. It stands apart, so that
+/// a list with none is short work.
 #[inline(never)]
 fn put_between(
     alloc: Global,
@@ -133,10 +131,7 @@ fn put_between(
     requires { AreRising finds.now }
     ensures count { IfOk result (λ count. count ≤ length finds.now) }
 
-    // The item's marks and those of the finds up to it are no longer ahead.
-    ensures listed { IfOk result (λ count. (on off whole : List ℕ → Bool) → IsBehind own.entry.value.now on → IsBehind own.entry.value.now off
-        → AreListed kind (or_put (with_mark own.entry.value.now own.entry.marks.put on) finds.now) (or_taken (with_mark own.entry.value.now own.entry.marks.taken off) finds.now) whole values.old
-        → AreListed kind (or_put on (drop count finds.now)) (or_taken off (drop count finds.now)) whole values.new) }
+    ensures listed { IfOk result (λ count. AreListedPast kind own.entry finds.now (drop count finds.now) values.old values.new) }
 {
     let mut marks = own.marks;
     let mut count = 0;

@@ -14,9 +14,10 @@ use Rattle.part_queries.proofs.found.logged.Goals.{then-not-are_in_order, else-n
 ordered : (c : goal.Joined-not-are_in_order) → HeadsAreInOrder c.if-not-are_in_order.finds.items × ((p : Headed → Bool) → list_any p c.if-not-are_in_order.finds.items ≡ list_any p c.loop-entry.finds.items)
 ordered c = elim c.if-not-are_in_order.branch [
   | then-not-are_in_order w ↦
-      let is : c.if-not-are_in_order.finds.items ≡ w.sort_unstable.new.self.items = λ i. (w.finds-is i).items in
-      (subst HeadsAreInOrder (sym is) (sorted_is_in_order w.sort_unstable.new.self.items w.sort_unstable.ensures.sorted),
-      λ p. ap (list_any p) is ∙ list_any_permuted p c.loop-entry.finds.items w.sort_unstable.new.self.items w.sort_unstable.ensures.permutation)
+      let is : c.if-not-are_in_order.finds.items ≡ w.sort_unstable.new.self.items = λ i. (w.finds-is i).items in (
+        subst HeadsAreInOrder (sym is) (sorted_is_in_order w.sort_unstable.new.self.items w.sort_unstable.ensures.sorted),
+        λ p. ap (list_any p) is ∙ list_any_permuted p c.loop-entry.finds.items w.sort_unstable.new.self.items w.sort_unstable.ensures.permutation,
+      )
   | else-not-are_in_order w ↦
       let is : c.if-not-are_in_order.finds.items ≡ c.loop-entry.finds.items = λ i. (w.finds-is i).items in
       (subst HeadsAreInOrder (c.deref.ensures.value ∙ sym is) (c.are_in_order.ensures w.if-not-are_in_order.false), λ p. ap (list_any p) is)

@@ -1,4 +1,4 @@
-use Rattle.std.proofs.Common.{◌≡◌, [], ◌∷◌, ◌+◌, ◌-◌, ◌≤◌, ℕ, Bool, List, drop, take, length, refl, sym, ap, subst, ◌∙◌, Some, None, option_copied, arith}
+use Rattle.std.proofs.Common.{◌≡◌, [], ◌∷◌, ◌+◌, ◌≤◌, ℕ, Bool, List, drop, length, refl, sym, ap, subst, ◌∙◌, Some, None, option_copied, arith}
 use Rattle.std.specs.List.{list_any}
 use Rattle.std.proofs.lemmas.Bool.{both_ways}
 use Rattle.std.proofs.lemmas.List.{drop_all, drop-drop, length-drop}
@@ -10,7 +10,7 @@ use Rattle.causal_model.specs.Parts.{is_in}
 use Rattle.causal_model.specs.Query.{TextsRise}
 use Rattle.causal_model.proofs.Rules.{object_from_same}
 use Rattle.part_queries.specs.Finds.{is_put, is_taken, or_put, or_taken, with_mark, AreRising, AreListed, AreNone}
-use Rattle.part_queries.proofs.NextValue.{listed_nothing, listed_all, slice_from, rising_from}
+use Rattle.part_queries.proofs.NextValue.{listed_all, slice_from, rising_from}
 use Rattle.part_queries.proofs.Cells.{listed_but_item, listed_past_item, later_behind, rise_of_rest, item_before, item_is, same_itself}
 use Rattle.part_queries.proofs.listing.listed.Given as given
 use Rattle.part_queries.proofs.listing.listed.Goals as goal

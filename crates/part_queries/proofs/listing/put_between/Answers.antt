@@ -1,6 +1,6 @@
-use Rattle.std.proofs.Common.{◌≡◌, ◌∷◌, [], ◌+◌, ◌||◌, Bool, ℕ, List, drop, length, sym, subst, ap, ◌∙◌, arith}
+use Rattle.std.proofs.Common.{◌∷◌, ◌+◌, ◌||◌, drop, sym, subst, ◌∙◌, arith}
 use Rattle.std.proofs.lemmas.List.{drop_all}
-use Rattle.part_queries.specs.Finds.{or_put, or_taken, with_mark, AreRising, AreListed, IsBehind}
+use Rattle.part_queries.specs.Finds.{or_put, or_taken, AreRising, AreListed}
 use Rattle.part_queries.specs.declared.found.Found.{Found}
 use Rattle.part_queries.specs.declared.marks.Marks.{Marks}
 use Rattle.part_queries.proofs.NextValue.{AreListedBut, finds_from, rising_later, rising_alone, rising_own_before, listed_before, listed_same, listed_own}

@@ -1,4 +1,4 @@
-use Rattle.std.proofs.Common.{◌≡◌, ◌∷◌, [], ◌+◌, Bool, ℕ, List, drop, length, false, sym, subst, ap, ◌∙◌}
+use Rattle.std.proofs.Common.{[], ◌+◌, drop, subst}
 use Rattle.std.proofs.lemmas.Bool.{both_ways}
 use Rattle.std.proofs.lemmas.List.{drop_all}
 use Rattle.part_queries.specs.Finds.{or_put, or_taken, AreRising, AreListed}

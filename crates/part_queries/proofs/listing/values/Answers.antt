@@ -1,4 +1,4 @@
-use Rattle.std.proofs.Common.{◌≡◌, ℕ, ◌||◌, Bool, List, map, Some, sym, ap, subst, ◌∙◌}
+use Rattle.std.proofs.Common.{◌≡◌, ℕ, ◌||◌, List, map, Some, ap, ◌∙◌}
 use Rattle.std.specs.List.{list_any}
 use Rattle.causal_model.specs.Items.{cell_in}
 use Rattle.causal_model.specs.Log.{message_of}
