@@ -1,14 +1,14 @@
 -- Where a test parts rising items.
-use Rattle.std.proofs.Common.{◌≡◌, ℕ, ◌+◌, ◌<◌, ◌≤◌, Bool, true, false, not, All, AllPairs, List, ◌∷◌, length, take, drop, get_or, refl, sym, ap, subst, ◌∙◌, inl, inr, length-drop, length-take-le, arith}
+use Rattle.std.proofs.Common.{◌≡◌, ℕ, ◌+◌, ◌-◌, ◌<◌, ◌≤◌, Bool, true, false, not, All, AllPairs, List, ◌∷◌, length, take, drop, get_or, refl, sym, ap, subst, ◌∙◌, inl, inr, length-drop, length-take-le, arith}
 use Rattle.std.specs.Prelude.{Option, Some, None}
 use Rattle.std.specs.Cmp.{IsTotalOrder}
-use Rattle.std.specs.List.{insert}
+use Rattle.std.specs.List.{insert, HoldsAt}
 use Rattle.std.specs.List.Sorted.{IsPartitionedBy, IsPartitionPoint}
 use Rattle.std.specs.Option.{option_cmp}
 use Rattle.std.specs.Ordering.{is_lt, is_gt, is_eq, ordering_then, ordering_reverse}
 use Rattle.std.specs.declared.cmp.Ordering.{Ordering}
 use Rattle.std.specs.declared.cmp.Ordering.TheVariants.{Less, Equal, Greater}
-use Rattle.std.proofs.lemmas.Bool.{both_ways, cases_eq, cases_lt, not-true, not-false}
+use Rattle.std.proofs.lemmas.Bool.{both_ways, cases_eq, cases_lt, false_from_ne_true, not-true, not-false}
 use Rattle.std.proofs.lemmas.Cmp.{upto, on_total, then_total, nat_cmp_total, nat_list_cmp_total}
 use Rattle.std.proofs.lemmas.List.{length-map, get_or_default, get_or-take, get_or-drop}
 use Rattle.std.proofs.lemmas.List.Elements.{All-cons}
@@ -88,6 +88,16 @@ module _ (items : List Item) (rise : Rise items) where
         let less : i < j = omega (arith, le, other) in
         ap not (upto objects_total x.object y.object object (first_not_greater (object_cmp x.object y.object) (option_cmp text_cmp x.value y.value) (rise i j d less within)) (not-true (is_gt (object_cmp y.object object)) t))
   ]
+
+-- a test parts rising items where the item ahead passes and the one there doesn't
+pub parted_there : (items : List Item) (place : ℕ) → Rise items → place ≤ length items → (object : ObjectId) (value : Option (List ℕ))
+    → (0 < place → HoldsAt (λ item. is_before object value item ≡ true) items (place - 1))
+    → (place < length items → HoldsAt (λ item. is_before object value item ≡ false) items place) → IsParted (is_before object value) items place
+parted_there items place rise within object value ahead there = (
+  λ k d from less. before_parts items rise object value k (place - 1) d (omega (arith, less)) (omega (arith, less, within)) (ahead (omega (arith, less)) d),
+  λ k d from less. false_from_ne_true (is_before object value (get_or items k d)) (λ t. both_ways (is_before object value (get_or items place d))
+      (there (omega (arith, from, less)) d) (before_parts items rise object value place k d from less t)),
+)
 
 -- ---- the same in slots
 

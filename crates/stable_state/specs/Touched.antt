@@ -1,4 +1,4 @@
--- Which places among items were touched: a cell with an off mark was put there, and its marks may not be settled.
+-- Which places among items were touched: a cell with an off mark was put there, and its marks are yet to be settled.
 use Rattle.std.specs.Prelude.{◌≡◌, ℕ, ◌+◌, ◌<◌, ◌⊎◌, Bool, true, false, List, length, Option, Some, None, IfSome, HoldsAt}
 use Rattle.std.specs.List.{list_any}
 use Rattle.op_base.specs.declared.name.ObjectId.{ObjectId}

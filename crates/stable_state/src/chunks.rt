@@ -136,7 +136,7 @@ impl Chunks {
         lists[chunk][place - self.start(chunk)]
     }
 
-    /// How many of the slots pass a test, which those that pass stand first for. No chunk is empty.
+    /// How many of the slots pass a test, where those that pass stand before the others. No chunk is empty.
     pub fn partition_point<P: Fn(&usize) -> bool>(&self, test: P) -> usize
         requires callable { P.IsAlwaysCallable test }
         requires some { All (λ part. 0 < length part) self.now.parts }

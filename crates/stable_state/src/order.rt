@@ -1,6 +1,6 @@
 //! A list of slots in chunks, so that putting one in or taking some out moves no more than a chunk.
 
-ghost use Rattle.std.specs.Prelude.{◌≡◌, ℕ, ◌+◌, ◌-◌, ◌^◌, ◌<◌, ◌≤◌, Bool, true, false, [], ◌∷◌, length, IsOk, OnOk, take, slice_set, slice_index_or, All};
+ghost use Rattle.std.specs.Prelude.{◌≡◌, ℕ, ◌+◌, ◌-◌, ◌^◌, ◌<◌, ◌≤◌, Bool, true, false, [], length, IsOk, OnOk, take, slice_set, slice_index_or, All};
 ghost use Rattle.std.specs.List.{concat, insert, remove_range};
 ghost use Rattle.std.specs.List.Sorted.{IsPartitionPoint, IsPartitionedBy};
 ghost use Rattle.std.specs.Fn.{ComputesKey};
@@ -91,7 +91,7 @@ impl Order {
         self.chunks.slot(place)
     }
 
-    /// How many of the slots pass a test, which those that pass stand first for.
+    /// How many of the slots pass a test, where those that pass stand before the others.
     pub fn partition_point<P: Fn(&usize) -> bool>(&self, test: P) -> usize
         requires { P.IsAlwaysCallable test }
         ensures bound { result ≤ length self.now.items }

@@ -28,9 +28,11 @@ pub struct Shelf {
     slots: Slab<Item>,
     // The slots of the items, lowest item first.
     order: Order,
-    // The slots whose cell was given with an off mark, one entry each time, since they were taken from this list. An item that
+    // The slots that were given a cell with an off mark, one entry each time, until they are taken from here. An item that
     // is let go stays in it by its slot.
     touched: Vec<usize>,
+    // The place where an item came, changed or went last, which is looked at first for the next.
+    hint: usize,
 }
 
 impl Model for Shelf {
@@ -54,6 +56,7 @@ impl Shelf {
             slots: Slab::new(alloc),
             order: Order::new(alloc),
             touched: Vec::new(alloc),
+            hint: 0,
         }
     }
 
@@ -97,12 +100,52 @@ impl Shelf {
         ensures absent { IfErr result (IsGapFor object.now (option_copied value.entry) self.now.items) }
         ensures rises { IfErr result (RisesWithOneAt object.now (option_copied value.entry) self.now.items) }
     {
-        let place = place_of(&self.slots, &self.order, object, value);
+        let place = self.place(object, value);
         if place < self.len() && is_of(self.at(place), object, value) {
             Ok(place)
         } else {
             Err(place)
         }
+    }
+
+    /// How many of the items are before an object and a value.
+    fn place(&self, object: &ObjectId, value: Option<&Value>) -> usize
+        ensures within { result ≤ length self.now.items }
+        ensures place { IsParted (is_before object.now (option_copied value.entry)) self.now.items result }
+    {
+        let hint = self.hint;
+        if self.is_place(hint, object, value) {
+            return hint;
+        }
+        place_of(&self.slots, &self.order, object, value)
+    }
+
+    /// Whether an item of an object and a value stands at a place, or would stand there.
+    fn is_place(&self, place: usize, object: &ObjectId, value: Option<&Value>) -> bool
+        ensures within { result ≡ true → place ≤ length self.now.items }
+        ensures place { result ≡ true → IsParted (is_before object.now (option_copied value.entry)) self.now.items place }
+    {
+        if place > self.len() {
+            return false;
+        }
+        self.is_behind(place, object, value) && self.is_up_to(place, object, value)
+    }
+
+    /// Whether the item at a place, if there is one, isn't before an object and a value.
+    fn is_up_to(&self, place: usize, object: &ObjectId, value: Option<&Value>) -> bool
+        ensures { result ≡ true → place < length self.now.items
+            → HoldsAt (λ item. is_before object.now (option_copied value.entry) item ≡ false) self.now.items place }
+    {
+        place >= self.len() || !is_before(self.at(place), object, value)
+    }
+
+    /// Whether the item ahead of a place, if there is one, is before an object and a value.
+    fn is_behind(&self, place: usize, object: &ObjectId, value: Option<&Value>) -> bool
+        requires { place ≤ length self.now.items }
+        ensures { result ≡ true → 0 < place
+            → HoldsAt (λ item. is_before object.now (option_copied value.entry) item ≡ true) self.now.items (place - 1) }
+    {
+        place == 0 || is_before(self.at(place - 1), object, value)
     }
 
     /// The places of an object's items: the first, and the one behind the last.
@@ -132,10 +175,11 @@ impl Shelf {
         }
         self.order.insert(place, slot);
         self.slots.insert_reserved(item);
+        self.hint = place;
     }
 
     /// Lets the items go that stand at places from the first up to, and not with, the second. The others keep their
-    /// order, and are moved once.
+    /// order.
     pub fn remove_span(&mut self, from: usize, to: usize)
         requires ordered { from ≤ to }
         requires within { to ≤ length self.old.items }
@@ -143,6 +187,7 @@ impl Shelf {
         ensures touched { KeepTouched self.old self.new }
         ensures spare { self.old.spare ≤ self.new.spare }
     {
+        self.hint = from;
         if from < to {
             self.take_out(from, to);
         }
@@ -177,6 +222,7 @@ impl Shelf {
             add(&mut self.touched, slot);
         }
         write_cell(&mut self.slots, slot, cell);
+        self.hint = place;
     }
 
     /// How many times an item was touched.
@@ -217,6 +263,13 @@ fn is_of(item: &Item, object: &ObjectId, value: Option<&Value>) -> bool
     item_order(&item.object, item.value.as_ref(), object, value).is_eq()
 }
 
+/// Whether an item is before an object and a value.
+fn is_before(item: &Item, object: &ObjectId, value: Option<&Value>) -> bool
+    ensures { result ≡ is_before object.now (option_copied value.entry) item.now }
+{
+    item_order(&item.object, item.value.as_ref(), object, value).is_lt()
+}
+
 /// How many of the items in slots are before an object and a value. The items rise.
 fn place_of(slots: &Slab<Item>, order: &Order, object: &ObjectId, value: Option<&Value>) -> usize
     requires held { All (ContainsKey slots.now) order.now.items }
@@ -225,7 +278,7 @@ fn place_of(slots: &Slab<Item>, order: &Order, object: &ObjectId, value: Option<
     ensures place { IsParted (is_before object.now (option_copied value.entry)) (items_in slots.now order.now.items) result }
 {
     order.partition_point(|slot| match slots.get(*slot) {
-        Some(item) => item_order(&item.object, item.value.as_ref(), object, value).is_lt(),
+        Some(item) => is_before(item, object, value),
         None => false,
     })
 }

@@ -5,6 +5,7 @@ ghost use Rattle.std.specs.Prelude.{◌≡◌};
 
 use crate::Items;
 use crate::cell::{NO_CELL, value_of};
+use crate::order::Order;
 use causal_model::ItemView;
 use op_base::{Act, Cell, Entry, Kind, ObjectId, Tag, Update, Value};
 use std::alloc::Global;
@@ -364,5 +365,34 @@ fn what_covers_an_item_takes_it_out(rt: HostRuntime) -> Result<(), Fail> {
         assert!(rt; take(alloc, &mut items, (How::Covers, object, cover))?);
         assert_eq!(rt; items.len(), 0, "{object:?}");
     }
+    Ok(())
+}
+
+#[test]
+fn slots_come_and_go_in_chunks(rt: HostRuntime) -> Result<(), Fail> {
+    let mut order = Order::new(rt.alloc());
+    for k in 0..600 {
+        order.reserve(1)?;
+        order.insert(order.len(), 2 * k);
+    }
+    for k in 0..600 {
+        order.reserve(1)?;
+        let place = order.len().min(2 * k + 1);
+        order.insert(place, 2 * k + 1);
+    }
+    assert_eq!(rt; order.len(), 1200);
+    for place in 0..order.len() {
+        assert_eq!(rt; order.at(place), place);
+    }
+    assert_eq!(rt; order.partition_point(|slot| *slot < 777), 777);
+    let end = order.len();
+    order.remove_range(end.min(10), end.min(1190));
+    assert_eq!(rt; order.len(), 20);
+    for place in 0..order.len() {
+        let slot = if place < 10 { place } else { place + 1180 };
+        assert_eq!(rt; order.at(place), slot);
+    }
+    order.remove_range(0, order.len());
+    assert_eq!(rt; order.partition_point(|slot| *slot < 777), 0);
     Ok(())
 }
