@@ -54,9 +54,12 @@ fn listed<V: ItemView>(
     ensures exact { IfOk result (λ values. (v : List ℕ) → list_any (λ value. same_text value v) values
         ≡ is_in object.now.kind (is_put object.now (V.items items.now) finds.now v) (is_taken object.now (V.items items.now) finds.now v)) }
 {
+    let all = are_all_of(items, object);
+    if all && finds.is_empty() {
+        return settled(alloc, items, object);
+    }
     let mut values = ValueList::with_capacity(alloc, items.len().saturating_add(finds.len()))?;
     let mut done = 0;
-    let all = are_all_of(items, object);
     for place in 0..items.len() {
         let (owner, value, cell) = items.item_at(place);
         if let Some(value) = value {
@@ -71,6 +74,28 @@ fn listed<V: ItemView>(
         }
     }
     put_finds(alloc, object.kind, &mut values, &finds[done..])?;
+    Ok(values)
+}
+
+/// The values that are in an object whose items these are, where its log says nothing of values. `NoMemory` leaves nothing
+/// behind.
+fn settled<V: ItemView>(alloc: Global, items: &V, object: &ObjectId) -> Result<ValueList, NoMemory>
+    requires { All (λ item. item.object ≡ object.now) (V.items items.now) }
+    ensures rise { IfOk result (λ values. TextsRise values) }
+    ensures exact { IfOk result (λ values. (v : List ℕ) → list_any (λ value. same_text value v) values
+        ≡ is_in object.now.kind (is_put object.now (V.items items.now) [] v) (is_taken object.now (V.items items.now) [] v)) }
+{
+    let mut values = ValueList::with_capacity(alloc, items.len())?;
+    for place in 0..items.len() {
+        let (_, value, cell) = items.item_at(place);
+        if let Some(value) = value {
+            let marks = Marks {
+                put: cell.on,
+                taken: cell.off,
+            };
+            put_in(alloc, object.kind, &mut values, Found { value, marks })?;
+        }
+    }
     Ok(values)
 }
 
