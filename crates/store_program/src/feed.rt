@@ -36,6 +36,8 @@ pub enum Stage {
 }
 
 /// The run that a header opens.
+#[cold]
+#[inline(never)]
 fn open(alloc: Global, line: &[u8]) -> Result<Runner, Stop>
     ensures opens { IfOk result (λ runner. (plain : PlainWorld) × (opened (header_of line.now) ≡ Some plain) × RunsIn runner plain) }
     ensures refuses { IfErr result (λ stop. stop ≡ Stop.BadHeader → opened (header_of line.now) ≡ None) }
