@@ -21,9 +21,9 @@ mod number;
 mod reply;
 mod word;
 
-pub use act::Operation;
+pub use act::{Operation, read_update};
 pub use command::{Command, Line, read_line};
-pub use fault::MOST_LINE_BYTES;
+pub use fault::{Fault, MOST_LINE_BYTES};
 pub use header::{Header, USUAL_LIMIT, read_header};
 pub use laws::replies_can_be_read_back;
 pub use listed::put_number;

@@ -1,0 +1,165 @@
+//! The calls of a peer, with what C hands over and gets.
+
+ghost use Rattle.std.specs.Prelude.{◌≡◌, ◌≢◌};
+ghost use Rattle.replica_core.specs.Rules.{SameSettings, Unchanged};
+
+use crate::outcome::Outcome;
+use crate::text::{hand_out, read_object, read_text};
+use op_base::{Answer, ListOf, Step, StepList, Tag, Text};
+use peer::{Beat, CreateFault, Heard, Peer, Updated};
+use script_lang::{Reply, put_reply};
+use std::alloc::Global;
+
+/// A peer in a box.
+pub fn create(alloc: Global, me: u8, n: u8, w: u8, limit: u32) -> Result<Box<Peer>, Outcome> {
+    match Peer::create(alloc, me, n, w, limit) {
+        Ok(peer) => Box::new(alloc, peer).map_err(|_| Outcome::NoMemory),
+        Err(CreateFault::BadNumbers) => Err(Outcome::BadNumbers),
+        Err(CreateFault::NoMemory) => Err(Outcome::NoMemory),
+    }
+}
+
+/// Sends the update of a text. Its frame goes to the buffer, where there is room for it.
+pub fn update(
+    alloc: Global,
+    peer: &mut Peer,
+    text: &[u8],
+    frame: &mut [u8],
+    count: &mut usize,
+) -> Outcome
+    ensures settings { SameSettings peer.old peer.new }
+    ensures refused { result ≢ Outcome.Done → Unchanged peer.old peer.new }
+{
+    let update = match read_text(alloc, text) {
+        Ok(update) => update,
+        Err(outcome) => return outcome,
+    };
+    match peer.update(alloc, &update) {
+        Updated::Frame(bytes) => {
+            hand_out(bytes.as_slice(), frame, count);
+            Outcome::Done
+        }
+        Updated::Busy => Outcome::Busy,
+        Updated::End => Outcome::End,
+        Updated::NoMemory => Outcome::NoMemory,
+    }
+}
+
+/// Sends a no-op where one is due. Its frame goes to the buffer, where there is room for it.
+pub fn beat(alloc: Global, peer: &mut Peer, frame: &mut [u8], count: &mut usize) -> Outcome
+    ensures settings { SameSettings peer.old peer.new }
+    ensures refused { result ≢ Outcome.Done → Unchanged peer.old peer.new }
+{
+    match peer.beat(alloc) {
+        Beat::Frame(bytes) => {
+            hand_out(bytes.as_slice(), frame, count);
+            Outcome::Done
+        }
+        Beat::Quiet => Outcome::Quiet,
+        Beat::Held => Outcome::Held,
+        Beat::End => Outcome::End,
+        Beat::NoMemory => Outcome::NoMemory,
+    }
+}
+
+/// How many steps are deliveries.
+fn deliveries(steps: &StepList) -> usize {
+    let is_delivery = |step: &&Step| match step {
+        Step::Took(_) => true,
+        Step::Crook(_, _) => false,
+    };
+    steps.as_slice().iter().filter(is_delivery).count()
+}
+
+/// Takes in bytes, and tells how many messages were delivered, and how many steps there were.
+pub fn hear(
+    alloc: Global,
+    peer: &mut Peer,
+    bytes: &[u8],
+    delivered: &mut usize,
+    steps: &mut usize,
+) -> Outcome
+    ensures settings { SameSettings peer.old peer.new }
+    ensures refused { result ≢ Outcome.Done → result ≢ Outcome.Kept → Unchanged peer.old peer.new }
+{
+    match peer.hear(alloc, bytes) {
+        Heard::Bad(fault) => Outcome::BadFrame(fault.number()),
+        Heard::Old => Outcome::Old,
+        Heard::Again => Outcome::Again,
+        Heard::Far => Outcome::Far,
+        Heard::Kept => Outcome::Kept,
+        Heard::Took(taken) => {
+            *delivered = deliveries(&taken);
+            *steps = taken.len();
+            Outcome::Done
+        }
+        Heard::NoMemory => Outcome::NoMemory,
+    }
+}
+
+/// Hands out bytes, and says whether there was room for them.
+fn told(bytes: &[u8], buffer: &mut [u8], count: &mut usize) -> Outcome {
+    if hand_out(bytes, buffer, count) {
+        Outcome::Done
+    } else {
+        Outcome::NoRoom
+    }
+}
+
+/// Hands out the frame at a place, from 0, of those to send again, oldest first.
+pub fn frame_at(
+    alloc: Global,
+    peer: &Peer,
+    place: usize,
+    frame: &mut [u8],
+    count: &mut usize,
+) -> Outcome {
+    let Ok(frames) = peer.to_send_again(alloc) else {
+        return Outcome::NoMemory;
+    };
+    match frames.as_slice().get(place) {
+        Some(bytes) => told(bytes.as_slice(), frame, count),
+        None => Outcome::NoFrame,
+    }
+}
+
+/// The line of an answer, as a script's `ask` replies it.
+fn line_of(alloc: Global, answer: Answer) -> Result<Text, Outcome> {
+    let mut line = ListOf::new(alloc);
+    match put_reply(&Reply::Is(answer), &mut line) {
+        Ok(()) => Ok(line),
+        Err(_) => Err(Outcome::NoMemory),
+    }
+}
+
+/// What the object of a text is, as the line of an answer.
+fn answer_line(alloc: Global, peer: &Peer, object: &[u8]) -> Result<Text, Outcome> {
+    let object = read_object(alloc, object)?;
+    match peer.ask(alloc, &object) {
+        Ok(answer) => line_of(alloc, answer),
+        Err(_) => Err(Outcome::NoMemory),
+    }
+}
+
+/// Hands out what the object of a text is.
+pub fn ask(
+    alloc: Global,
+    peer: &Peer,
+    object: &[u8],
+    buffer: &mut [u8],
+    count: &mut usize,
+) -> Outcome {
+    match answer_line(alloc, peer, object) {
+        Ok(line) => told(line.as_slice(), buffer, count),
+        Err(outcome) => outcome,
+    }
+}
+
+/// Tells the number of a member, where there is such a member.
+pub fn number_at(numbers: &Tag, member: u8, number: &mut u32) -> Outcome {
+    if member >= numbers.members() {
+        return Outcome::BadNumbers;
+    }
+    *number = numbers.at(member);
+    Outcome::Done
+}

@@ -1,0 +1,58 @@
+//! Texts that C hands over, and bytes that it gets.
+
+ghost use Rattle.std.specs.Prelude.{◌≡◌, ◌++◌, ◌≤◌, ◌↔◌, IsTrue, false, length, drop};
+
+use crate::outcome::Outcome;
+use op_base::{NameFault, ObjectId, Update};
+use script_lang::{Fault, read_update, split};
+use std::alloc::Global;
+
+/// The number of the fault of a text with the wrong number of words.
+const WORDS: u8 = 3;
+
+/// The number of the fault of a text that is no object.
+const OBJECT: u8 = 5;
+
+/// What a text is told as that has a fault.
+fn faulty(fault: Fault) -> Outcome {
+    match fault.number() {
+        Some(number) => Outcome::BadText(number),
+        None => Outcome::NoMemory,
+    }
+}
+
+/// The update of a text: an object, an operation and perhaps an argument, as behind `do r` in a script.
+pub fn read_text(alloc: Global, text: &[u8]) -> Result<Update, Outcome> {
+    let words = split(text);
+    match words.as_slice() {
+        [object, operation] => read_update(alloc, object, operation, None).map_err(faulty),
+        [object, operation, argument] => {
+            read_update(alloc, object, operation, Some(argument)).map_err(faulty)
+        }
+        _ => Err(Outcome::BadText(WORDS)),
+    }
+}
+
+/// The object of a text.
+pub fn read_object(alloc: Global, text: &[u8]) -> Result<ObjectId, Outcome> {
+    match ObjectId::read(alloc, text) {
+        Ok(object) => Ok(object),
+        Err(NameFault::NoMemory) => Err(Outcome::NoMemory),
+        Err(_) => Err(Outcome::BadText(OBJECT)),
+    }
+}
+
+/// Copies bytes to the head of a buffer, where there is room for all of them, and tells how many they are.
+pub fn hand_out(bytes: &[u8], buffer: &mut [u8], count: &mut usize) -> bool
+    ensures count { count.new ≡ length bytes.now }
+    ensures fits { IsTrue result ↔ (length bytes.now ≤ length buffer.old) }
+    ensures copied { IsTrue result → buffer.new ≡ bytes.now ++ drop (length bytes.now) buffer.old }
+    ensures kept { result ≡ false → buffer.new ≡ buffer.old }
+{
+    *count = bytes.len();
+    if bytes.len() > buffer.len() {
+        return false;
+    }
+    buffer[..bytes.len()].copy_from_slice(bytes);
+    true
+}
