@@ -1,7 +1,16 @@
 //! The calls of a peer, with what C hands over and gets.
 
-ghost use Rattle.std.specs.Prelude.{◌≡◌, ◌≢◌};
-ghost use Rattle.replica_core.specs.Rules.{SameSettings, Unchanged};
+ghost use Rattle.std.specs.Prelude.{◌≡◌, ◌≢◌, ◌<◌, ◌↔◌, IfOk, IfErr, Some, length, take, slice_index_or, []};
+ghost use Rattle.op_base.specs.Reading.{object_of};
+ghost use Rattle.op_base.specs.Timestamp.{entry};
+ghost use Rattle.op_base.specs.declared.name.ObjectId.{ObjectId};
+ghost use Rattle.causal_model.specs.History.{events};
+ghost use Rattle.causal_model.specs.Query.{answer};
+ghost use Rattle.causal_model.specs.State.{State};
+ghost use Rattle.replica_core.specs.Rules.{StandsFor, SameSettings, Unchanged};
+ghost use Rattle.script_lang.specs.Replies.{reply_line};
+ghost use Rattle.script_lang.specs.declared.reply.Reply.TheVariants.{Is};
+ghost use Rattle.peer.specs.Rules.{frames_again};
 
 use crate::outcome::Outcome;
 use crate::text::{hand_out, read_object, read_text};
@@ -98,7 +107,11 @@ pub fn hear(
 }
 
 /// Hands out bytes, and says whether there was room for them.
-fn told(bytes: &[u8], buffer: &mut [u8], count: &mut usize) -> Outcome {
+fn told(bytes: &[u8], buffer: &mut [u8], count: &mut usize) -> Outcome
+    ensures count { count.new ≡ length bytes.now }
+    ensures copied { result ≡ Outcome.Done → take count.new buffer.new ≡ bytes.now }
+    ensures kept { result ≢ Outcome.Done → buffer.new ≡ buffer.old }
+{
     if hand_out(bytes, buffer, count) {
         Outcome::Done
     } else {
@@ -113,7 +126,10 @@ pub fn frame_at(
     place: usize,
     frame: &mut [u8],
     count: &mut usize,
-) -> Outcome {
+) -> Outcome
+    ensures frame { result ≡ Outcome.Done → (s : State) → StandsFor peer.now s → take count.new frame.new ≡ slice_index_or (frames_again peer.now s) place [] }
+    ensures kept { result ≢ Outcome.Done → frame.new ≡ frame.old }
+{
     let Ok(frames) = peer.to_send_again(alloc) else {
         return Outcome::NoMemory;
     };
@@ -124,7 +140,10 @@ pub fn frame_at(
 }
 
 /// The line of an answer, as a script's `ask` replies it.
-fn line_of(alloc: Global, answer: Answer) -> Result<Text, Outcome> {
+fn line_of(alloc: Global, answer: Answer) -> Result<Text, Outcome>
+    ensures line { IfOk result (λ line. line ≡ reply_line (Is answer)) }
+    ensures fault { IfErr result (λ outcome. outcome ≢ Outcome.Done) }
+{
     let mut line = ListOf::new(alloc);
     match put_reply(&Reply::Is(answer), &mut line) {
         Ok(()) => Ok(line),
@@ -133,7 +152,10 @@ fn line_of(alloc: Global, answer: Answer) -> Result<Text, Outcome> {
 }
 
 /// What the object of a text is, as the line of an answer.
-fn answer_line(alloc: Global, peer: &Peer, object: &[u8]) -> Result<Text, Outcome> {
+fn answer_line(alloc: Global, peer: &Peer, object: &[u8]) -> Result<Text, Outcome>
+    ensures line { IfOk result (λ line. (o : ObjectId) → object_of object.now ≡ Some o → (s : State) → StandsFor peer.now s → line ≡ reply_line (Is (answer o (events s.history)))) }
+    ensures fault { IfErr result (λ outcome. outcome ≢ Outcome.Done) }
+{
     let object = read_object(alloc, object)?;
     match peer.ask(alloc, &object) {
         Ok(answer) => line_of(alloc, answer),
@@ -148,7 +170,10 @@ pub fn ask(
     object: &[u8],
     buffer: &mut [u8],
     count: &mut usize,
-) -> Outcome {
+) -> Outcome
+    ensures line { result ≡ Outcome.Done → (o : ObjectId) → object_of object.now ≡ Some o → (s : State) → StandsFor peer.now s → take count.new buffer.new ≡ reply_line (Is (answer o (events s.history))) }
+    ensures kept { result ≢ Outcome.Done → buffer.new ≡ buffer.old }
+{
     match answer_line(alloc, peer, object) {
         Ok(line) => told(line.as_slice(), buffer, count),
         Err(outcome) => outcome,
@@ -156,7 +181,11 @@ pub fn ask(
 }
 
 /// Tells the number of a member, where there is such a member.
-pub fn number_at(numbers: &Tag, member: u8, number: &mut u32) -> Outcome {
+pub fn number_at(numbers: &Tag, member: u8, number: &mut u32) -> Outcome
+    ensures done { result ≡ Outcome.Done ↔ (member < length numbers.now) }
+    ensures number { result ≡ Outcome.Done → number.new ≡ entry numbers.now member }
+    ensures kept { result ≢ Outcome.Done → number.new ≡ number.old }
+{
     if member >= numbers.members() {
         return Outcome::BadNumbers;
     }

@@ -1,6 +1,7 @@
 //! Texts that C hands over, and bytes that it gets.
 
-ghost use Rattle.std.specs.Prelude.{◌≡◌, ◌++◌, ◌≤◌, ◌↔◌, IsTrue, false, length, drop};
+ghost use Rattle.std.specs.Prelude.{◌≡◌, ◌≢◌, ◌++◌, ◌≤◌, ◌↔◌, IsTrue, IfOk, IfErr, Some, false, length, drop};
+ghost use Rattle.op_base.specs.Reading.{object_of};
 
 use crate::outcome::Outcome;
 use op_base::{NameFault, ObjectId, Update};
@@ -34,7 +35,10 @@ pub fn read_text(alloc: Global, text: &[u8]) -> Result<Update, Outcome> {
 }
 
 /// The object of a text.
-pub fn read_object(alloc: Global, text: &[u8]) -> Result<ObjectId, Outcome> {
+pub fn read_object(alloc: Global, text: &[u8]) -> Result<ObjectId, Outcome>
+    ensures object { IfOk result (λ object. object_of text.now ≡ Some object) }
+    ensures fault { IfErr result (λ outcome. outcome ≢ Outcome.Done) }
+{
     match ObjectId::read(alloc, text) {
         Ok(object) => Ok(object),
         Err(NameFault::NoMemory) => Err(Outcome::NoMemory),
