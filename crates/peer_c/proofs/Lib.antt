@@ -1,2 +1,3 @@
 pub mod HandleValues
+pub mod Tells
 pub mod Values

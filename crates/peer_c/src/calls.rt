@@ -1,19 +1,22 @@
 //! The calls of a peer, with what C hands over and gets.
 
-ghost use Rattle.std.specs.Prelude.{◌≡◌, ◌≢◌, ◌<◌, ◌↔◌, IfOk, IfErr, Some, length, take, slice_index_or, []};
+ghost use Rattle.std.specs.Prelude.{◌≡◌, ◌≢◌, ◌<◌, ◌↔◌, IfOk, IfErr, Ok, Some, true, length, take, slice_index_or, []};
 ghost use Rattle.op_base.specs.Reading.{object_of};
 ghost use Rattle.op_base.specs.Timestamp.{entry};
 ghost use Rattle.op_base.specs.declared.name.ObjectId.{ObjectId};
+ghost use Rattle.op_base.specs.declared.operation.Update.{Update};
+ghost use Rattle.causal_model.specs.Follows.{Follows};
 ghost use Rattle.causal_model.specs.History.{events};
 ghost use Rattle.causal_model.specs.Query.{answer};
 ghost use Rattle.causal_model.specs.State.{State};
 ghost use Rattle.replica_core.specs.Rules.{StandsFor, SameSettings, Unchanged};
 ghost use Rattle.script_lang.specs.Replies.{reply_line};
 ghost use Rattle.script_lang.specs.declared.reply.Reply.TheVariants.{Is};
-ghost use Rattle.peer.specs.Rules.{frames_again};
+ghost use Rattle.peer.specs.Rules.{update_rule, peer_beat_rule, hear_rule, frames_again};
+ghost use Rattle.peer_c.specs.Tells.{text_update, told_update, told_beat, told_heard, is_done, is_frame, tells, update_frame, beat_frame, heard_steps, IsHandedOut};
 
 use crate::outcome::Outcome;
-use crate::text::{hand_out, read_object, read_text};
+use crate::text::{faulty, hand_out, read_object, read_text};
 use op_base::{Answer, ListOf, Step, StepList, Tag, Text};
 use peer::{Beat, CreateFault, Heard, Peer, Updated};
 use script_lang::{Reply, put_reply};
@@ -28,22 +31,12 @@ pub fn create(alloc: Global, me: u8, n: u8, w: u8, limit: u32) -> Result<Box<Pee
     }
 }
 
-/// Sends the update of a text. Its frame goes to the buffer, where there is room for it.
-pub fn update(
-    alloc: Global,
-    peer: &mut Peer,
-    text: &[u8],
-    frame: &mut [u8],
-    count: &mut usize,
-) -> Outcome
-    ensures settings { SameSettings peer.old peer.new }
-    ensures refused { result ≢ Outcome.Done → Unchanged peer.old peer.new }
+/// Tells what came of an update, and hands out its frame.
+fn tell_update(answer: Updated, frame: &mut [u8], count: &mut usize) -> Outcome
+    ensures told { result ≡ told_update answer }
+    ensures frame { result ≡ Outcome.Done → IsHandedOut (update_frame answer) frame.old frame.new count.new }
 {
-    let update = match read_text(alloc, text) {
-        Ok(update) => update,
-        Err(outcome) => return outcome,
-    };
-    match peer.update(alloc, &update) {
+    match answer {
         Updated::Frame(bytes) => {
             hand_out(bytes.as_slice(), frame, count);
             Outcome::Done
@@ -54,12 +47,31 @@ pub fn update(
     }
 }
 
-/// Sends a no-op where one is due. Its frame goes to the buffer, where there is room for it.
-pub fn beat(alloc: Global, peer: &mut Peer, frame: &mut [u8], count: &mut usize) -> Outcome
+/// Sends the update of a text. Its frame goes to the buffer, where there is room for it.
+pub fn update(
+    alloc: Global,
+    peer: &mut Peer,
+    text: &[u8],
+    frame: &mut [u8],
+    count: &mut usize,
+) -> Outcome
+    ensures answer { (u : Update) → text_update text.now ≡ Ok u → Follows StandsFor Outcome.NoMemory (λ _. true) (tells told_update (update_rule peer.old.n peer.old.w peer.old.limit u)) peer.old result peer.new }
+    ensures frame { result ≡ Outcome.Done → (u : Update) → text_update text.now ≡ Ok u → (s : State) → StandsFor peer.old s → IsHandedOut (update_frame (update_rule peer.old.n peer.old.w peer.old.limit u s).0) frame.old frame.new count.new }
     ensures settings { SameSettings peer.old peer.new }
     ensures refused { result ≢ Outcome.Done → Unchanged peer.old peer.new }
 {
-    match peer.beat(alloc) {
+    match read_text(alloc, text) {
+        Ok(update) => tell_update(peer.update(alloc, &update), frame, count),
+        Err(fault) => faulty(fault),
+    }
+}
+
+/// Tells what came of a beat, and hands out its frame.
+fn tell_beat(answer: Beat, frame: &mut [u8], count: &mut usize) -> Outcome
+    ensures told { result ≡ told_beat answer }
+    ensures frame { result ≡ Outcome.Done → IsHandedOut (beat_frame answer) frame.old frame.new count.new }
+{
+    match answer {
         Beat::Frame(bytes) => {
             hand_out(bytes.as_slice(), frame, count);
             Outcome::Done
@@ -71,6 +83,16 @@ pub fn beat(alloc: Global, peer: &mut Peer, frame: &mut [u8], count: &mut usize)
     }
 }
 
+/// Sends a no-op where one is due. Its frame goes to the buffer, where there is room for it.
+pub fn beat(alloc: Global, peer: &mut Peer, frame: &mut [u8], count: &mut usize) -> Outcome
+    ensures answer { Follows StandsFor Outcome.NoMemory is_done (tells told_beat (peer_beat_rule peer.old.n peer.old.w peer.old.limit)) peer.old result peer.new }
+    ensures frame { result ≡ Outcome.Done → (s : State) → StandsFor peer.old s → IsHandedOut (beat_frame (peer_beat_rule peer.old.n peer.old.w peer.old.limit s).0) frame.old frame.new count.new }
+    ensures settings { SameSettings peer.old peer.new }
+    ensures refused { result ≢ Outcome.Done → Unchanged peer.old peer.new }
+{
+    tell_beat(peer.beat(alloc), frame, count)
+}
+
 /// How many steps are deliveries.
 fn deliveries(steps: &StepList) -> usize {
     let is_delivery = |step: &&Step| match step {
@@ -80,18 +102,12 @@ fn deliveries(steps: &StepList) -> usize {
     steps.as_slice().iter().filter(is_delivery).count()
 }
 
-/// Takes in bytes, and tells how many messages were delivered, and how many steps there were.
-pub fn hear(
-    alloc: Global,
-    peer: &mut Peer,
-    bytes: &[u8],
-    delivered: &mut usize,
-    steps: &mut usize,
-) -> Outcome
-    ensures settings { SameSettings peer.old peer.new }
-    ensures refused { result ≢ Outcome.Done → result ≢ Outcome.Kept → Unchanged peer.old peer.new }
+/// Tells what came of bytes that were heard: how many messages were delivered, and how many steps there were.
+fn tell_heard(answer: Heard, delivered: &mut usize, steps: &mut usize) -> Outcome
+    ensures told { result ≡ told_heard answer }
+    ensures steps { result ≡ Outcome.Done → steps.new ≡ length (heard_steps answer) }
 {
-    match peer.hear(alloc, bytes) {
+    match answer {
         Heard::Bad(fault) => Outcome::BadFrame(fault.number()),
         Heard::Old => Outcome::Old,
         Heard::Again => Outcome::Again,
@@ -104,6 +120,22 @@ pub fn hear(
         }
         Heard::NoMemory => Outcome::NoMemory,
     }
+}
+
+/// Takes in bytes, and tells how many messages were delivered, and how many steps there were.
+pub fn hear(
+    alloc: Global,
+    peer: &mut Peer,
+    bytes: &[u8],
+    delivered: &mut usize,
+    steps: &mut usize,
+) -> Outcome
+    ensures answer { Follows StandsFor Outcome.NoMemory is_frame (tells told_heard (hear_rule peer.old.n peer.old.w peer.old.limit bytes.now)) peer.old result peer.new }
+    ensures steps { result ≡ Outcome.Done → (s : State) → StandsFor peer.old s → steps.new ≡ length (heard_steps (hear_rule peer.old.n peer.old.w peer.old.limit bytes.now s).0) }
+    ensures settings { SameSettings peer.old peer.new }
+    ensures refused { result ≢ Outcome.Done → result ≢ Outcome.Kept → Unchanged peer.old peer.new }
+{
+    tell_heard(peer.hear(alloc, bytes), delivered, steps)
 }
 
 /// Hands out bytes, and says whether there was room for them.

@@ -1,37 +1,45 @@
 //! Texts that C hands over, and bytes that it gets.
 
-ghost use Rattle.std.specs.Prelude.{◌≡◌, ◌≢◌, ◌++◌, ◌≤◌, ◌↔◌, IsTrue, IfOk, IfErr, Some, false, length, drop};
+ghost use Rattle.std.specs.Prelude.{◌≡◌, ◌≢◌, ◌++◌, ◌≤◌, ◌↔◌, IsTrue, IfOk, IfErr, Some, false, length, drop, map};
 ghost use Rattle.op_base.specs.Reading.{object_of};
+ghost use Rattle.script_lang.specs.Memory.{Reads};
+ghost use Rattle.peer_c.specs.Tells.{words_update, text_update};
 
 use crate::outcome::Outcome;
 use op_base::{NameFault, ObjectId, Update};
 use script_lang::{Fault, read_update, split};
 use std::alloc::Global;
 
-/// The number of the fault of a text with the wrong number of words.
-const WORDS: u8 = 3;
-
 /// The number of the fault of a text that is no object.
 const OBJECT: u8 = 5;
 
 /// What a text is told as that has a fault.
-fn faulty(fault: Fault) -> Outcome {
+pub fn faulty(fault: Fault) -> Outcome
+    ensures memory { fault ≡ Fault.NoMemory → result ≡ Outcome.NoMemory }
+    ensures undone { result ≢ Outcome.Done }
+{
     match fault.number() {
         Some(number) => Outcome::BadText(number),
         None => Outcome::NoMemory,
     }
 }
 
-/// The update of a text: an object, an operation and perhaps an argument, as behind `do r` in a script.
-pub fn read_text(alloc: Global, text: &[u8]) -> Result<Update, Outcome> {
-    let words = split(text);
-    match words.as_slice() {
-        [object, operation] => read_update(alloc, object, operation, None).map_err(faulty),
-        [object, operation, argument] => {
-            read_update(alloc, object, operation, Some(argument)).map_err(faulty)
-        }
-        _ => Err(Outcome::BadText(WORDS)),
+/// The update of words: an object, an operation and perhaps an argument.
+fn read_words(alloc: Global, words: &[&[u8]]) -> Result<Update, Fault>
+    ensures { Reads (words_update (map (λ word. word.now) words.now)) result }
+{
+    match words {
+        [object, operation] => read_update(alloc, object, operation, None),
+        [object, operation, argument] => read_update(alloc, object, operation, Some(argument)),
+        _ => Err(Fault::Words),
     }
+}
+
+/// The update of a text, as it stands behind `do r` in a script.
+pub fn read_text(alloc: Global, text: &[u8]) -> Result<Update, Fault>
+    ensures { Reads (text_update text.now) result }
+{
+    read_words(alloc, split(text).as_slice())
 }
 
 /// The object of a text.

@@ -1,0 +1,87 @@
+-- What the C library tells of a peer's answers, and what it hands out of them.
+use Rattle.std.specs.Prelude.{◌≡◌, ◌++◌, ◌≤◌, ◌∷◌, [], ℕ, Bool, true, false, List, Option, Some, None, Result, Err, length, drop}
+use Rattle.op_base.specs.declared.operation.Update.{Update}
+use Rattle.op_base.specs.declared.outcome.Step.{Step}
+use Rattle.frame_codec.specs.Fault.{fault_number}
+use Rattle.script_lang.specs.Acts.{update_in}
+use Rattle.script_lang.specs.Words.{words_of}
+use Rattle.script_lang.specs.declared.fault.Fault.{Fault}
+use Rattle.script_lang.specs.declared.fault.Fault.TheVariants as fault
+use Rattle.peer.specs.declared.answers.Updated.{Updated}
+use Rattle.peer.specs.declared.answers.Updated.TheVariants as updated
+use Rattle.peer.specs.declared.answers.Beat.{Beat}
+use Rattle.peer.specs.declared.answers.Beat.TheVariants as beat
+use Rattle.peer.specs.declared.answers.Heard.{Heard}
+use Rattle.peer.specs.declared.answers.Heard.TheVariants as heard
+use Rattle.peer_c.specs.declared.outcome.Outcome.{Outcome}
+use Rattle.peer_c.specs.declared.outcome.Outcome.TheVariants as outcome
+
+-- the update that words are: an object, an operation and perhaps an argument
+abbrev pub words_update : List (List ℕ) → Result Update Fault
+words_update [] = Err fault.Words
+words_update (object ∷ []) = Err fault.Words
+words_update (object ∷ operation ∷ []) = update_in object operation None
+words_update (object ∷ operation ∷ argument ∷ []) = update_in object operation (Some argument)
+words_update (object ∷ operation ∷ argument ∷ more ∷ words) = Err fault.Words
+
+-- the update that a text is
+abbrev pub text_update : List ℕ → Result Update Fault
+text_update text = words_update (words_of text)
+
+-- what an update is told as
+abbrev pub told_update : Updated → Outcome
+told_update (updated.Frame frame) = outcome.Done
+told_update updated.Busy = outcome.Busy
+told_update updated.End = outcome.End
+told_update updated.NoMemory = outcome.NoMemory
+
+-- what a beat is told as
+abbrev pub told_beat : Beat → Outcome
+told_beat (beat.Frame frame) = outcome.Done
+told_beat beat.Quiet = outcome.Quiet
+told_beat beat.Held = outcome.Held
+told_beat beat.End = outcome.End
+told_beat beat.NoMemory = outcome.NoMemory
+
+-- what bytes that are heard are told as
+abbrev pub told_heard : Heard → Outcome
+told_heard (heard.Bad fault) = outcome.BadFrame (fault_number fault)
+told_heard heard.Old = outcome.Old
+told_heard heard.Again = outcome.Again
+told_heard heard.Far = outcome.Far
+told_heard heard.Kept = outcome.Kept
+told_heard (heard.Took steps) = outcome.Done
+told_heard heard.NoMemory = outcome.NoMemory
+
+-- whether something was done
+abbrev pub is_done : Outcome → Bool
+is_done outcome.Done = true
+is_done answer = false
+
+-- whether bytes were a frame
+abbrev pub is_frame : Outcome → Bool
+is_frame (outcome.BadFrame fault) = false
+is_frame answer = true
+
+-- a rule whose answers are told
+abbrev pub tells : {A S : Type 0} → (A → Outcome) → (S → A × S) → S → Outcome × S
+tells tell rule s = (tell (rule s).0, (rule s).1)
+
+-- the frame of an update
+abbrev pub update_frame : Updated → List ℕ
+update_frame (updated.Frame frame) = frame
+update_frame answer = []
+
+-- the frame of a beat
+abbrev pub beat_frame : Beat → List ℕ
+beat_frame (beat.Frame frame) = frame
+beat_frame answer = []
+
+-- what became of early messages
+abbrev pub heard_steps : Heard → List Step
+heard_steps (heard.Took steps) = steps
+heard_steps answer = []
+
+-- bytes stand at the head of a buffer where there is room for all of them, and their number is told
+abbrev pub IsHandedOut : List ℕ → List ℕ → List ℕ → ℕ → Type 0
+IsHandedOut bytes old new count = (count ≡ length bytes) × (length bytes ≤ length old → new ≡ bytes ++ drop (length bytes) old)
