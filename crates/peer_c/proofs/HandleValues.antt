@@ -8,7 +8,6 @@ use base.Logic.{ent, emp}
 use base.Fml.{Fml, ftrue}
 use types.Logic.{Logic, sem}
 use types.Kit.{Item, Goal, Seq, ‵}
-use denote.RattleType.{RattleType}
 use denote.Builtin.{bool}
 use denote.RawPtr.{Ptr, RawPtr, block_ptr, null_ptr, ptr_val}
 use denote.Shadow.{shadow, makes_shadow}

@@ -1,7 +1,6 @@
 -- What a handle owns.
 use Rattle.std.specs.Prelude.{Bool, true, false}
 use base.Fml.{Fml, ftrue, fex}
-use denote.RattleType.{RattleType}
 use denote.RawPtr.{Ptr}
 use Rattle.std.specs.declared.alloc.Global.{Global}
 use Rattle.std.specs.contracts.impls.GlobalAllocator.TheImpl.{ghosts}

@@ -1,7 +1,9 @@
 -- What the C library tells of a peer's answers, and what it hands out of them.
-use Rattle.std.specs.Prelude.{◌≡◌, ◌++◌, ◌≤◌, ◌∷◌, [], ℕ, Bool, true, false, List, Option, Some, None, Result, Err, length, drop}
+use Rattle.std.specs.Prelude.{◌≡◌, ◌++◌, ◌≤◌, ◌∷◌, [], ℕ, Bool, true, false, List, Some, None, Result, Err, length, drop}
+use Rattle.std.specs.List.{filter}
 use Rattle.op_base.specs.declared.operation.Update.{Update}
 use Rattle.op_base.specs.declared.outcome.Step.{Step}
+use Rattle.op_base.specs.declared.outcome.Step.TheVariants as step
 use Rattle.frame_codec.specs.Fault.{fault_number}
 use Rattle.script_lang.specs.Acts.{update_in}
 use Rattle.script_lang.specs.Words.{words_of}
@@ -81,6 +83,15 @@ beat_frame answer = []
 abbrev pub heard_steps : Heard → List Step
 heard_steps (heard.Took steps) = steps
 heard_steps answer = []
+
+-- whether an early message was delivered
+abbrev pub is_delivery : Step → Bool
+is_delivery (step.Took id) = true
+is_delivery (step.Crook id why) = false
+
+-- how many early messages were delivered
+abbrev pub delivered_in : List Step → ℕ
+delivered_in steps = length (filter is_delivery steps)
 
 -- bytes stand at the head of a buffer where there is room for all of them, and their number is told
 abbrev pub IsHandedOut : List ℕ → List ℕ → List ℕ → ℕ → Type 0

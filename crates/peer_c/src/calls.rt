@@ -1,6 +1,6 @@
 //! The calls of a peer, with what C hands over and gets.
 
-ghost use Rattle.std.specs.Prelude.{◌≡◌, ◌≢◌, ◌<◌, ◌↔◌, IfOk, IfErr, Ok, Some, true, length, take, slice_index_or, []};
+ghost use Rattle.std.specs.Prelude.{◌≡◌, ◌≢◌, ◌<◌, ◌↔◌, IfOk, IfErr, IsErrOf, false, Ok, Some, true, length, take, slice_index_or, []};
 ghost use Rattle.op_base.specs.Reading.{object_of};
 ghost use Rattle.op_base.specs.Timestamp.{entry};
 ghost use Rattle.op_base.specs.declared.name.ObjectId.{ObjectId};
@@ -8,12 +8,13 @@ ghost use Rattle.op_base.specs.declared.operation.Update.{Update};
 ghost use Rattle.causal_model.specs.Follows.{Follows};
 ghost use Rattle.causal_model.specs.History.{events};
 ghost use Rattle.causal_model.specs.Query.{answer};
-ghost use Rattle.causal_model.specs.State.{State};
+ghost use Rattle.causal_model.specs.State.{State, start};
+ghost use Rattle.replica_core.specs.Numbers.{are_numbers};
 ghost use Rattle.replica_core.specs.Rules.{StandsFor, SameSettings, Unchanged};
 ghost use Rattle.script_lang.specs.Replies.{reply_line};
 ghost use Rattle.script_lang.specs.declared.reply.Reply.TheVariants.{Is};
 ghost use Rattle.peer.specs.Rules.{update_rule, peer_beat_rule, hear_rule, frames_again};
-ghost use Rattle.peer_c.specs.Tells.{text_update, told_update, told_beat, told_heard, is_done, is_frame, tells, update_frame, beat_frame, heard_steps, IsHandedOut};
+ghost use Rattle.peer_c.specs.Tells.{text_update, told_update, told_beat, told_heard, is_done, is_frame, tells, update_frame, beat_frame, heard_steps, delivered_in, IsHandedOut};
 
 use crate::outcome::Outcome;
 use crate::text::{faulty, hand_out, read_object, read_text};
@@ -23,7 +24,14 @@ use script_lang::{Reply, put_reply};
 use std::alloc::Global;
 
 /// A peer in a box.
-pub fn create(alloc: Global, me: u8, n: u8, w: u8, limit: u32) -> Result<Box<Peer>, Outcome> {
+pub fn create(alloc: Global, me: u8, n: u8, w: u8, limit: u32) -> Result<Box<Peer>, Outcome>
+    ensures bad_numbers { IsErrOf result Outcome.BadNumbers ↔ (are_numbers me n w limit ≡ false) }
+    ensures me { IfOk result (λ peer. peer.value.me ≡ me) }
+    ensures n { IfOk result (λ peer. peer.value.n ≡ n) }
+    ensures w { IfOk result (λ peer. peer.value.w ≡ w) }
+    ensures limit { IfOk result (λ peer. peer.value.limit ≡ limit) }
+    ensures empty { IfOk result (λ peer. StandsFor peer.value (start n me)) }
+{
     match Peer::create(alloc, me, n, w, limit) {
         Ok(peer) => Box::new(alloc, peer).map_err(|_| Outcome::NoMemory),
         Err(CreateFault::BadNumbers) => Err(Outcome::BadNumbers),
@@ -94,7 +102,9 @@ pub fn beat(alloc: Global, peer: &mut Peer, frame: &mut [u8], count: &mut usize)
 }
 
 /// How many steps are deliveries.
-fn deliveries(steps: &StepList) -> usize {
+fn deliveries(steps: &StepList) -> usize
+    ensures { result ≡ delivered_in steps.now }
+{
     let is_delivery = |step: &&Step| match step {
         Step::Took(_) => true,
         Step::Crook(_, _) => false,
@@ -105,6 +115,7 @@ fn deliveries(steps: &StepList) -> usize {
 /// Tells what came of bytes that were heard: how many messages were delivered, and how many steps there were.
 fn tell_heard(answer: Heard, delivered: &mut usize, steps: &mut usize) -> Outcome
     ensures told { result ≡ told_heard answer }
+    ensures delivered { result ≡ Outcome.Done → delivered.new ≡ delivered_in (heard_steps answer) }
     ensures steps { result ≡ Outcome.Done → steps.new ≡ length (heard_steps answer) }
 {
     match answer {
@@ -131,6 +142,7 @@ pub fn hear(
     steps: &mut usize,
 ) -> Outcome
     ensures answer { Follows StandsFor Outcome.NoMemory is_frame (tells told_heard (hear_rule peer.old.n peer.old.w peer.old.limit bytes.now)) peer.old result peer.new }
+    ensures delivered { result ≡ Outcome.Done → (s : State) → StandsFor peer.old s → delivered.new ≡ delivered_in (heard_steps (hear_rule peer.old.n peer.old.w peer.old.limit bytes.now s).0) }
     ensures steps { result ≡ Outcome.Done → (s : State) → StandsFor peer.old s → steps.new ≡ length (heard_steps (hear_rule peer.old.n peer.old.w peer.old.limit bytes.now s).0) }
     ensures settings { SameSettings peer.old peer.new }
     ensures refused { result ≢ Outcome.Done → result ≢ Outcome.Kept → Unchanged peer.old peer.new }

@@ -1,5 +1,5 @@
 -- An empty handle owns nothing.
-use Rattle.std.proofs.Common.{List, [], ◌∷◌, refl}
+use Rattle.std.proofs.Common.{[], ◌∷◌, refl}
 use mathlib.Core.Bool.{false}
 use mir.Val.{Val}
 use base.Logic.{SProp}

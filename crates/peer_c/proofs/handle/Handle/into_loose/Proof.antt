@@ -1,6 +1,6 @@
 -- `into_loose` gives the box back where the handle is full.
-use Rattle.std.proofs.Common.{◌≡◌, List, [], ◌∷◌, ◌++◌, refl, sym, ◌∙◌, subst, lit<}
-use mathlib.Core.Bool.{Bool, true, false}
+use Rattle.std.proofs.Common.{List, [], ◌∷◌, ◌++◌, refl, sym, ◌∙◌, subst, lit<}
+use mathlib.Core.Bool.{true, false}
 use mir.Syntax.{impl, tnil, dnil}
 use mir.Raw.{raw as bare}
 use mir.Val.{Val, vptr, vcons, vnil}
@@ -15,12 +15,12 @@ use types.ByLocal.{alloc_all, pass_all, free_all, look_at, get, get_in, sets, se
 use types.Match.{live}
 use denote.RattleType.{RattleType, owns}
 use denote.Memory.{lone}
-use denote.RawPtr.{Ptr, block_ptr, null_ptr, in_a_block}
+use denote.RawPtr.{block_ptr, null_ptr, in_a_block}
 use denote.Param.{layout}
 use denote.Signature.{types_at, type_at, plain}
 use denote.Steps.{nothing}
 use denote.Triple.Entry.{alive}
-use denote.Triple.Walked.{Stays, stay_dropped, walk_of, Goes-dropped}
+use denote.Triple.Walked.{Stays, stay_dropped, walk_of}
 use Rattle.core.specs.declared.option.Option.TheVariants.{None, Some}
 use Rattle.core.proofs.alloc.Calls.{Al, Goes-blank, handle_tells}
 use Rattle.core.proofs.alloc.Shapes.{after}

@@ -1,5 +1,5 @@
 -- `of_loose` keeps what the box owns, and forgets its allocator, which owns nothing.
-use Rattle.std.proofs.Common.{◌≡◌, List, [], ◌∷◌, ◌++◌, refl, sym, subst}
+use Rattle.std.proofs.Common.{List, [], ◌∷◌, ◌++◌, refl, sym, subst}
 use mathlib.Core.Bool.{true}
 use mir.Val.{Val, vptr}
 use base.Logic.{SProp, ent, id⊢}
