@@ -98,7 +98,8 @@ int32_t munsikap_beat(struct munsikap_peer *peer, uint8_t *frame, size_t room, s
 int32_t munsikap_hear(struct munsikap_peer *peer, const uint8_t *bytes, size_t length, size_t *delivered, size_t *steps);
 
 /* Hands out what to send again: the frames of the own messages that aren't known to be everywhere, oldest first, by their
- * place from 0. Call it with 0, 1, .. until it answers MUNSIKAP_NO_FRAME. It changes nothing of the peer.
+ * place from 0. Call it with 0, 1, .. until it answers MUNSIKAP_NO_FRAME. It changes nothing of the peer, and makes all of
+ * these frames anew.
  * MUNSIKAP_DONE: `frame` has the frame, and `count` its length. MUNSIKAP_NO_ROOM, MUNSIKAP_NO_FRAME. */
 int32_t munsikap_frame(struct munsikap_peer *peer, size_t place, uint8_t *frame, size_t room, size_t *count);
 
