@@ -55,10 +55,10 @@ enum {
     MUNSIKAP_HAS_PEER = 3,    /* the handle isn't empty */
     MUNSIKAP_NO_ROOM = 4,     /* the buffer is too small: `count` has the bytes that it needs */
     MUNSIKAP_BAD_NUMBERS = 5, /* a number is out of its range */
-    MUNSIKAP_BUSY = 6,        /* `w` own operations aren't known to be everywhere: try again after something was heard */
+    MUNSIKAP_BUSY = 6,        /* `w` own operations weren't told to be everywhere yet: try again after something was heard */
     MUNSIKAP_END = 7,         /* this member has sent `limit` messages */
     MUNSIKAP_QUIET = 8,       /* no no-op is due */
-    MUNSIKAP_HELD = 9,        /* 2 * (n - 1) * w + 1 own no-ops aren't known to be everywhere */
+    MUNSIKAP_HELD = 9,        /* 2 * (n - 1) * w + 1 own no-ops weren't told to be everywhere yet */
     MUNSIKAP_KEPT = 10,       /* the message is kept: it waits for one that it has seen */
     MUNSIKAP_OLD = 11,        /* the message is an own one, or one of its member and number was delivered */
     MUNSIKAP_AGAIN = 12,      /* a message of its member and number waits already */
@@ -97,7 +97,7 @@ int32_t munsikap_beat(struct munsikap_peer *peer, uint8_t *frame, size_t room, s
  * MUNSIKAP_OLD, MUNSIKAP_AGAIN, MUNSIKAP_FAR, MUNSIKAP_BAD_FRAME and more: the bytes were let go. */
 int32_t munsikap_hear(struct munsikap_peer *peer, const uint8_t *bytes, size_t length, size_t *delivered, size_t *steps);
 
-/* Hands out what to send again: the frames of the own messages that aren't known to be everywhere, oldest first, by their
+/* Hands out what to send again: the frames of the own messages that weren't told to be everywhere yet, oldest first, by their
  * place from 0. Call it with 0, 1, .. until it answers MUNSIKAP_NO_FRAME. It changes nothing of the peer, and makes all of
  * these frames anew.
  * MUNSIKAP_DONE: `frame` has the frame, and `count` its length. MUNSIKAP_NO_ROOM, MUNSIKAP_NO_FRAME. */
@@ -111,7 +111,7 @@ int32_t munsikap_ask(struct munsikap_peer *peer, const uint8_t *object, size_t l
 /* Tells how many messages of a member were delivered here. MUNSIKAP_BAD_NUMBERS: there is no such member. */
 int32_t munsikap_seen(struct munsikap_peer *peer, uint8_t member, uint32_t *number);
 
-/* Tells how many messages of a member every member is known to have. MUNSIKAP_BAD_NUMBERS: there is no such member. */
+/* Tells how many messages of a member every member was told to have. MUNSIKAP_BAD_NUMBERS: there is no such member. */
 int32_t munsikap_stable(struct munsikap_peer *peer, uint8_t member, uint32_t *number);
 
 #ifdef __cplusplus
