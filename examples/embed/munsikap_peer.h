@@ -7,23 +7,30 @@
  * The library opens no socket, reads no file and knows no clock: it says which bytes to send, and is told which came.
  * docs/EMBEDDING.md says when to call what.
  *
- * What the library does with a peer is proved. Nothing checks this header, nor what a caller hands over. A caller owes:
+ * What lies below these calls is proved, and of the calls that they are safe and return. Nothing checks this header, nor
+ * what a caller hands over. A caller owes:
  *
- *   - A handle comes from MUNSIKAP_EMPTY, and only these calls change it. It isn't copied: a copy is no second peer.
+ *   - A handle comes from MUNSIKAP_EMPTY, an initializer, or is all zero bytes; and only these calls change it. It isn't
+ *     copied: a copy is no second peer. It may be moved, where the old place isn't used again.
  *   - One call at a time for a handle, all of one handle's calls on one thread, none from a signal handler, and none in a
  *     child that a process with threads forked.
- *   - Bytes are handed over as a pointer and a length. The pointer isn't null, also where the length is 0, and so many
- *     bytes lie there. A buffer is the same with its room, and may be written to.
+ *   - No pointer is null, neither a handle's, at munsikap_free too, nor one that is written to. Bytes are handed over as a
+ *     pointer and a length: so many bytes lie there, and also where the length is 0 the pointer isn't null. A buffer is the
+ *     same with its room, and may be written to. A text ends with neither a newline nor a zero byte.
  *   - The pointers of one call point to different things, which nothing else writes while it runs, nor reads where it is
  *     what the call writes to.
- *   - malloc and realloc align a block to each power of two up to 16 that divides its size.
+ *   - Who replaces malloc, realloc and free: all three are one allocator's, which aligns a block to each power of two up to
+ *     16 that divides its size.
  *
  * No call keeps a pointer that it is given, and none hands out memory of its own: what is handed out is copied into the
  * caller's buffer. The one thing to be released is the peer, by munsikap_free.
  *
- * Each call that answers a code answers one of those that are named at it, MUNSIKAP_NO_PEER where the handle is empty, or
- * MUNSIKAP_NO_MEMORY. Where nothing else is said a code but MUNSIKAP_DONE says that nothing changed and nothing was
- * written, but that `count` may have been. */
+ * Each call that answers a code answers one of those that are named at it, MUNSIKAP_NO_PEER where the handle is empty (but
+ * for munsikap_create), or MUNSIKAP_NO_MEMORY. Where nothing else is said a code but MUNSIKAP_DONE says that nothing changed
+ * and nothing was written; MUNSIKAP_NO_ROOM writes `count`.
+ *
+ * Where all members keep the rules and have equal numbers, MUNSIKAP_FAR and MUNSIKAP_HELD don't come, and all steps of what
+ * is heard are deliveries. */
 #ifndef MUNSIKAP_PEER_H
 #define MUNSIKAP_PEER_H
 
@@ -55,21 +62,23 @@ enum {
     MUNSIKAP_HAS_PEER = 3,    /* the handle isn't empty */
     MUNSIKAP_NO_ROOM = 4,     /* the buffer is too small: `count` has the bytes that it needs */
     MUNSIKAP_BAD_NUMBERS = 5, /* a number is out of its range */
-    MUNSIKAP_BUSY = 6,        /* `w` own operations weren't told to be everywhere yet: try again after something was heard */
+    MUNSIKAP_BUSY = 6,        /* it wasn't told of `w` own operations that they are everywhere: try again after something was heard */
     MUNSIKAP_END = 7,         /* this member has sent `limit` messages */
     MUNSIKAP_QUIET = 8,       /* no no-op is due */
-    MUNSIKAP_HELD = 9,        /* 2 * (n - 1) * w + 1 own no-ops weren't told to be everywhere yet */
+    MUNSIKAP_HELD = 9,        /* it wasn't told of 2 * (n - 1) * w + 1 own no-ops that they are everywhere */
     MUNSIKAP_KEPT = 10,       /* the message is kept: it waits for one that it has seen */
     MUNSIKAP_OLD = 11,        /* the message is an own one, or one of its member and number was delivered */
     MUNSIKAP_AGAIN = 12,      /* a message of its member and number waits already */
     MUNSIKAP_FAR = 13,        /* the message is too far ahead to be kept, so it has to come again later */
     MUNSIKAP_NO_FRAME = 14,   /* there are no more frames */
-    MUNSIKAP_BAD_TEXT = 20,   /* and more: a text is no update or object. What is above 20 is N of `bad N` */
-    MUNSIKAP_BAD_FRAME = 40   /* and more: bytes are no frame of the store. What is above 40 is N of `bad frame N` */
+    MUNSIKAP_BAD_TEXT = 20,   /* 21 to 28: a text is no update or object. What is above 20 is N of `bad N`; 23 says that it
+                                 has neither two nor three words */
+    MUNSIKAP_BAD_FRAME = 40   /* 41 to 50: bytes are no frame of the store. What is above 40 is N of `bad frame N` */
 };
 
 /* Makes member `me` of a store of `n` members, 1 to 16, with a window of `w` operations, 1 to 64, and at most `limit`
- * messages a member, 1 to 1000000; members are numbered from 0. All members are made with the same `n`, `w` and `limit`.
+ * messages a member, 1 to 1000000; members are numbered from 0, so `me` is
+ * below `n`. All members are made with the same `n`, `w` and `limit`. A number above 255 is cut by the call, not refused.
  * MUNSIKAP_DONE: the handle has the peer, until munsikap_free. MUNSIKAP_HAS_PEER, MUNSIKAP_BAD_NUMBERS. */
 int32_t munsikap_create(struct munsikap_peer *peer, uint8_t me, uint8_t n, uint8_t w, uint32_t limit);
 
@@ -81,7 +90,7 @@ void munsikap_free(struct munsikap_peer *peer);
  * "awset:list add milk" (docs/FORMATS.md has the kinds and their acts).
  * MUNSIKAP_DONE: it is done here, and its frame goes to all other members. `count` has the frame's length. Where it is no
  * more than `room`, the frame is in `frame`; MUNSIKAP_MOST_FRAME bytes are always enough. Else nothing was written there,
- * and the frame is the last that munsikap_frame hands out.
+ * and the frame is the last that munsikap_frame hands out, where the store has more members than this one.
  * MUNSIKAP_BUSY, MUNSIKAP_END, MUNSIKAP_BAD_TEXT and more. */
 int32_t munsikap_update(struct munsikap_peer *peer, const uint8_t *text, size_t length, uint8_t *frame, size_t room, size_t *count);
 
@@ -99,7 +108,7 @@ int32_t munsikap_hear(struct munsikap_peer *peer, const uint8_t *bytes, size_t l
 
 /* Hands out what to send again: the frames of the own messages that weren't told to be everywhere yet, oldest first, by their
  * place from 0. Call it with 0, 1, .. until it answers MUNSIKAP_NO_FRAME. It changes nothing of the peer, and makes all of
- * these frames anew.
+ * these frames anew. Hear nothing between two places: what becomes stable leaves the front, and the others move up.
  * MUNSIKAP_DONE: `frame` has the frame, and `count` its length. MUNSIKAP_NO_ROOM, MUNSIKAP_NO_FRAME. */
 int32_t munsikap_frame(struct munsikap_peer *peer, size_t place, uint8_t *frame, size_t room, size_t *count);
 
