@@ -29,8 +29,8 @@
  * for munsikap_create), or MUNSIKAP_NO_MEMORY. Where nothing else is said a code but MUNSIKAP_DONE says that nothing changed
  * and nothing was written; MUNSIKAP_NO_ROOM writes `count`.
  *
- * Where all members keep the rules and have equal numbers, MUNSIKAP_FAR and MUNSIKAP_HELD don't come, and all steps of what
- * is heard are deliveries. */
+ * Where no frame is forged, all members keep the rules and have equal numbers, MUNSIKAP_FAR and MUNSIKAP_HELD don't come,
+ * and all steps of what is heard are deliveries. */
 #ifndef MUNSIKAP_PEER_H
 #define MUNSIKAP_PEER_H
 
@@ -62,23 +62,24 @@ enum {
     MUNSIKAP_HAS_PEER = 3,    /* the handle isn't empty */
     MUNSIKAP_NO_ROOM = 4,     /* the buffer is too small: `count` has the bytes that it needs */
     MUNSIKAP_BAD_NUMBERS = 5, /* a number is out of its range */
-    MUNSIKAP_BUSY = 6,        /* it wasn't told of `w` own operations that they are everywhere: try again after something was heard */
+    MUNSIKAP_BUSY = 6,        /* it wasn't told that `w` own operations are everywhere: try again after something was heard */
     MUNSIKAP_END = 7,         /* this member has sent `limit` messages */
     MUNSIKAP_QUIET = 8,       /* no no-op is due */
-    MUNSIKAP_HELD = 9,        /* it wasn't told of 2 * (n - 1) * w + 1 own no-ops that they are everywhere */
+    MUNSIKAP_HELD = 9,        /* it wasn't told that 2 * (n - 1) * w + 1 own no-ops are everywhere */
     MUNSIKAP_KEPT = 10,       /* the message is kept: it waits for one that it has seen */
     MUNSIKAP_OLD = 11,        /* the message is an own one, or one of its member and number was delivered */
     MUNSIKAP_AGAIN = 12,      /* a message of its member and number waits already */
     MUNSIKAP_FAR = 13,        /* the message is too far ahead to be kept, so it has to come again later */
     MUNSIKAP_NO_FRAME = 14,   /* there are no more frames */
-    MUNSIKAP_BAD_TEXT = 20,   /* 21 to 28: a text is no update or object. What is above 20 is N of `bad N`; 23 says that it
-                                 has neither two nor three words */
+    MUNSIKAP_BAD_TEXT = 20,   /* 23, 25 to 28: a text is no update, or 25: no object. What is above 20 is N of `bad N`; 23
+                                 says that it has neither two nor three words */
     MUNSIKAP_BAD_FRAME = 40   /* 41 to 50: bytes are no frame of the store. What is above 40 is N of `bad frame N` */
 };
 
 /* Makes member `me` of a store of `n` members, 1 to 16, with a window of `w` operations, 1 to 64, and at most `limit`
  * messages a member, 1 to 1000000; members are numbered from 0, so `me` is
- * below `n`. All members are made with the same `n`, `w` and `limit`. A number above 255 is cut by the call, not refused.
+ * below `n`. All members are made with the same `n`, `w` and `limit`. Of `me`, `n` and `w`, and
+ * of `member` below, C passes on the lowest eight bits alone: 257 is taken as 1.
  * MUNSIKAP_DONE: the handle has the peer, until munsikap_free. MUNSIKAP_HAS_PEER, MUNSIKAP_BAD_NUMBERS. */
 int32_t munsikap_create(struct munsikap_peer *peer, uint8_t me, uint8_t n, uint8_t w, uint32_t limit);
 
@@ -107,7 +108,7 @@ int32_t munsikap_beat(struct munsikap_peer *peer, uint8_t *frame, size_t room, s
 int32_t munsikap_hear(struct munsikap_peer *peer, const uint8_t *bytes, size_t length, size_t *delivered, size_t *steps);
 
 /* Hands out what to send again: the frames of the own messages that weren't told to be everywhere yet, oldest first, by their
- * place from 0. Call it with 0, 1, .. until it answers MUNSIKAP_NO_FRAME. It changes nothing of the peer, and makes all of
+ * place from 0. Call it with 0, 1, .. as long as it answers MUNSIKAP_DONE; MUNSIKAP_NO_FRAME says that all were handed out. It changes nothing of the peer, and makes all of
  * these frames anew. Hear nothing between two places: what becomes stable leaves the front, and the others move up.
  * MUNSIKAP_DONE: `frame` has the frame, and `count` its length. MUNSIKAP_NO_ROOM, MUNSIKAP_NO_FRAME. */
 int32_t munsikap_frame(struct munsikap_peer *peer, size_t place, uint8_t *frame, size_t room, size_t *count);
@@ -120,7 +121,7 @@ int32_t munsikap_ask(struct munsikap_peer *peer, const uint8_t *object, size_t l
 /* Tells how many messages of a member were delivered here. MUNSIKAP_BAD_NUMBERS: there is no such member. */
 int32_t munsikap_seen(struct munsikap_peer *peer, uint8_t member, uint32_t *number);
 
-/* Tells how many messages of a member every member was told to have. MUNSIKAP_BAD_NUMBERS: there is no such member. */
+/* Tells how many messages of a member this one was told that every member has. MUNSIKAP_BAD_NUMBERS: there is no such member. */
 int32_t munsikap_stable(struct munsikap_peer *peer, uint8_t member, uint32_t *number);
 
 #ifdef __cplusplus
