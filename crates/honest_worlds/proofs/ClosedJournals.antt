@@ -10,6 +10,7 @@ use Rattle.op_base.specs.declared.message.Message.{Message}
 use Rattle.op_base.specs.declared.outcome.Crook.{Crook as Cause}
 use Rattle.op_base.specs.declared.outcome.Step.{Step}
 use Rattle.causal_model.specs.Counts.{is_deliverable, is_carried}
+use Rattle.causal_model.specs.History.{epoch_of}
 use Rattle.causal_model.specs.Journal.{state_noted, state_after, replay, step_note, IsGroup, sent, beaten, received, regrouped_as, AreGroups, notes_of, IsLegal}
 use Rattle.causal_model.specs.State.{with_own, State, start, counted}
 use Rattle.causal_model.specs.Receiving.{next_of, is_old, crook_after, messages_with, state_with, steps_within, steps, with_early, refusal_of, steps_of, receive_by, receive_rule}
@@ -28,13 +29,13 @@ use Rattle.world_model.specs.Honest.{IsSentMessage, IsHonest}
 use Rattle.world_model.specs.Journals.{journal_of, world_of_journals, ends_epoch, is_crook, AreJournals, sent_in}
 use Rattle.honest_worlds.specs.Laws.{JournalsAreHonest, JournalsHaveNoCrook, SentNotesAreOwn, OthersWereKept, LegalKeepsRule}
 use Rattle.world_model.specs.Settling.{is_delivery}
-use Rattle.world_model.specs.World.{PlainWorld, size_of, replica_of, sent_by}
+use Rattle.world_model.specs.World.{PlainWorld, size_of, epoch_in, replica_of, sent_by}
 use Rattle.world_model.specs.Worlds.{IsReplica, own_of, IsWorld}
 use Rattle.world_model.proofs.Received.{receives}
 use Rattle.world_model.proofs.Sends.{IsGiven, update_is_given, noop_is_given, sent_is_replica}
 use Rattle.world_model.proofs.Sent.{messages_fit}
 use Rattle.honest_worlds.proofs.OnlySent.{keeps_rule-push, HasOnlySent, receives_sent}
-use Rattle.honest_worlds.proofs.Keeping.{no_past}
+use Rattle.honest_worlds.proofs.Epochs.{none_is_over, no_past}
 use Rattle.causal_model.proofs.Members.{member_of_filter}
 use Rattle.world_model.proofs.Worlds.{own_of_more}
 use Rattle.op_base.specs.declared.outcome.Step.TheVariants as step
@@ -114,7 +115,7 @@ halves (x ∷ a) b all =
 
 -- a state that notes of one epoch left
 pub record IsReplayed (n w limit me : ℕ) (notes : List Note) (s : State) : Type 0 where
-  pub replica : IsReplica n w limit me s
+  pub replica : IsReplica n w limit 0 me s
   pub rule : KeepsRule n w limit me s.history.present.messages
   pub own : own_of s ≡ sent_in notes
   pub others : All (λ m. m.origin ≢ me → Contains notes (Kept m)) s.history.present.messages
@@ -122,7 +123,7 @@ pub record IsReplayed (n w limit me : ℕ) (notes : List Note) (s : State) : Typ
 
 module _ (n w limit me : ℕ) where
   -- an own message
-  own_is_replayed : (notes : List Note) (s : State) (m : Message) → IsReplayed n w limit me notes s → IsReplica n w limit me (with_own s m) → IsGiven n w limit me s.history.present.messages m
+  own_is_replayed : (notes : List Note) (s : State) (m : Message) → IsReplayed n w limit me notes s → IsReplica n w limit 0 me (with_own s m) → IsGiven n w limit me s.history.present.messages m
       → IsReplayed n w limit me (notes ++ Sent m ∷ []) (with_own s m)
   own_is_replayed notes s m told replica given =
       let ms = s.history.present.messages in
@@ -155,7 +156,7 @@ module _ (n w limit me : ℕ) where
         early = All-put_early (λ x. Contains more (Kept x)) m s.early here (All-weaker (λ x. Contains notes (Kept x)) (λ x. Contains more (Kept x)) still s.early told.early);
       }) in
       record {
-        replica = subst (IsReplica n w limit me) left later.is_replica;
+        replica = subst (IsReplica n w limit 0 me) left later.is_replica;
         rule = has.rule;
         own = ap own_of (sym left) ∙ later.own ∙ told.own ∙ sym (append-nil (sent_in notes)) ∙ ap (λ ms. sent_in notes ++ ms) (sym (sent_in-steps made)) ∙ sym (sent_in-append notes (Kept m ∷ map step_note made));
         others = has.messages;
@@ -185,7 +186,7 @@ module _ (n w limit me : ℕ) where
 
   start_is_replayed : n ≤ 16 → me < n → IsReplayed n w limit me [] (start n me)
   start_is_replayed few member = record {
-    replica = record { is_state = start_is_state n w limit me few member; of_store = refl; of_member = refl; past = refl; none_is_next = refl };
+    replica = record { is_state = start_is_state n w limit me few member; of_store = refl; of_member = refl; in_epoch = refl; none_is_next = refl };
     rule = λ before later m e _. absurd (omega (arith, ap length e, length-append before (m ∷ later)));
     own = refl;
     others = All-nil (λ m. m.origin ≢ me → Contains [] (Kept m));
@@ -252,6 +253,9 @@ module _ (n w limit : ℕ) (journals : List (List Note)) (some : 1 ≤ n) (few :
             kept_was_sent r m l (fits_member n m (subst (λ k. IsTrue (fits k m)) is.replica.of_store (early_fit i d low))) (inside (Kept m) (is.early i d low)),
       )
 
+  first : epoch_in world ≡ 0
+  first = ap (λ s. epoch_of s.history) (replica 0 some) ∙ (told 0 some).replica.in_epoch
+
   world_is : IsWorld world
   world_is = record {
     some = omega (arith, some, size);
@@ -259,7 +263,7 @@ module _ (n w limit : ℕ) (journals : List (List Note)) (some : 1 ≤ n) (few :
     wide = wide;
     most = most;
     of_each = length-map-range_with_len (λ r. own_of (replay n r (journal_of journals r))) 0 n ∙ sym size;
-    replicas = λ r l. let k : r < n = omega (arith, l, size) in subst (λ u. IsReplica u w limit r (replica_of world r)) (sym size) (subst (IsReplica n w limit r) (sym (replica r k)) (told r k).replica);
+    replicas = λ r l. let k : r < n = omega (arith, l, size) in subst (λ u. IsReplica u w limit (epoch_in world) r (replica_of world r)) (sym size) (subst (λ epoch. IsReplica n w limit epoch r (replica_of world r)) (sym first) (subst (IsReplica n w limit 0 r) (sym (replica r k)) (told r k).replica));
     sent = λ r l. let k : r < n = omega (arith, l, size) in sent_here r k ∙ sym (ap own_of (replica r k));
   }
 
@@ -269,7 +273,7 @@ module _ (n w limit : ℕ) (journals : List (List Note)) (some : 1 ≤ n) (few :
     by_rule = λ r l. let k : r < n = omega (arith, l, size) in subst (λ u. KeepsRule u w limit r (replica_of world r).history.present.messages) (sym size) (subst (λ s. KeepsRule n w limit r s.history.present.messages) (sym (replica r k)) (told r k).rule);
     delivered = λ r l. let k : r < n = omega (arith, l, size) in subst (λ s. All (IsSentMessage world) s.history.present.messages) (sym (replica r k)) (front_was_sent r (journal_of journals r) [] (state r) k (sym (append-nil (journal_of journals r))) (told r k)).0;
     early = λ r l. let k : r < n = omega (arith, l, size) in subst (λ s. All (IsSentMessage world) s.early) (sym (replica r k)) (front_was_sent r (journal_of journals r) [] (state r) k (sym (append-nil (journal_of journals r))) (told r k)).1;
-    one_past = no_past world world_is;
+    one_past = no_past world world_is first;
   }
 
   -- ---- no note of a crooked message
@@ -294,6 +298,7 @@ module _ (n w limit : ℕ) (journals : List (List Note)) (some : 1 ≤ n) (few :
         is_state = is.replica.is_state;
         of_store = is.replica.of_store ∙ sym size;
         of_member = is.replica.of_member;
+        past = none_is_over s.history is.replica.in_epoch ∙ sym (none_is_over (replica_of world r).history ((world_is.replicas r here).in_epoch ∙ first));
         rule = subst (λ u. KeepsRule u w limit r s.history.present.messages) (sym size) is.rule;
         delivered = sents.0;
         early = sents.1;

@@ -6,6 +6,7 @@ use Rattle.std.proofs.lemmas.List.Elements.{All-nil}
 use Rattle.op_base.specs.Message.{number}
 use Rattle.op_base.specs.declared.message.Message.{Message}
 use Rattle.op_base.specs.declared.operation.Update.{Update}
+use Rattle.causal_model.specs.History.{epoch_of}
 use Rattle.causal_model.specs.State.{start}
 use Rattle.causal_model.specs.Early.{has_id}
 use Rattle.causal_model.specs.Sending.{local_messages, beat_messages}
@@ -15,14 +16,17 @@ use Rattle.causal_model.specs.declared.outcome.Local.{Local}
 use Rattle.causal_model.specs.declared.outcome.Local.TheVariants as local
 use Rattle.causal_model.proofs.Finds.{found}
 use Rattle.world_model.specs.World.{PlainWorld, size_of, opening, replica_of, sent_by, with_all_sent, local_at, beat_at, sent_message, give_of, give_at}
-use Rattle.world_model.specs.Worlds.{KeepsWorld}
+use Rattle.world_model.specs.Worlds.{KeepsStore, KeepsWorld}
 use Rattle.world_model.proofs.Commands.{sending_keeps_world}
+use Rattle.world_model.proofs.Regrouping.{regrouping_keeps_store}
 use Rattle.world_model.proofs.Sends.{update_is_given}
 use Rattle.world_model.specs.Honest.{IsSentMessage, IsHonest, KeepsHonest}
 use Rattle.world_model.proofs.Worlds.{world_keeps_itself, opening_is_world, opening_has_size}
 use Rattle.honest_worlds.proofs.SentMessages.{sent_fits}
 use Rattle.honest_worlds.proofs.OnlySent.{replica_has_only_sent, receives_sent}
-use Rattle.honest_worlds.proofs.Keeping.{no_past, sent_keeps_honest, offering_sent_keeps_honest, outbox_is_received, resending_keeps_honest, beat_keeps_honest}
+use Rattle.honest_worlds.proofs.Keeping.{sent_keeps_honest, offering_sent_keeps_honest, outbox_is_received, resending_keeps_honest, beat_keeps_honest}
+use Rattle.honest_worlds.proofs.Epochs.{no_past}
+use Rattle.honest_worlds.proofs.Regrouping.{regrouping_keeps_honest}
 use Rattle.honest_worlds.proofs.Settling.{settled_is_honest}
 use Rattle.honest_worlds.specs.Laws.{OpeningIsHonest, CommandsKeepHonest, OfferingSentKeepsHonest, StepsDeliver, ResentStepsDeliver}
 use Rattle.op_base.specs.Valid.{is_valid_update}
@@ -40,7 +44,7 @@ opening_is_honest n w limit some few wide most =
       by_rule = λ r l before later m e _. absurd (omega (arith, ap length (sym (ap (λ s. s.history.present.messages) (empty r l)) ∙ e), length-append before (m ∷ later)));
       delivered = λ r l. subst (λ s. All (IsSentMessage world) s.history.present.messages) (sym (empty r l)) (All-nil (IsSentMessage world));
       early = λ r l. subst (λ s. All (IsSentMessage world) s.early) (sym (empty r l)) (All-nil (IsSentMessage world));
-      one_past = no_past world is;
+      one_past = no_past world is (ap (λ s. epoch_of s.history) (empty 0 is.some));
     }
 
 pub offering_keeps_honest : OfferingSentKeepsHonest
@@ -75,13 +79,17 @@ giving_keeps_honest world r k seq honest l = by (sent_message world k seq) refl 
   by None e = (honest, world_keeps_itself world honest.is_world)
   by (Some m) e = offering_sent_keeps_honest world r honest l m (sent_message_was_sent world k seq m honest e)
 
+in_store : (world after : PlainWorld) → KeepsHonest world after → IsHonest after × KeepsStore world after
+in_store world after keeps = (keeps.0, record { is_world = keeps.1.is_world; w = keeps.1.w; limit = keeps.1.limit })
+
 pub commands_keep_honest : CommandsKeepHonest
-commands_keep_honest world (world_command.sends_at r update) honest can plain = sending_keeps_honest world r update honest can.0 can.1
-commands_keep_honest world (world_command.beats_at r) honest can plain = beating_keeps_honest world r honest can
-commands_keep_honest world (world_command.gives r k seq) honest can plain = giving_keeps_honest world r k seq honest can
-commands_keep_honest world (world_command.resends r k) honest can plain = resending_keeps_honest world r honest can k
+commands_keep_honest world (world_command.sends_at r update) honest can plain = in_store world _ (sending_keeps_honest world r update honest can.0 can.1)
+commands_keep_honest world (world_command.beats_at r) honest can plain = in_store world _ (beating_keeps_honest world r honest can)
+commands_keep_honest world (world_command.gives r k seq) honest can plain = in_store world _ (giving_keeps_honest world r k seq honest can)
+commands_keep_honest world (world_command.resends r k) honest can plain = in_store world _ (resending_keeps_honest world r honest can k)
 commands_keep_honest world (world_command.raws r bytes) honest can plain = absurd (false≢true (sym plain))
-commands_keep_honest world world_command.settles honest can plain = settled_is_honest world honest
+commands_keep_honest world world_command.settles honest can plain = in_store world _ (settled_is_honest world honest)
+commands_keep_honest world (world_command.regroups n) honest can plain = (regrouping_keeps_honest world n honest can.0 can.1, regrouping_keeps_store world n honest.is_world can.0 can.1)
 
 -- ---- steps
 

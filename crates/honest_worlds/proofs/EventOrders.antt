@@ -5,7 +5,7 @@ use Rattle.std.specs.Prelude.{is_none}
 use Rattle.std.proofs.lemmas.Bool.{and_parts, and_from, cases_eq, eq-eqb, eqb-true, le-leb, leb-true, both_ways, not-true, not_from_false, false_from_ne_true, cond-true}
 use Rattle.std.proofs.Math.Seq.{get_or-append_seam}
 use Rattle.std.proofs.lemmas.List.{get_or_append_left, map-append}
-use Rattle.std.proofs.lemmas.List.Elements.{All-contains, Contains-append_left, Contains-append_right}
+use Rattle.std.proofs.lemmas.List.Elements.{All-contains, Contains-append_left, Contains-append_right, Contains-append_cases}
 use Rattle.std.proofs.lemmas.List.Sums.{sum_by-append, sum_by-cons}
 use Rattle.op_base.specs.Timestamp.{entry}
 use Rattle.op_base.specs.Message.{number}
@@ -13,21 +13,23 @@ use Rattle.op_base.specs.declared.message.Message.{Message}
 use Rattle.causal_model.specs.Chapter.{is_chapter}
 use Rattle.causal_model.specs.Counts.{count_of, counts, is_deliverable}
 use Rattle.causal_model.specs.Crook.{crook_of}
-use Rattle.causal_model.specs.History.{Event, events, events_from, events_in, is_before}
+use Rattle.causal_model.specs.History.{Event, events, is_before}
 use Rattle.causal_model.specs.Order.{same_id, happened_before}
 use Rattle.causal_model.proofs.Counts.{entry-counts, entry-next_tag_other}
 use Rattle.causal_model.proofs.Crooks.{IsStraight, none-from_IsStraight}
 use Rattle.causal_model.proofs.Early.{IsDeliverable, IsDeliverable-from_test}
 use Rattle.causal_model.proofs.Elements.{Contains-map}
+use Rattle.causal_model.proofs.Events.{event_of, before_within, earlier_is_before}
 use Rattle.causal_model.proofs.Limits.{numbers_are_counted}
 use Rattle.causal_model.proofs.Orders.{Sees-from_happened, order_is_transitive, each_fits}
 use Rattle.causal_model.proofs.Settling.{last_is_next}
 use Rattle.causal_model.proofs.Timestamps.{tags_are_counted, next_tag_has_counts}
-use Rattle.world_model.specs.Honest.{IsSentMessage, IsHonest, history_of, delivered_by}
+use Rattle.world_model.specs.Honest.{IsSentMessage, past_events, IsHonest, history_of, delivered_by}
 use Rattle.world_model.specs.EventOrder.{IsSentEvent, IsEvent, StandsBefore, EventOrder, stands, through}
 use Rattle.honest_worlds.specs.Laws.{HappenedBeforeIsEventOrder, DeliverableIsAdmissible}
-use Rattle.world_model.specs.World.{PlainWorld, size_of}
+use Rattle.world_model.specs.World.{PlainWorld, size_of, epoch_in}
 use Rattle.honest_worlds.proofs.Lists.{split_at, prefixes, place_of, in_front_of, from_map}
+use Rattle.honest_worlds.proofs.Epochs.{IsPresent, events_at, past_is_lower, past_or_present}
 use Rattle.honest_worlds.proofs.Agreeing.{is_there_too}
 use Rattle.honest_worlds.proofs.Shared.{front_is_chapter, fits_of, chapters_agree, parts_agree}
 use Rattle.honest_worlds.proofs.SentMessages.{chapter_of, sent_is_delivered, sender_is_member, are_shared, sent_is_next}
@@ -135,36 +137,38 @@ stands_in_front front back a b has = (
 )
 
 module _ (world : PlainWorld) (honest : IsHonest world) where
-  no_past_of : (r : ℕ) → r < size_of world → (history_of world r).past ≡ []
-  no_past_of r l = (honest.is_world.replicas r l).past
+  -- an event of the present epoch, as its message tells it
+  abbrev event : Message → Event
+  event = event_of (epoch_in world)
 
-  events_of : (r : ℕ) → r < size_of world → events (history_of world r) ≡ map (λ m. record { epoch = 0; message = m }) (delivered_by world r)
-  events_of r l = ap (λ past. events_from 0 past ++ events_in (length past) (delivered_by world r)) (no_past_of r l)
-
-  sent_event : (b : Event) → IsSentEvent world b → b ≡ record { epoch = 0; message = b.message }
-  sent_event b sent = sent.1 ∙ ap (λ past. record { epoch = length past; message = b.message }) (no_past_of b.message.origin (sender_is_member world honest b.message sent.0))
-
-  pub message_of_event : (r : ℕ) (a : Event) → r < size_of world → Contains (events (history_of world r)) a → (Contains (delivered_by world r) a.message) × (a ≡ record { epoch = 0; message = a.message })
-  message_of_event r a l has =
-      let m = from_map (λ (m : Message). record { epoch = 0; message = m }) (delivered_by world r) a (subst (λ es. Contains es a) (events_of r l) has) in
-      (subst (Contains (delivered_by world r)) (ap (λ e. e.message) m.1.1) m.1.0, sym m.1.1 ∙ ap (λ (e : Event). record { epoch = 0; message = e.message }) m.1.1)
+  sent_event : (b : Event) → IsSentEvent world b → b ≡ event b.message
+  sent_event b sent = sent.1 ∙ ap (λ epoch. event_of epoch b.message) (honest.is_world.replicas b.message.origin (sender_is_member world honest b.message sent.0)).in_epoch
 
   -- by timestamps in one epoch
-  before_is_happened : (a b : Event) → a ≡ record { epoch = 0; message = a.message } → b ≡ record { epoch = 0; message = b.message } → is_before a b ≡ happened_before a.message b.message
-  before_is_happened a b ea eb = ap (λ x. is_before x b) ea ∙ ap (λ y. is_before (record { epoch = 0; message = a.message }) y) eb
+  before_is_happened : (a b : Event) → a ≡ event a.message → b ≡ event b.message → is_before a b ≡ happened_before a.message b.message
+  before_is_happened a b ea eb = ap (λ x. is_before x b) ea ∙ ap (λ y. is_before (event a.message) y) eb ∙ before_within (epoch_in world) a.message b.message
 
-  -- forth: what is before by timestamps stands before
+  -- what is over is before what was sent
+  over_is_before : (r : ℕ) (a b : Event) → r < size_of world → Contains (past_events (history_of world r)) a → IsSentEvent world b → IsTrue (is_before a b)
+  over_is_before r a b l over sent = earlier_is_before a b (omega (arith, past_is_lower world r honest.is_world l a over, ap (λ (e : Event). e.epoch) (sent_event b sent)))
+
+  -- forth: what is before by timestamps stands before, in the past of the origin or among the messages of this epoch
   stands_where_before : (a b : Event) → IsEvent world a → IsSentEvent world b → IsTrue (is_before a b) → EventOrder world a b
   stands_where_before a b is sent before =
-      let ma = message_of_event is.0 a is.1 is.2 in
       let eb = sent_event b sent in
+      let k = b.message.origin in
       let p = placed world honest b.message sent.0 in
-      let has = seen_stands_before world honest is.0 a.message b.message is.1 ma.0 sent.0 (sym (before_is_happened a b ma.1 eb) ∙ before) in
-      let whole : events (history_of world b.message.origin) ≡ map (λ m. record { epoch = 0; message = m }) p.before ++ b ∷ map (λ m. record { epoch = 0; message = m }) p.later =
-      events_of b.message.origin p.member ∙ ap (map (λ m. record { epoch = 0; message = m })) p.whole ∙ map-append (λ (m : Message). record { epoch = 0; message = m }) p.before (b.message ∷ p.later)
-      ∙ ap (λ (e : Event). map (λ m. record { epoch = 0; message = m }) p.before ++ e ∷ map (λ m. record { epoch = 0; message = m }) p.later) (sym eb) in
-      stands a b sent (subst (λ es. StandsBefore es a b) (sym whole) (stands_in_front (map (λ m. record { epoch = 0; message = m }) p.before) (map (λ m. record { epoch = 0; message = m }) p.later) a b
-      (subst (Contains (map (λ m. record { epoch = 0; message = m }) p.before)) (sym ma.1) (Contains-map (λ (m : Message). record { epoch = 0; message = m }) p.before a.message has))))
+      let past = past_events (history_of world k) in
+      let whole : events (history_of world k) ≡ (past ++ map event p.before) ++ b ∷ map event p.later =
+      events_at world k honest.is_world p.member ∙ ap (λ ms. past ++ map event ms) p.whole ∙ ap (λ es. past ++ es) (map-append event p.before (b.message ∷ p.later))
+      ∙ ap (λ e. past ++ (map event p.before ++ e ∷ map event p.later)) (sym eb) ∙ sym (append_assoc past (map event p.before) (b ∷ map event p.later)) in
+      let front : Contains (past ++ map event p.before) a = elim (past_or_present world is.0 honest.is_world is.1 a is.2) [
+        | inl over ↦ Contains-append_left past (map event p.before) a ((honest.one_past is.0 k is.1 p.member a).0 over)
+        | inr present ↦
+            let has = seen_stands_before world honest is.0 a.message b.message is.1 present.there sent.0 (sym (before_is_happened a b present.now eb) ∙ before) in
+            Contains-append_right past (map event p.before) a (subst (Contains (map event p.before)) (sym present.now) (Contains-map event p.before a.message has))
+      ] in
+      stands a b sent (subst (λ es. StandsBefore es a b) (sym whole) (stands_in_front (past ++ map event p.before) (map event p.later) a b front))
 
   -- back: what the order relates are an event and a message that was sent, and it is before by timestamps
   record IsRelated (a b : Event) : Type 0 where
@@ -172,66 +176,83 @@ module _ (world : PlainWorld) (honest : IsHonest world) where
     sent : IsSentEvent world b
     before : IsTrue (is_before a b)
 
+  messages_of : (ms : List Message) → map (λ (e : Event). e.message) (map event ms) ≡ ms
+  messages_of [] = refl
+  messages_of (m ∷ ms) = ap (λ ys. m ∷ ys) (messages_of ms)
+
+  front_is_before : (a b : Message) (g l : List Message) → b.origin < size_of world → delivered_by world b.origin ≡ g ++ b ∷ l → Contains g a → happened_before a b ≡ true
+  front_is_before a b g l member whole has =
+      let u = size_of world in
+      let chapter = front_is_chapter u world.w b.origin (g ++ b ∷ []) l (subst (λ ms. IsTrue (is_chapter u world.w b.origin ms)) (whole ∙ sym (append_assoc g (b ∷ []) l)) (chapter_of world honest b.origin member)) in
+      let parts = last_is_next u world.w b.origin g b chapter in
+      let low = All-contains (λ z. number z ≤ count_of g z.origin) g a (numbers_are_counted u world.w b.origin g parts.0) has in
+      let fit = All-contains (λ z. (z.origin < u) × (0 < number z)) g a (each_fits u world.w b.origin g parts.0) has in
+      let sees : count_of g a.origin ≤ entry b.tag a.origin = subst (λ tag. count_of g a.origin ≤ entry tag a.origin) (sym (parts.1.own refl)) (next_tag_has_counts u b.origin g a.origin member fit.0) in
+      and_from _ _ (not_from_false (same_id a b) (false_from_ne_true (same_id a b) (λ same.
+      let both = and_parts (a.origin == b.origin) (number a == number b) same in
+      omega (arith, low, parts.1.counted, ap (count_of g) (eqb-true a.origin b.origin both.0), eqb-true (number a) (number b) both.1))))
+      (le-leb (number a) (entry b.tag a.origin) (omega (arith, low, sees)))
+
+  -- in the history of its origin what stands before a message that was sent is before it
+  front_events_are_before : (a b : Event) (front later : List Event) → IsSentEvent world b → b.message.origin < size_of world → events (history_of world b.message.origin) ≡ front ++ b ∷ later → Contains front a → IsTrue (is_before a b)
+  front_events_are_before a b front later sent member whole has =
+      let k = b.message.origin in
+      let past = past_events (history_of world k) in
+      elim (prefixes past (map event (delivered_by world k)) front (b ∷ later) (sym (events_at world k honest.is_world member) ∙ whole)) [
+        | inl more ↦ elim (Contains-append_cases past more.0 a (subst (λ es. Contains es a) more.1 has)) [
+          | inl over ↦ over_is_before k a b member over sent
+          | inr late ↦
+              let message : Event → Message = λ e. e.message in
+              let there = from_map event (delivered_by world k) a (subst (λ es. Contains es a) (sym more.2) (Contains-append_left more.0 (b ∷ later) a late)) in
+              let now : a ≡ event a.message = sym there.1.1 ∙ ap (λ (e : Event). event e.message) there.1.1 in
+              let messages : delivered_by world k ≡ map message more.0 ++ b.message ∷ map message later = sym (messages_of (delivered_by world k)) ∙ ap (map message) more.2 ∙ map-append message more.0 (b ∷ later) in
+              before_is_happened a b now (sent_event b sent) ∙ front_is_before a.message b.message (map message more.0) (map message later) member messages (Contains-map message more.0 a late)
+        ]
+        | inr fewer ↦ over_is_before k a b member (subst (λ es. Contains es a) (sym fewer.1) (Contains-append_left front fewer.0 a has)) sent
+      ]
+
   stands_is_related : (a b : Event) → IsSentEvent world b → StandsBefore (events (history_of world b.message.origin)) a b → IsRelated a b
   stands_is_related a b sent place =
       let k = b.message.origin in
       let member = sender_is_member world honest b.message sent.0 in
       let es = events (history_of world k) in
       let s = in_front_of es place.0 place.1 a b place.2 place.3 place.4 in
-      let has : Contains es a = subst (λ xs. Contains xs a) (sym s.2) (Contains-append_left s.0 (b ∷ s.1) a s.3) in
-      let ma = message_of_event k a member has in
-      let eb = sent_event b sent in
-      -- the messages of that front
-      let messages = map (λ (e : Event). e.message) s.0 in
-      let whole : delivered_by world k ≡ messages ++ b.message ∷ map (λ (e : Event). e.message) s.1 =
-      sym (messages_of (delivered_by world k)) ∙ ap (map (λ (e : Event). e.message)) (sym (events_of k member) ∙ s.2) ∙ map-append (λ (e : Event). e.message) s.0 (b ∷ s.1) in
       record {
-        event = (k, member, has);
+        event = (k, member, subst (λ xs. Contains xs a) (sym s.2) (Contains-append_left s.0 (b ∷ s.1) a s.3));
         sent = sent;
-        before = before_is_happened a b ma.1 eb ∙ front_is_before a.message b.message messages (map (λ (e : Event). e.message) s.1) member whole (Contains-map (λ (e : Event). e.message) s.0 a s.3);
-      } where
-        messages_of : (ms : List Message) → map (λ (e : Event). e.message) (map (λ (m : Message). record { epoch = 0; message = m }) ms) ≡ ms
-        messages_of [] = refl
-        messages_of (m ∷ ms) = ap (λ ys. m ∷ ys) (messages_of ms)
-
-        front_is_before : (a b : Message) (g l : List Message) → b.origin < size_of world → delivered_by world b.origin ≡ g ++ b ∷ l → Contains g a → happened_before a b ≡ true
-        front_is_before a b g l member whole has =
-            let u = size_of world in
-            let chapter = front_is_chapter u world.w b.origin (g ++ b ∷ []) l (subst (λ ms. IsTrue (is_chapter u world.w b.origin ms)) (whole ∙ sym (append_assoc g (b ∷ []) l)) (chapter_of world honest b.origin member)) in
-            let parts = last_is_next u world.w b.origin g b chapter in
-            let low = All-contains (λ z. number z ≤ count_of g z.origin) g a (numbers_are_counted u world.w b.origin g parts.0) has in
-            let fit = All-contains (λ z. (z.origin < u) × (0 < number z)) g a (each_fits u world.w b.origin g parts.0) has in
-            let sees : count_of g a.origin ≤ entry b.tag a.origin = subst (λ tag. count_of g a.origin ≤ entry tag a.origin) (sym (parts.1.own refl)) (next_tag_has_counts u b.origin g a.origin member fit.0) in
-            and_from _ _ (not_from_false (same_id a b) (false_from_ne_true (same_id a b) (λ same.
-            let both = and_parts (a.origin == b.origin) (number a == number b) same in
-            omega (arith, low, parts.1.counted, ap (count_of g) (eqb-true a.origin b.origin both.0), eqb-true (number a) (number b) both.1))))
-            (le-leb (number a) (entry b.tag a.origin) (omega (arith, low, sees)))
+        before = front_events_are_before a b s.0 s.1 sent member s.2 s.3;
+      }
 
   -- and it is transitive, since all three stand in the history of the last one's origin
-  related_through : (a b c : Event) → IsRelated a b → IsRelated b c → IsRelated a c
-  related_through a b c ab bc =
+  happened_through : (r : ℕ) (a b c : Event) → r < size_of world → IsPresent world r a → IsTrue (is_before a b) → IsSentEvent world b → IsSentEvent world c → IsTrue (is_before b c) → IsTrue (is_before a c)
+  happened_through r a b c l present ab sent_b sent_c bc =
       let u = size_of world in
       let k = c.message.origin in
-      let mc = sender_is_member world honest c.message bc.sent.0 in
-      let mb = sender_is_member world honest b.message ab.sent.0 in
-      let ea = message_of_event ab.event.0 a ab.event.1 ab.event.2 in
-      let eb = sent_event b ab.sent in
-      let ec = sent_event c bc.sent in
-      let first = sym (before_is_happened a b ea.1 eb) ∙ ab.before in
-      let second = sym (before_is_happened b c eb ec) ∙ bc.before in
-      let pc = placed world honest c.message bc.sent.0 in
+      let mc = sender_is_member world honest c.message sent_c.0 in
+      let mb = sender_is_member world honest b.message sent_b.0 in
+      let eb = sent_event b sent_b in
+      let ec = sent_event c sent_c in
+      let first = sym (before_is_happened a b present.now eb) ∙ ab in
+      let second = sym (before_is_happened b c eb ec) ∙ bc in
+      let pc = placed world honest c.message sent_c.0 in
       let inside : (m : Message) → Contains pc.before m → Contains (delivered_by world k) m = λ m has. subst (λ ms. Contains ms m) (sym pc.whole) (Contains-append_left pc.before (c.message ∷ pc.later) m has) in
-      let b_there = inside b.message (seen_stands_before world honest b.message.origin b.message c.message mb (sent_is_delivered world honest b.message mb ab.sent.0) bc.sent.0 second) in
-      let c_there = sent_is_delivered world honest c.message mc bc.sent.0 in
+      let b_there = inside b.message (seen_stands_before world honest b.message.origin b.message c.message mb (sent_is_delivered world honest b.message mb sent_b.0) sent_c.0 second) in
+      let c_there = sent_is_delivered world honest c.message mc sent_c.0 in
       let chapter = chapter_of world honest k mc in
-      let fit = fits_of u world.w (delivered_by world) (are_shared world honest) ab.event.0 a.message ab.event.1 ea.0 in
-      let a_there = is_there_too u world.w k (delivered_by world ab.event.0) (delivered_by world k) chapter (chapters_agree u world.w (delivered_by world) (are_shared world honest) ab.event.0 k ab.event.1 mc) a.message ea.0 fit.1
+      let fit = fits_of u world.w (delivered_by world) (are_shared world honest) r a.message l present.there in
+      let a_there = is_there_too u world.w k (delivered_by world r) (delivered_by world k) chapter (chapters_agree u world.w (delivered_by world) (are_shared world honest) r k l mc) a.message present.there fit.1
       (omega (arith, Sees-from_happened a.message b.message first, All-contains (λ m. (x : ℕ) → entry m.tag x ≤ count_of (delivered_by world k) x) (delivered_by world k) b.message (tags_are_counted u world.w k (delivered_by world k) chapter) b_there a.message.origin)) in
-      record {
-        event = ab.event;
-        sent = bc.sent;
-        before = before_is_happened a c ea.1 ec ∙ order_is_transitive u world.w k (delivered_by world k) a.message b.message c.message chapter a_there b_there c_there first second;
-      }
+      before_is_happened a c present.now ec ∙ order_is_transitive u world.w k (delivered_by world k) a.message b.message c.message chapter a_there b_there c_there first second
+
+  related_through : (a b c : Event) → IsRelated a b → IsRelated b c → IsRelated a c
+  related_through a b c ab bc = record {
+    event = ab.event;
+    sent = bc.sent;
+    before = elim (past_or_present world ab.event.0 honest.is_world ab.event.1 a ab.event.2) [
+      | inl over ↦ over_is_before ab.event.0 a c ab.event.1 over bc.sent
+      | inr present ↦ happened_through ab.event.0 a b c ab.event.1 present ab.before ab.sent bc.sent bc.before
+    ];
+  }
 
   related : (a b : Event) → EventOrder world a b → IsRelated a b
   related _ _ (stands a b sent place) = stands_is_related a b sent place

@@ -1,8 +1,9 @@
--- Whatever the command, what a replica delivered stays the front of its messages.
+-- Whatever the command but a change of members, what a replica delivered stays the front of its messages.
 use Rattle.std.proofs.Common.{◌≡◌, ℕ, zero, suc, ◌<◌, Bool, true, false, ◌==◌, List, [], ◌∷◌, ◌++◌, length, get_or, refl, sym, ap, subst, ◌∙◌, inl, inr, if◌then◌else◌, Option, Some, None, Result, Ok, Err, append_assoc, append-nil, arith, length-set}
 use Rattle.std.specs.List.{fold}
 use Rattle.std.proofs.lemmas.Bool.{cases_eq}
 use Rattle.op_base.specs.declared.message.Message.{Message}
+use Rattle.op_base.specs.declared.operation.Update.{Update}
 use Rattle.op_base.specs.declared.outcome.Crook.{Crook}
 use Rattle.causal_model.specs.Counts.{members}
 use Rattle.causal_model.specs.Receiving.{next_of, crook_after, messages_with, state_with, steps_within, with_early, refusal_of, receive_by, receive_rule}
@@ -13,15 +14,13 @@ use Rattle.causal_model.specs.declared.outcome.Beat.TheVariants as beat
 use Rattle.causal_model.specs.declared.outcome.Refusal.{Refusal}
 use Rattle.causal_model.proofs.Lists.{fold_has}
 use Rattle.causal_model.proofs.Steps.{steps_by}
-use Rattle.world_model.specs.Offering.{Offered, none_offered, offered_more, outbox_in, offered_between}
-use Rattle.world_model.specs.Raw.{read_at, raw_of}
-use Rattle.world_model.specs.Settling.{Round, with_offered, after_offer, after_offers, with_beat, after_beat, offers_made, round_of, rounds_within, most_rounds}
-use Rattle.world_model.specs.World.{PlainWorld, size_of, replica_of, with_state, with_sent, with_all_sent, local_at, beat_at, offer_at, sent_message, give_of}
+use Rattle.world_model.specs.Offering.{Offered, none_offered, offered_more, outbox_in, offered_between, resend_at}
+use Rattle.world_model.specs.Raw.{read_at, raw_of, raw_at}
+use Rattle.world_model.specs.Settling.{Round, with_offered, after_offer, after_offers, with_beat, after_beat, offers_made, round_of, rounds_within, most_rounds, world_settled}
+use Rattle.world_model.specs.World.{PlainWorld, size_of, replica_of, with_state, with_sent, with_all_sent, local_at, beat_at, offer_at, sent_message, give_of, give_at}
 use Rattle.world_model.specs.Honest.{delivered_by}
 use Rattle.world_model.proofs.Worlds.{replica_here, replica_there}
-use Rattle.world_model.specs.Commands.{WorldCommand, CanRun, after_command}
 use Rattle.std.proofs.lemmas.List.FromFn.{get_or-range_with_len, length-range_with_len}
-use Rattle.world_model.specs.Commands as world_command
 
 -- ---- what is delivered comes at the end
 
@@ -29,7 +28,7 @@ use Rattle.world_model.specs.Commands as world_command
 abbrev pub Grows : List Message → List Message → Type 0
 Grows ms after = (rest : List Message) × (after ≡ ms ++ rest)
 
-grows_not : (ms : List Message) → Grows ms ms
+pub grows_not : (ms : List Message) → Grows ms ms
 grows_not ms = ([], sym (append-nil ms))
 
 grows_twice : (a b c : List Message) → Grows a b → Grows b c → Grows a c
@@ -60,7 +59,7 @@ offered_grows w o (m ∷ ms) = grows_twice o.state.history.present.messages (off
 -- ---- in a world, at replica r
 
 module _ (r : ℕ) where
-  abbrev GrowsAt : PlainWorld → PlainWorld → Type 0
+  abbrev pub GrowsAt : PlainWorld → PlainWorld → Type 0
   GrowsAt world after = Grows (delivered_by world r) (delivered_by after r)
 
   at_twice : (a b c : PlainWorld) → GrowsAt a b → GrowsAt b c → GrowsAt a c
@@ -132,16 +131,26 @@ module _ (r : ℕ) where
   offering_grows : (world : PlainWorld) (q : ℕ) (m : Message) → q < size_of world → GrowsAt world (offer_at q m world).1
   offering_grows world q m l = state_grows world q (receive_rule world.w m (replica_of world q)).1 l (received_grows world.w (replica_of world q) m)
 
-  pub command_grows : (world : PlainWorld) (command : WorldCommand) → CanRun world command → GrowsAt world (after_command world command)
-  command_grows world (world_command.sends_at q update) can = all_sent_grows world q (local_messages (local_at q update world).0) can.0
-  command_grows world (world_command.beats_at q) can = all_sent_grows world q (beat_messages (beat_at q world).0) can
-  command_grows world (world_command.gives q k seq) can = by (sent_message world k seq) where
+  pub sending_grows : (world : PlainWorld) (q : ℕ) (update : Update) → q < size_of world → GrowsAt world (local_at q update world).1
+  sending_grows world q update l = all_sent_grows world q (local_messages (local_at q update world).0) l
+
+  pub beating_grows : (world : PlainWorld) (q : ℕ) → q < size_of world → GrowsAt world (beat_at q world).1
+  beating_grows world q l = all_sent_grows world q (beat_messages (beat_at q world).0) l
+
+  pub giving_grows : (world : PlainWorld) (q k seq : ℕ) → q < size_of world → GrowsAt world (give_at q k seq world).1
+  giving_grows world q k seq l = by (sent_message world k seq) where
     by : (found : Option Message) → GrowsAt world (give_of q world found).1
     by None = grows_not (delivered_by world r)
-    by (Some m) = offering_grows world q m can
-  command_grows world (world_command.resends q k) can = offered_between_grows world q k can
-  command_grows world (world_command.raws q bytes) can = by (read_at world q bytes) where
+    by (Some m) = offering_grows world q m l
+
+  pub resending_grows : (world : PlainWorld) (q k : ℕ) → q < size_of world → GrowsAt world (resend_at q k world).1
+  resending_grows world q k l = offered_between_grows world q k l
+
+  pub rawing_grows : (world : PlainWorld) (q : ℕ) (bytes : List ℕ) → q < size_of world → GrowsAt world (raw_at q bytes world).1
+  rawing_grows world q bytes l = by (read_at world q bytes) where
     by : (read : Result Message _) → GrowsAt world (raw_of q world read).1
-    by (Ok m) = offering_grows world q m can.0
+    by (Ok m) = offering_grows world q m l
     by (Err fault) = grows_not (delivered_by world r)
-  command_grows world world_command.settles can = rounds_grow (most_rounds world) world
+
+  pub settling_grows : (world : PlainWorld) → GrowsAt world (world_settled world)
+  settling_grows world = rounds_grow (most_rounds world) world

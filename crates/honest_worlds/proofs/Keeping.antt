@@ -1,40 +1,37 @@
 -- One replica of an honest world changes: it stays honest where the replica receives what was sent, or sends by the rule.
-use Rattle.std.proofs.Common.{◌≡◌, ◌≢◌, ℕ, ◌<◌, ◌↔◌, All, true, Contains, List, [], ◌∷◌, ◌++◌, length, refl, sym, ap, subst, ◌∙◌, inl, inr, arith}
+use Rattle.std.proofs.Common.{◌≡◌, ◌≢◌, ℕ, ◌<◌, All, true, Contains, List, [], ◌∷◌, ◌++◌, length, refl, sym, ap, subst, ◌∙◌, inl, inr, arith, length-set}
 use Rattle.std.specs.List.{fold}
 use Rattle.std.proofs.lemmas.Bool.{cases_eq}
 use Rattle.std.proofs.lemmas.List.Elements.{All-head, All-tail, All-nil, All-push, All-weaker, All-append, Contains-append_left, Contains-push}
 use Rattle.op_base.specs.declared.message.Message.{Message}
 use Rattle.op_base.specs.declared.outcome.Step.{Step}
-use Rattle.causal_model.specs.History.{Event, events_from}
 use Rattle.causal_model.specs.State.{with_own, State}
 use Rattle.causal_model.specs.Receiving.{steps_of, receive_rule}
 use Rattle.causal_model.specs.Sending.{KeepsRule}
 use Rattle.causal_model.specs.declared.outcome.Beat.TheVariants as beat
-use Rattle.world_model.specs.Honest.{IsSentMessage, past_events, IsHonest, KeepsHonest, history_of, delivered_by}
+use Rattle.world_model.specs.Honest.{IsSentMessage, IsHonest, KeepsHonest, history_of, delivered_by}
 use Rattle.world_model.specs.Offering.{Offered, none_offered, offered_more, outbox_in, offered_between, resend_at}
 use Rattle.world_model.specs.World.{PlainWorld, size_of, replica_of, sent_by, with_state, with_sent, beat_at, offer_at}
-use Rattle.world_model.specs.Worlds.{IsWorld, KeepsWorld}
+use Rattle.world_model.specs.Worlds.{KeepsWorld}
 use Rattle.world_model.proofs.Commands.{outbox_is_offered, beat_is_sent}
 use Rattle.world_model.proofs.Received.{receives}
 use Rattle.world_model.proofs.Sends.{IsGiven, noop_is_given}
 use Rattle.world_model.proofs.Worlds.{replica_here, replica_there, sent_here, sent_there, state_changes}
+use Rattle.honest_worlds.proofs.Epochs.{HaveOnePast, pasts_stay}
 use Rattle.honest_worlds.proofs.SentMessages.{sent_fits, outbox_was_sent}
 use Rattle.honest_worlds.proofs.OnlySent.{keeps_rule-push, HasOnlySent, replica_has_only_sent, IsReceived, receives_sent}
 use Rattle.world_model.specs.Settling.{is_delivery}
 
--- ---- the past
-
--- replicas of one epoch have no past
-pub no_past : (world : PlainWorld) → IsWorld world → (r q : ℕ) → r < size_of world → q < size_of world → (e : Event)
-    → (Contains (past_events (history_of world r)) e ↔ Contains (past_events (history_of world q)) e)
-no_past world is r q l k e =
-    let none : (x : ℕ) → x < size_of world → past_events (history_of world x) ≡ [] = λ x m. ap (events_from 0) (is.replicas x m).past in
-    let same : past_events (history_of world r) ≡ past_events (history_of world q) = none r l ∙ sym (none q k) in
-    (λ has. subst (λ es. Contains es e) same has, λ has. subst (λ es. Contains es e) (sym same) has)
-
 -- ---- one replica is changed
 
 module _ (world : PlainWorld) (r : ℕ) (honest : IsHonest world) (l : r < size_of world) where
+  -- where no epoch ends at the replica, one past stays
+  one_past_stays : (s : State) → s.history.past ≡ (replica_of world r).history.past → HaveOnePast (with_state world r s)
+  one_past_stays s same = pasts_stay world (with_state world r s) honest (length-set world.replicas r s) (λ q. elim (cases_eq q r) [
+    | inl e ↦ subst (λ y. (history_of (with_state world r s) y).past ≡ (history_of world y).past) (sym e) (ap (λ g. g.history.past) (replica_here world r l s) ∙ same)
+    | inr ne ↦ ap (λ g. g.history.past) (replica_there world r l s q ne)
+  ])
+
   -- a replica comes to a state by messages that were sent
   pub sent_state_keeps_honest : (s : State) → HasOnlySent world r s → KeepsWorld world (with_state world r s) → KeepsHonest world (with_state world r s)
   sent_state_keeps_honest s fed kept =
@@ -56,7 +53,7 @@ module _ (world : PlainWorld) (r : ℕ) (honest : IsHonest world) (l : r < size_
             | inl e ↦ subst (λ y. All (IsSentMessage after) (replica_of after y).early) (sym e) (subst (λ g. All (IsSentMessage after) g.early) (sym here) fed.early)
             | inr ne ↦ subst (λ g. All (IsSentMessage after) g.early) (sym (there q ne)) (honest.early q (back q k))
           ];
-          one_past = no_past after kept.is_world;
+          one_past = one_past_stays s fed.past;
         },
         kept,
       )
@@ -90,7 +87,7 @@ module _ (world : PlainWorld) (r : ℕ) (honest : IsHonest world) (l : r < size_
             | inl e ↦ subst (λ y. All (IsSentMessage after) (replica_of after y).early) (sym e) (subst (λ g. All (IsSentMessage after) g.early) (sym here) (all (replica_of world r).early (honest.early r l)))
             | inr ne ↦ subst (λ g. All (IsSentMessage after) g.early) (sym (there q ne)) (all (replica_of world q).early (honest.early q (back q k)))
           ];
-          one_past = no_past after kept.is_world;
+          one_past = one_past_stays s refl;
         },
         kept,
       )

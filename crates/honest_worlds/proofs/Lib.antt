@@ -5,11 +5,13 @@ pub mod Noops
 pub mod SentMessages
 pub mod Beats
 pub mod OnlySent
+pub mod Epochs
 pub mod Keeping
 pub mod Missing
 pub mod StillRounds
 pub mod Everywhere
 pub mod Settling
+pub mod Regrouping
 pub mod Commands
 pub mod EventOrders
 pub mod Growing

@@ -54,6 +54,7 @@ pub record HasOnlySent (world : PlainWorld) (r : ℕ) (s : State) : Type 0 where
   pub is_state : IsState world.w world.limit s
   pub of_store : s.history.present.n ≡ size_of world
   pub of_member : s.history.present.me ≡ r
+  pub past : s.history.past ≡ (replica_of world r).history.past
   pub rule : KeepsRule (size_of world) world.w world.limit r s.history.present.messages
   pub delivered : All (IsSentMessage world) s.history.present.messages
   pub early : All (IsSentMessage world) s.early
@@ -61,7 +62,7 @@ pub record HasOnlySent (world : PlainWorld) (r : ℕ) (s : State) : Type 0 where
 pub replica_has_only_sent : (world : PlainWorld) (r : ℕ) → IsHonest world → r < size_of world → HasOnlySent world r (replica_of world r)
 replica_has_only_sent world r honest l =
     let replica = honest.is_world.replicas r l in
-    record { is_state = replica.is_state; of_store = replica.of_store; of_member = replica.of_member; rule = honest.by_rule r l; delivered = honest.delivered r l; early = honest.early r l }
+    record { is_state = replica.is_state; of_store = replica.of_store; of_member = replica.of_member; past = refl; rule = honest.by_rule r l; delivered = honest.delivered r l; early = honest.early r l }
 
 is_none_of : {X : Type 0} (o : Option X) → is_none o ≡ true → o ≡ None
 is_none_of None t = refl
@@ -104,6 +105,7 @@ module _ (world : PlainWorld) (honest : IsHonest world) (r : ℕ) (l : r < size_
         is_state = step_keeps_state world.w world.limit s m fed.is_state next;
         of_store = fed.of_store;
         of_member = fed.of_member;
+        past = fed.past;
         rule = subst (KeepsRule (size_of world) world.w world.limit r) (sym more) (keeps_rule-push (size_of world) world.w world.limit r messages m fed.rule (λ e. absurd (t.other e)));
         delivered = subst (All (IsSentMessage world)) (sym more) (All-push (IsSentMessage world) messages m fed.delivered (All-contains (IsSentMessage world) s.early m fed.early t.there));
         early = All-filter (λ e. not (has_id (id_of m) e)) (IsSentMessage world) s.early fed.early;
@@ -137,6 +139,7 @@ module _ (world : PlainWorld) (honest : IsHonest world) (r : ℕ) (l : r < size_
     is_state = accept_keeps_state world.w world.limit s m fed.is_state (subst (λ k. IsTrue (fits k m)) (sym fed.of_store) fit) carried parts.new parts.apart parts.near;
     of_store = fed.of_store;
     of_member = fed.of_member;
+    past = fed.past;
     rule = fed.rule;
     delivered = fed.delivered;
     early = All-put_early (IsSentMessage world) m s.early sent fed.early;

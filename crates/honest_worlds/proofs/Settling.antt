@@ -1,52 +1,34 @@
 -- Settling brings every message of an honest world everywhere.
-use Rattle.std.proofs.Common.{◌≡◌, ℕ, zero, suc, ◌+◌, ◌<◌, ◌≤◌, Bool, true, false, not, Contains, length, get_or, refl, sym, ap, subst, ◌∙◌, inl, inr, if◌then◌else◌, arith}
+use Rattle.std.proofs.Common.{◌≡◌, ℕ, zero, suc, ◌+◌, ◌<◌, ◌≤◌, Bool, true, false, not, Contains, get_or, refl, sym, ap, subst, ◌∙◌, if◌then◌else◌, arith}
 use Rattle.std.specs.List.{filter}
 use Rattle.std.proofs.lemmas.Bool.{and_from, both_ways, not-true, not_from_false, false_from_ne_true}
 use Rattle.std.proofs.lemmas.Grind.{same_number_lists}
-use Rattle.std.proofs.lemmas.List.Elements.{All-from_get_or, All-contains, All-contains_itself, All-filter, Contains-append_left, Contains-append_right, Contains-append_cases, filter_passes}
+use Rattle.std.proofs.lemmas.List.Elements.{All-from_get_or, All-contains, All-contains_itself, All-filter, filter_passes}
 use Rattle.std.proofs.lemmas.List.Sums.{list_all-from_AllPass}
 use Rattle.op_base.specs.Message.{number}
 use Rattle.op_base.specs.declared.message.Message.{Message}
 use Rattle.causal_model.specs.Counts.{count_of, counts}
-use Rattle.causal_model.specs.History.{Event, epoch_of, events, events_from, events_in, is_all_stable}
+use Rattle.causal_model.specs.History.{Event, events, is_all_stable}
 use Rattle.causal_model.specs.State.{start, counted}
 use Rattle.causal_model.specs.Stability.{stable_vector, is_stable, carries_operation}
 use Rattle.causal_model.proofs.Counts.{length-counts, entry-counts}
-use Rattle.causal_model.proofs.Elements.{Contains-map}
 use Rattle.causal_model.proofs.Limits.{numbers_are_counted}
 use Rattle.causal_model.proofs.Regrouping.{regroup_keeps_items}
 use Rattle.world_model.specs.Settling.{round_of, rounds_within, most_rounds, world_settled, is_quiescent}
 use Rattle.world_model.specs.World.{PlainWorld, size_of, replica_of}
-use Rattle.world_model.specs.Worlds.{IsWorld, KeepsWorld}
+use Rattle.world_model.specs.Worlds.{KeepsWorld}
 use Rattle.world_model.specs.Honest.{delivered_by, history_of, IsHonest, KeepsHonest}
 use Rattle.world_model.proofs.Rounds.{total, most_delivered, total_is_bounded, less_is_left}
 use Rattle.world_model.proofs.Shown.{settled_is_equal_counts}
 use Rattle.world_model.proofs.Worlds.{world_keeps_itself, kept_twice}
-use Rattle.honest_worlds.proofs.Lists.{from_map}
 use Rattle.honest_worlds.proofs.Agreeing.{is_there_too}
 use Rattle.honest_worlds.proofs.Shared.{fits_of, chapters_agree}
 use Rattle.honest_worlds.proofs.SentMessages.{chapter_of, are_shared}
-use Rattle.honest_worlds.proofs.Keeping.{no_past}
+use Rattle.honest_worlds.proofs.Epochs.{events_there_too}
 use Rattle.honest_worlds.proofs.StillRounds.{IsHonestRound, round_is_honest}
 use Rattle.honest_worlds.proofs.Everywhere.{count_is_most, all_are_everywhere, operations_are_stable}
 use Rattle.honest_worlds.specs.Laws.{HaveSameEvents, AreBelowLimit, StillRoundSettles, SettlingSettles, SettledLogsAreEmpty, EqualCountsAreEqualEvents, RegroupingIsPossible}
 use Rattle.op_base.specs.Timestamp.{entry}
-
--- replicas of one epoch with the same messages have the same events
-same_events : (world : PlainWorld) → IsWorld world → (r q : ℕ) → r < size_of world → q < size_of world
-    → ((m : Message) → Contains (delivered_by world r) m → Contains (delivered_by world q) m) → (e : Event) → Contains (events (history_of world r)) e → Contains (events (history_of world q)) e
-same_events world is r q l k same e has =
-    let g = history_of world r in
-    let h = history_of world q in
-    let event : Message → Event = λ m. record { epoch = epoch_of g; message = m } in
-    let epochs : epoch_of g ≡ epoch_of h = ap length (is.replicas r l).past ∙ sym (ap length (is.replicas q k).past) in
-    elim (Contains-append_cases (events_from 0 g.past) (events_in (epoch_of g) g.present.messages) e has) [
-      | inl early ↦ Contains-append_left (events_from 0 h.past) (events_in (epoch_of h) h.present.messages) e ((no_past world is r q l k e).0 early)
-      | inr late ↦
-          let m = from_map event g.present.messages e late in
-          Contains-append_right (events_from 0 h.past) (events_in (epoch_of h) h.present.messages) e
-          (subst (λ epoch. Contains (events_in epoch h.present.messages) e) epochs (subst (Contains (events_in (epoch_of g) h.present.messages)) m.1.1 (Contains-map event h.present.messages m.0 (same m.0 m.1.0))))
-    ]
 
 -- ---- after a still round
 
@@ -64,7 +46,8 @@ module _ (world : PlainWorld) (honest : IsHonest world) (still : (round_of world
   have_same_events r q l k e =
       let lr : r < size_of world = omega (arith, l, after.kept.size) in
       let lq : q < size_of world = omega (arith, k, after.kept.size) in
-      (same_events (round_of world).world after.honest.is_world r q l k (everywhere q r lq lr) e, same_events (round_of world).world after.honest.is_world q r k l (everywhere r q lr lq) e)
+      let round = (round_of world).world in
+      (events_there_too round after.honest r q l k e (λ present. everywhere q r lq lr e.message present.there), events_there_too round after.honest q r k l e (λ present. everywhere r q lr lq e.message present.there))
 
   pub counts_are_equal : is_quiescent (round_of world).world ≡ true
   counts_are_equal = (settled_is_equal_counts (round_of world).world).1 (λ r l.
@@ -166,9 +149,11 @@ equal_counts_are_equal_events world honest settled r q l k e = (one r q l k e, o
       sym (entry-counts u (delivered_by world x) y ly) ∙ ap (λ tag. entry tag y) same ∙ entry-counts u (delivered_by world 0) y ly
 
   one : (x y : ℕ) → x < size_of world → y < size_of world → (f : Event) → Contains (events (history_of world x)) f → Contains (events (history_of world y)) f
-  one x y lx ly f = same_events world honest.is_world x y lx ly (λ m has.
+  one x y lx ly f = events_there_too world honest x y lx ly f (λ present.
+      let m = f.message in
+      let has = present.there in
       let u = size_of world in
       let P = delivered_by world in
       let fit = fits_of u world.w P (are_shared world honest) x m lx has in
       is_there_too u world.w y (P x) (P y) (chapter_of world honest y ly) (chapters_agree u world.w P (are_shared world honest) x y lx ly) m has fit.1
-      (omega (arith, All-contains (λ z. number z ≤ count_of (P x) z.origin) (P x) m (numbers_are_counted u world.w x (P x) (chapter_of world honest x lx)) has, count_at x m.origin lx fit.0, count_at y m.origin ly fit.0))) f
+      (omega (arith, All-contains (λ z. number z ≤ count_of (P x) z.origin) (P x) m (numbers_are_counted u world.w x (P x) (chapter_of world honest x lx)) has, count_at x m.origin lx fit.0, count_at y m.origin ly fit.0)))

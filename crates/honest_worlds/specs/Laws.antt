@@ -1,6 +1,5 @@
 -- What holds of honest worlds. Each statement is the contract of a function of laws.rt.
-use Rattle.std.specs.Prelude.{◌≡◌, ◌≢◌, ◌↔◌, ℕ, ◌-◌, ◌*◌, ◌<◌, ◌≤◌, Bool, true, false, ◌&&◌, List, [], ◌++◌, IsTrue, All, Contains}
-use Rattle.std.specs.List.{list_all}
+use Rattle.std.specs.Prelude.{◌≡◌, ◌≢◌, ◌↔◌, ℕ, ◌-◌, ◌*◌, ◌<◌, ◌≤◌, true, false, List, [], ◌++◌, IsTrue, All, Contains}
 use Rattle.op_base.specs.declared.message.Message.{Message}
 use Rattle.causal_model.specs.Log.{log_of}
 use Rattle.causal_model.specs.Chapter.{is_admissible}
@@ -21,9 +20,10 @@ use Rattle.world_model.specs.EventOrder.{IsEvent, IsSentEvent, EventOrder}
 use Rattle.world_model.specs.Honest.{IsSentMessage, history_of, delivered_by, IsHonest, KeepsHonest}
 use Rattle.world_model.specs.Journals.{journal_of, world_of_journals, ends_epoch, is_crook, sent_in, AreJournals}
 use Rattle.world_model.specs.Offering.{offered_between}
+use Rattle.world_model.specs.Regrouping.{is_at_rest, regroup_at}
 use Rattle.world_model.specs.Settling.{is_delivery, round_of, world_settled, is_quiescent}
 use Rattle.world_model.specs.World.{PlainWorld, size_of, opening, beat_at, offer_at}
-use Rattle.world_model.specs.Worlds.{IsWorld, own_of}
+use Rattle.world_model.specs.Worlds.{IsWorld, KeepsStore, own_of}
 
 -- ---- worlds stay honest
 
@@ -34,7 +34,7 @@ OpeningIsHonest = (n w limit : ℕ) → 1 ≤ n → n ≤ 16 → 1 ≤ w → lim
 -- every command but one of bytes keeps it so
 abbrev pub CommandsKeepHonest : Type 0
 CommandsKeepHonest = (world : PlainWorld) (command : WorldCommand) → IsHonest world → CanRun world command → is_raw command ≡ false
-    → KeepsHonest world (after_command world command)
+    → IsHonest (after_command world command) × KeepsStore world (after_command world command)
 
 -- and so does offering any message that was sent
 abbrev pub OfferingSentKeepsHonest : Type 0
@@ -108,12 +108,13 @@ abbrev pub SettledLogsAreEmpty : Type 0
 SettledLogsAreEmpty = (world : PlainWorld) (r : ℕ) → IsHonest world → AreBelowLimit (world_settled world) → r < size_of world
     → IsTrue (is_all_stable (history_of (world_settled world) r).present) × (log_of (history_of (world_settled world) r) ≡ [])
 
--- whether members can change: all counts are equal, and every operation is stable
-abbrev pub can_regroup : PlainWorld → Bool
-can_regroup world = is_quiescent world && list_all (λ s. is_all_stable s.history.present) world.replicas
-
+-- so its members can then change
 abbrev pub RegroupingIsPossible : Type 0
-RegroupingIsPossible = (world : PlainWorld) → IsHonest world → AreBelowLimit (world_settled world) → can_regroup (world_settled world) ≡ true
+RegroupingIsPossible = (world : PlainWorld) → IsHonest world → AreBelowLimit (world_settled world) → is_at_rest (world_settled world) ≡ true
+
+-- a change of members keeps a world honest
+abbrev pub RegroupingKeepsHonest : Type 0
+RegroupingKeepsHonest = (world : PlainWorld) (n : ℕ) → IsHonest world → 1 ≤ n → n ≤ 16 → IsHonest (regroup_at n world).1
 
 -- equal counts are equal events
 abbrev pub EqualCountsAreEqualEvents : Type 0

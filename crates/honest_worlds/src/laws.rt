@@ -1,11 +1,12 @@
 //! Laws of honest worlds. Each is the contract of a function that does nothing.
 
-ghost use Rattle.honest_worlds.specs.Laws.{OpeningIsHonest, CommandsKeepHonest, OfferingSentKeepsHonest, SentIsNear, DeliverableIsAdmissible, StepsDeliver, ResentStepsDeliver, HappenedBeforeIsEventOrder, StableIsCausallyStable, StableIsEverywhere, StillRoundSettles, SettlingSettles, SettledLogsAreEmpty, RegroupingIsPossible, EqualCountsAreEqualEvents, NoBeatIsHeld, NoopsAreFew, SentNotesAreOwn, OthersWereKept, LegalKeepsRule, JournalsAreHonest, JournalsHaveNoCrook};
+ghost use Rattle.honest_worlds.specs.Laws.{OpeningIsHonest, CommandsKeepHonest, OfferingSentKeepsHonest, SentIsNear, DeliverableIsAdmissible, StepsDeliver, ResentStepsDeliver, HappenedBeforeIsEventOrder, StableIsCausallyStable, StableIsEverywhere, StillRoundSettles, SettlingSettles, SettledLogsAreEmpty, RegroupingIsPossible, RegroupingKeepsHonest, EqualCountsAreEqualEvents, NoBeatIsHeld, NoopsAreFew, SentNotesAreOwn, OthersWereKept, LegalKeepsRule, JournalsAreHonest, JournalsHaveNoCrook};
 
 /// A store begins honest, and every command but one of bytes keeps it so.
 pub fn worlds_stay_honest()
     ensures opening { OpeningIsHonest }
     ensures commands { CommandsKeepHonest }
+    ensures regrouping { RegroupingKeepsHonest }
     ensures offering { OfferingSentKeepsHonest }
 {}
 

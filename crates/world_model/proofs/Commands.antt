@@ -35,7 +35,7 @@ use Rattle.world_model.specs.Laws.{SendingKeepsWorld, BeatingKeepsWorld, Offerin
 use Rattle.world_model.specs.Offering.{Offered, none_offered, offered_more, offered, outbox_in, offered_between}
 use Rattle.world_model.specs.Raw.{read_at, raw_of}
 use Rattle.world_model.specs.Settling.{is_delivery}
-use Rattle.world_model.specs.World.{PlainWorld, size_of, replica_of, with_sent, with_all_sent, local_at, beat_at, sent_message, give_of}
+use Rattle.world_model.specs.World.{PlainWorld, size_of, epoch_in, replica_of, with_sent, with_all_sent, local_at, beat_at, sent_message, give_of}
 use Rattle.world_model.specs.Worlds.{IsWorld, KeepsWorld}
 use Rattle.world_model.proofs.Received.{IsLater, later_twice, is_as_before, receives}
 use Rattle.world_model.proofs.Sends.{update_is_given, noop_is_given, sent_is_replica}
@@ -92,21 +92,21 @@ giving_keeps_world world r k seq is l = by (sent_message world k seq) refl where
 -- ---- an outbox
 
 -- messages that fit and can be carried, offered one after the other
-module _ (n w limit r : ℕ) (s : State) where
+module _ {epoch : ℕ} (n w limit r : ℕ) (s : State) where
   pub offers_keep : (o : Offered) (ms : List Message) → All (λ m. IsTrue (fits n m)) ms → All (λ m. IsTrue (is_carried limit m)) ms
-      → IsLater n w limit r s (list_any is_delivery o.steps) o.state
-      → IsLater n w limit r s (list_any is_delivery (fold (offered_more w) o ms).steps) (fold (offered_more w) o ms).state
+      → IsLater n w limit epoch r s (list_any is_delivery o.steps) o.state
+      → IsLater n w limit epoch r s (list_any is_delivery (fold (offered_more w) o ms).steps) (fold (offered_more w) o ms).state
   offers_keep o [] fit carried is = is
   offers_keep o (m ∷ ms) fit carried is =
       let got = receive_rule w m o.state in
       let next = receives n w limit r o.state is.is_replica m (All-head (λ y. IsTrue (fits n y)) m ms fit) (All-head (λ y. IsTrue (is_carried limit y)) m ms carried) in
       let both = later_twice n w limit r s o.state got.1 (list_any is_delivery o.steps) (list_any is_delivery (steps_of got.0)) is next in
       offers_keep (offered_more w o m) ms (All-tail (λ y. IsTrue (fits n y)) m ms fit) (All-tail (λ y. IsTrue (is_carried limit y)) m ms carried)
-      (subst (λ b. IsLater n w limit r s b got.1) (sym (list_any-append is_delivery o.steps (steps_of got.0))) both)
+      (subst (λ b. IsLater n w limit epoch r s b got.1) (sym (list_any-append is_delivery o.steps (steps_of got.0))) both)
 
 -- what an outbox makes of a replica to which it is offered
 pub outbox_is_offered : (world : PlainWorld) (r k : ℕ) → IsWorld world → r < size_of world
-    → IsLater (size_of world) world.w world.limit r (replica_of world r) (list_any is_delivery (offered_between world r k).steps) (offered_between world r k).state
+    → IsLater (size_of world) world.w world.limit (epoch_in world) r (replica_of world r) (list_any is_delivery (offered_between world r k).steps) (offered_between world r k).state
 outbox_is_offered world r k is l =
     let n = size_of world in
     let before = is_as_before n world.w world.limit r (replica_of world r) (is.replicas r l) in
@@ -121,7 +121,7 @@ outbox_is_offered world r k is l =
           offers_keep n world.w world.limit r (replica_of world r) (none_offered (replica_of world r)) (outbox_in s) fit carried before
       | inr past ↦
           let nothing : outbox_in (replica_of world k) ≡ [] = ap outbox_in (get_or_past world.replicas k (start 0 0) past) in
-          subst (λ ms. IsLater n world.w world.limit r (replica_of world r) (list_any is_delivery (offered world.w (replica_of world r) ms).steps) (offered world.w (replica_of world r) ms).state) (sym nothing) before
+          subst (λ ms. IsLater n world.w world.limit (epoch_in world) r (replica_of world r) (list_any is_delivery (offered world.w (replica_of world r) ms).steps) (offered world.w (replica_of world r) ms).state) (sym nothing) before
     ]
 
 pub resending_keeps_world : ResendingKeepsWorld

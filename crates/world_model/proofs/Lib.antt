@@ -7,3 +7,6 @@ pub mod Commands
 pub mod Rounds
 pub mod Shown
 pub mod Lagging
+pub mod Regrouping
+pub mod Still
+pub mod Growing

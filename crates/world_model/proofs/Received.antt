@@ -79,35 +79,35 @@ steps_make w limit (suc most) s is = by (steps_make w limit most) (next_of s) re
 -- ---- receiving
 
 -- what a replica is after receiving, which delivered a message or not
-pub record IsLater (n w limit r : ℕ) (s : State) (delivered : Bool) (after : State) : Type 0 where
-  pub is_replica : IsReplica n w limit r after
+pub record IsLater (n w limit epoch r : ℕ) (s : State) (delivered : Bool) (after : State) : Type 0 where
+  pub is_replica : IsReplica n w limit epoch r after
   pub own : own_of after ≡ own_of s
   pub more : length_of s + cond delivered 1 0 ≤ length_of after
 
-pub later_twice : (n w limit r : ℕ) (s middle after : State) (a b : Bool) → IsLater n w limit r s a middle → IsLater n w limit r middle b after → IsLater n w limit r s (a || b) after
+pub later_twice : {epoch : ℕ} (n w limit r : ℕ) (s middle after : State) (a b : Bool) → IsLater n w limit epoch r s a middle → IsLater n w limit epoch r middle b after → IsLater n w limit epoch r s (a || b) after
 later_twice n w limit r s middle after a b first second =
     record { is_replica = second.is_replica; own = second.own ∙ first.own; more = omega (arith, first.more, second.more, at_most_both a b) }
 
-module _ (n w limit r : ℕ) (s : State) (is : IsReplica n w limit r s) where
-  pub is_as_before : IsLater n w limit r s false s
+module _ {epoch : ℕ} (n w limit r : ℕ) (s : State) (is : IsReplica n w limit epoch r s) where
+  pub is_as_before : IsLater n w limit epoch r s false s
   is_as_before = record { is_replica = is; own = refl; more = omega arith }
 
   pub receives : (m : Message) → IsTrue (fits n m) → IsTrue (is_carried limit m)
-      → IsLater n w limit r s (list_any is_delivery (steps_of (receive_rule w m s).0)) (receive_rule w m s).1
+      → IsLater n w limit epoch r s (list_any is_delivery (steps_of (receive_rule w m s).0)) (receive_rule w m s).1
   receives m fit carried = by (refusal_of w s m) refl where
-    by : (o : Option Refusal) → refusal_of w s m ≡ o → IsLater n w limit r s (list_any is_delivery (steps_of (receive_by w m s o).0)) (receive_by w m s o).1
-    by (Some why) e = subst (λ made. IsLater n w limit r s (list_any is_delivery made) s) (sym (steps_of_refused why)) is_as_before
+    by : (o : Option Refusal) → refusal_of w s m ≡ o → IsLater n w limit epoch r s (list_any is_delivery (steps_of (receive_by w m s o).0)) (receive_by w m s o).1
+    by (Some why) e = subst (λ made. IsLater n w limit epoch r s (list_any is_delivery made) s) (sym (steps_of_refused why)) is_as_before
     by None e =
         let parts = unrefused w s m e in
         let g = with_early s m in
         let early = accept_keeps_state w limit s m is.is_state (subst (λ k. IsTrue (fits k m)) (sym is.of_store) fit) carried parts.new parts.apart parts.near in
         let stepped = steps_make w limit (length g.early) g early in
-        subst (λ made. IsLater n w limit r s (list_any is_delivery made) (steps w g).1) (sym (steps_of_accepted (steps w g).0)) (record {
+        subst (λ made. IsLater n w limit epoch r s (list_any is_delivery made) (steps w g).1) (sym (steps_of_accepted (steps w g).0)) (record {
           is_replica = record {
             is_state = stepped.is_state;
             of_store = stepped.of_store ∙ is.of_store;
             of_member = stepped.of_member ∙ is.of_member;
-            past = stepped.past ∙ is.past;
+            in_epoch = ap length stepped.past ∙ is.in_epoch;
             none_is_next = none_is_next_after_steps w g;
           };
           own = stepped.own;

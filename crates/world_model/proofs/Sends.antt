@@ -37,7 +37,7 @@ pub record IsGiven (n w limit me : ℕ) (messages : List Message) (m : Message) 
   pub own : m.origin ≡ me
   pub by_rule : RuleGives n w limit me messages m m.op
 
-module _ (n w limit me : ℕ) (s : State) (m : Message) (is : IsReplica n w limit me s) where
+module _ {epoch : ℕ} (n w limit me : ℕ) (s : State) (m : Message) (is : IsReplica n w limit epoch me s) where
   -- the rule at a replica's state is that of its member
   rule_gives : (o : Op) → RuleGives s.history.present.n w limit s.history.present.me s.history.present.messages m o → m ≡ own_message s.history.present.n s.history.present.me s.history.present.messages o
       → IsGiven n w limit me s.history.present.messages m
@@ -56,7 +56,7 @@ module _ (n w limit me : ℕ) (s : State) (m : Message) (is : IsReplica n w limi
   noop_is_given e = rule_gives op.NoOp e (noop_is_own s.history.present.n w limit s.history.present.me s.history.present.messages m e)
 
   -- with the message that it sent it is a replica
-  pub sent_is_replica : IsGroup w limit s (Sent m ∷ []) → IsReplica n w limit me (with_own s m)
+  pub sent_is_replica : IsGroup w limit s (Sent m ∷ []) → IsReplica n w limit epoch me (with_own s m)
   sent_is_replica group =
       let kept = group_keeps_state w limit s (Sent m ∷ []) is.is_state is.none_is_next group in
-      record { is_state = kept.0; of_store = is.of_store; of_member = is.of_member; past = is.past; none_is_next = kept.1 }
+      record { is_state = kept.0; of_store = is.of_store; of_member = is.of_member; in_epoch = is.in_epoch; none_is_next = kept.1 }

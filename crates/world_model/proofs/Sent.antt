@@ -18,7 +18,7 @@ use Rattle.world_model.specs.Worlds.{IsReplica, own_of, IsWorld}
 use Rattle.world_model.proofs.Messages.{AreNumbered, chapter_fits, own_are_numbered, found_by_number}
 
 -- what the messages of a replica are
-module _ (n w limit r : ℕ) (s : State) (is : IsReplica n w limit r s) where
+module _ {epoch : ℕ} (n w limit r : ℕ) (s : State) (is : IsReplica n w limit epoch r s) where
   pub is_replicas_chapter : IsTrue (is_chapter n w r s.history.present.messages)
   is_replicas_chapter =
       let t = (IsHistory-from_test w s.history is.is_state.is_history).chapter in

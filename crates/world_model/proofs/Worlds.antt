@@ -4,10 +4,11 @@ use Rattle.std.proofs.lemmas.Bool.{cases_eq, cond-true, eq-eqb}
 use Rattle.std.proofs.lemmas.List.Elements.{filter-append}
 use Rattle.std.proofs.lemmas.List.FromFn.{length-map-range_with_len, get_or-map-range_with_len}
 use Rattle.op_base.specs.declared.message.Message.{Message}
+use Rattle.causal_model.specs.History.{epoch_of}
 use Rattle.causal_model.specs.State.{with_own, State, start}
 use Rattle.causal_model.proofs.States.{start_is_state}
 use Rattle.world_model.specs.Laws.{OpeningIsWorld, OpeningHasSize}
-use Rattle.world_model.specs.World.{PlainWorld, size_of, opening, replica_of, sent_by, with_state, with_sent}
+use Rattle.world_model.specs.World.{PlainWorld, size_of, epoch_in, opening, replica_of, sent_by, with_state, with_sent}
 use Rattle.world_model.specs.Worlds.{IsReplica, own_of, IsWorld, KeepsWorld}
 
 -- ---- the first world
@@ -27,11 +28,11 @@ opening_is_world n w limit some few wide most =
       wide = wide;
       most = most;
       of_each = length-map-range_with_len (λ me. []) 0 n ∙ sym size;
-      replicas = λ r l. subst (IsReplica (size_of world) w limit r) (sym (replica r l)) (subst (λ k. IsReplica k w limit r (start n r)) (sym size) (record {
+      replicas = λ r l. subst (IsReplica (size_of world) w limit (epoch_in world) r) (sym (replica r l)) (subst (λ k. IsReplica k w limit (epoch_in world) r (start n r)) (sym size) (record {
         is_state = start_is_state n w limit r few (omega (arith, l, size));
         of_store = refl;
         of_member = refl;
-        past = refl;
+        in_epoch = sym (ap (λ s. epoch_of s.history) (replica 0 (omega (arith, some, size))));
         none_is_next = refl;
       }));
       sent = λ r l. empty r l ∙ sym (ap own_of (replica r l));
@@ -54,12 +55,12 @@ module _ (world : PlainWorld) (r : ℕ) (l : r < size_of world) where
   sent_there m q ne = get_or-set_other world.sent r q (sent_by world r ++ m ∷ []) [] ne
 
 pub world_keeps_itself : (world : PlainWorld) → IsWorld world → KeepsWorld world world
-world_keeps_itself world is = record { is_world = is; size = refl; w = refl; limit = refl }
+world_keeps_itself world is = record { is_world = is; size = refl; epoch = refl; w = refl; limit = refl }
 
 pub kept_twice : (a b c : PlainWorld) → KeepsWorld a b → KeepsWorld b c → KeepsWorld a c
-kept_twice a b c first second = record { is_world = second.is_world; size = second.size ∙ first.size; w = second.w ∙ first.w; limit = second.limit ∙ first.limit }
+kept_twice a b c first second = record { is_world = second.is_world; size = second.size ∙ first.size; epoch = second.epoch ∙ first.epoch; w = second.w ∙ first.w; limit = second.limit ∙ first.limit }
 
-module _ (world : PlainWorld) (r : ℕ) (s : State) (is : IsWorld world) (l : r < size_of world) (replica : IsReplica (size_of world) world.w world.limit r s) where
+module _ (world : PlainWorld) (r : ℕ) (s : State) (is : IsWorld world) (l : r < size_of world) (replica : IsReplica (size_of world) world.w world.limit (epoch_in world) r s) where
   -- a replica comes to a state, and the lists of sent messages to others that are its and the others' own ones
   replica_changes : (sent : List (List Message)) → length sent ≡ size_of world → get_or sent r [] ≡ own_of s → ((q : ℕ) → q ≢ r → get_or sent q [] ≡ sent_by world q)
       → KeepsWorld world (record { w = world.w; limit = world.limit; replicas = set world.replicas r s; sent = sent })
@@ -68,6 +69,10 @@ module _ (world : PlainWorld) (r : ℕ) (s : State) (is : IsWorld world) (l : r 
       let size : size_of after ≡ size_of world = length-set world.replicas r s in
       let here : replica_of after r ≡ s = replica_here world r l s in
       let there : (q : ℕ) → q ≢ r → replica_of after q ≡ replica_of world q = replica_there world r l s in
+      let epoch : epoch_in after ≡ epoch_in world = elim (cases_eq 0 r) [
+        | inl e ↦ ap (λ y. epoch_of (replica_of after y).history) e ∙ ap (λ g. epoch_of g.history) here ∙ replica.in_epoch
+        | inr ne ↦ ap (λ g. epoch_of g.history) (there 0 ne)
+      ] in
       record {
         is_world = record {
           some = omega (arith, size, is.some);
@@ -75,16 +80,17 @@ module _ (world : PlainWorld) (r : ℕ) (s : State) (is : IsWorld world) (l : r 
           wide = is.wide;
           most = is.most;
           of_each = of_each ∙ sym size;
-          replicas = λ q k. subst (λ n. IsReplica n world.w world.limit q (replica_of after q)) (sym size) (elim (cases_eq q r) [
-            | inl e ↦ subst (λ y. IsReplica (size_of world) world.w world.limit y (replica_of after y)) (sym e) (subst (IsReplica (size_of world) world.w world.limit r) (sym here) replica)
-            | inr ne ↦ subst (IsReplica (size_of world) world.w world.limit q) (sym (there q ne)) (is.replicas q (omega (arith, k, size)))
-          ]);
+          replicas = λ q k. subst (λ n. IsReplica n world.w world.limit (epoch_in after) q (replica_of after q)) (sym size) (subst (λ epoch. IsReplica (size_of world) world.w world.limit epoch q (replica_of after q)) (sym epoch) (elim (cases_eq q r) [
+            | inl e ↦ subst (λ y. IsReplica (size_of world) world.w world.limit (epoch_in world) y (replica_of after y)) (sym e) (subst (IsReplica (size_of world) world.w world.limit (epoch_in world) r) (sym here) replica)
+            | inr ne ↦ subst (IsReplica (size_of world) world.w world.limit (epoch_in world) q) (sym (there q ne)) (is.replicas q (omega (arith, k, size)))
+          ]));
           sent = λ q k. elim (cases_eq q r) [
             | inl e ↦ subst (λ y. sent_by after y ≡ own_of (replica_of after y)) (sym e) (own ∙ sym (ap own_of here))
             | inr ne ↦ others q ne ∙ is.sent q (omega (arith, k, size)) ∙ sym (ap own_of (there q ne))
           ];
         };
         size = size;
+        epoch = epoch;
         w = refl;
         limit = refl;
       }
@@ -99,7 +105,7 @@ own_of_more s m own =
     filter-append (λ e. e.origin == s.history.present.me) s.history.present.messages (m ∷ [])
     ∙ ap (λ ms. own_of s ++ ms) (cond-true (m.origin == s.history.present.me) (m ∷ []) [] (eq-eqb m.origin s.history.present.me own))
 
-pub message_is_sent : (world : PlainWorld) (r : ℕ) (m : Message) → IsWorld world → r < size_of world → IsReplica (size_of world) world.w world.limit r (with_own (replica_of world r) m) → m.origin ≡ r → KeepsWorld world (with_sent world r m)
+pub message_is_sent : (world : PlainWorld) (r : ℕ) (m : Message) → IsWorld world → r < size_of world → IsReplica (size_of world) world.w world.limit (epoch_in world) r (with_own (replica_of world r) m) → m.origin ≡ r → KeepsWorld world (with_sent world r m)
 message_is_sent world r m is l replica own =
     let sent = set world.sent r (sent_by world r ++ m ∷ []) in
     let me : m.origin ≡ (replica_of world r).history.present.me = own ∙ sym (is.replicas r l).of_member in

@@ -34,6 +34,6 @@ pub record IsHonest (world : PlainWorld) : Type 0 where
   pub one_past : (r q : ℕ) → r < size_of world → q < size_of world → (e : Event)
       → (Contains (past_events (history_of world r)) e ↔ Contains (past_events (history_of world q)) e)
 
--- the world after a command is an honest world of the same store
+-- the world after a command is an honest world of the same members, in the same epoch
 abbrev pub KeepsHonest : PlainWorld → PlainWorld → Type 0
 KeepsHonest world after = IsHonest after × KeepsWorld world after

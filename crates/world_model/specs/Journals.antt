@@ -1,9 +1,10 @@
 -- The plain world that journals give, and which journals can be those of one store.
-use Rattle.std.specs.Prelude.{◌≡◌, ℕ, ◌<◌, Bool, true, false, List, [], ◌∷◌, map, All, Contains}
+use Rattle.std.specs.Prelude.{◌≡◌, ℕ, ◌<◌, Bool, true, false, List, [], ◌∷◌, ◌++◌, length, map, All, Contains}
 use Rattle.std.specs.List.{slice_index_or}
 use Rattle.op_base.specs.declared.message.Message.{Message}
 use Rattle.causal_model.specs.Counts.{members}
 use Rattle.causal_model.specs.Journal.{replay, IsLegal}
+use Rattle.causal_model.specs.Stability.{carries_operation}
 use Rattle.causal_model.specs.declared.note.Note.{Note}
 use Rattle.causal_model.specs.declared.note.Note.TheVariants.{Sent, Kept, Crook, Regroup}
 use Rattle.world_model.specs.World.{PlainWorld}
@@ -42,3 +43,29 @@ pub record AreJournals (n w limit : ℕ) (journals : List (List Note)) : Type 0 
   pub legal : (r : ℕ) → r < n → IsLegal n w limit r (journal_of journals r)
   pub one_epoch : (r : ℕ) → r < n → All (λ note. ends_epoch note ≡ false) (journal_of journals r)
   pub kept : (r : ℕ) (m : Message) → r < n → Contains (journal_of journals r) (Kept m) → Contains (journal_of journals m.origin) (Sent m)
+
+-- ---- journals that grow while no update is sent
+
+-- a note keeps a message that stands as sent in the journal of its origin
+abbrev pub KeepsSent : List (List Note) → Note → Type 0
+KeepsSent journals (Kept m) = Contains (journal_of journals m.origin) (Sent m)
+KeepsSent journals note = Unit {0}
+
+-- whether a note sends an update
+abbrev pub sends_update : Note → Bool
+sends_update (Sent m) = carries_operation m.op
+sends_update note = false
+
+-- A member's journal has more notes behind its former ones: none ends an epoch or sends an update, and what they keep was sent.
+-- Where it was sent isn't told.
+pub record HasMore (old new : List (List Note)) (r : ℕ) : Type 0 where
+  pub more : List Note
+  pub grows : journal_of new r ≡ journal_of old r ++ more
+  pub sent : ∥ All (KeepsSent new) more ∥₁
+  pub one_epoch : All (λ note. ends_epoch note ≡ false) more
+  pub noops : All (λ note. sends_update note ≡ false) more
+
+-- so have all
+pub record HaveGrown (old new : List (List Note)) : Type 0 where
+  pub of_each : length new ≡ length old
+  pub each : (r : ℕ) → HasMore old new r

@@ -1,5 +1,5 @@
 -- What holds of plain worlds. Each statement is the contract of a function of laws.rt.
-use Rattle.std.specs.Prelude.{◌≡◌, ◌≢◌, ◌↔◌, ℕ, ◌+◌, ◌<◌, ◌≤◌, ◌==◌, ◌-◌, List, [], length, slice_get, Some, None, true, false, IsTrue, All, if◌then◌else◌}
+use Rattle.std.specs.Prelude.{◌≡◌, ◌≢◌, ◌↔◌, ℕ, ◌+◌, ◌<◌, ◌≤◌, ◌==◌, ◌-◌, List, [], length, nat_lt, slice_get, Some, None, true, false, IsTrue, All, if◌then◌else◌}
 use Rattle.op_base.specs.Message.{fits}
 use Rattle.op_base.specs.Valid.{is_valid_update}
 use Rattle.op_base.specs.declared.message.Message.{Message}
@@ -7,12 +7,17 @@ use Rattle.op_base.specs.declared.name.ObjectId.{ObjectId}
 use Rattle.op_base.specs.declared.operation.Update.{Update}
 use Rattle.causal_model.specs.Counts.{is_carried, count_of}
 use Rattle.causal_model.specs.History.{SameEvents}
-use Rattle.world_model.specs.World.{PlainWorld, size_of, opening, replica_of, sent_by, local_at, beat_at, offer_at, sent_message, give_at}
+use Rattle.causal_model.specs.Journal.{IsLegal}
+use Rattle.causal_model.specs.declared.note.Note.{Note}
+use Rattle.world_model.specs.Journals.{journal_of, AreJournals, HaveGrown}
+use Rattle.world_model.specs.World.{PlainWorld, size_of, epoch_in, opening, replica_of, sent_by, local_at, beat_at, offer_at, sent_message, give_at}
 use Rattle.world_model.specs.Offering.{outbox_in, resend_at}
 use Rattle.world_model.specs.Raw.{raw_at}
+use Rattle.world_model.specs.Regrouping.{regroup_at}
 use Rattle.world_model.specs.Settling.{round_of, rounds_within, most_rounds, world_settled, is_quiescent}
-use Rattle.world_model.specs.Showing.{answer_at, seen_at, lags_at}
-use Rattle.world_model.specs.Worlds.{IsWorld, KeepsWorld}
+use Rattle.world_model.specs.Showing.{answer_at, log_at, items_at, seen_at, lags_at}
+use Rattle.world_model.specs.declared.outcome.Regroup.TheVariants as regroup
+use Rattle.world_model.specs.Worlds.{IsWorld, KeepsStore, KeepsWorld}
 
 -- ---- worlds
 
@@ -69,6 +74,22 @@ RawingKeepsWorld = (world : PlainWorld) (r : ℕ) (bytes : List ℕ) → IsWorld
 abbrev pub SettlingKeepsWorld : Type 0
 SettlingKeepsWorld = (world : PlainWorld) → IsWorld world → KeepsWorld world (world_settled world)
 
+-- A change of members leaves a world of the same store: of so many members in the next epoch where it ends one, and as it is
+-- else.
+abbrev pub RegroupingKeepsStore : Type 0
+RegroupingKeepsStore = (world : PlainWorld) (n : ℕ) → IsWorld world → 1 ≤ n → n ≤ 16 → KeepsStore world (regroup_at n world).1
+
+abbrev pub NextEpochBegins : Type 0
+NextEpochBegins = (world : PlainWorld) (n epoch : ℕ) → IsWorld world → 1 ≤ n → n ≤ 16 → (regroup_at n world).0 ≡ regroup.Regrouped epoch
+    → (epoch ≡ epoch_in world + 1) × (size_of (regroup_at n world).1 ≡ n) × (epoch_in (regroup_at n world).1 ≡ epoch)
+
+-- A replica that goes on answers each object as it did, and shows as many settled items; one that begins as replica 0 did. No
+-- log has an entry.
+abbrev pub NextEpochShowsTheSame : Type 0
+NextEpochShowsTheSame = (world : PlainWorld) (n epoch r : ℕ) (object : ObjectId) → IsWorld world → 1 ≤ n → n ≤ 16 → r < n → (regroup_at n world).0 ≡ regroup.Regrouped epoch
+    → let from = if nat_lt r (size_of world) then r else 0 in
+    (answer_at (regroup_at n world).1 r object ≡ answer_at world from object) × (items_at (regroup_at n world).1 r ≡ items_at world from) × (log_at (regroup_at n world).1 r ≡ [])
+
 -- ---- settling
 
 -- settling gives what a round that moves nothing gives, of some world of the store
@@ -79,6 +100,10 @@ SettlingEnds = (world : PlainWorld) → IsWorld world
 -- more rounds are not made, however many may be
 abbrev pub MoreRoundsAreNone : Type 0
 MoreRoundsAreNone = (world : PlainWorld) (more : ℕ) → IsWorld world → rounds_within (most_rounds world + more) world ≡ world_settled world
+
+-- where all counts are equal once a world has settled, one more round moves nothing
+abbrev pub SettledIsStill : Type 0
+SettledIsStill = (world : PlainWorld) → IsWorld world → is_quiescent (world_settled world) ≡ true → (round_of (world_settled world)).moved ≡ false
 
 -- a world is settled exactly where all replicas show equal counts
 abbrev pub SettledIsEqualCounts : Type 0
@@ -100,3 +125,14 @@ NoneLagsIsAllStable = (world : PlainWorld) (r : ℕ) → IsWorld world → r < s
 -- one that lags is another member of the store
 abbrev pub LaggingIsAnother : Type 0
 LaggingIsAnother = (world : PlainWorld) (r q : ℕ) → IsWorld world → r < size_of world → lags_at world r ≡ Some q → (q < size_of world) × (q ≢ r)
+
+-- ---- journals
+
+-- journals that have grown twice have grown
+abbrev pub GrowingGoesOn : Type 0
+GrowingGoesOn = (a b c : List (List Note)) → HaveGrown a b → HaveGrown b c → HaveGrown a c
+
+-- and those of one store that have grown are ones of one store, where each is legal
+abbrev pub GrownAreJournals : Type 0
+GrownAreJournals = (n w limit : ℕ) (old new : List (List Note)) → AreJournals n w limit old → HaveGrown old new → ((r : ℕ) → r < n → IsLegal n w limit r (journal_of new r))
+    → ∥ AreJournals n w limit new ∥₁

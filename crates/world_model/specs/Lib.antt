@@ -4,6 +4,7 @@ pub mod Settling
 pub mod Raw
 pub mod Showing
 pub mod Worlds
+pub mod Regrouping
 pub mod Commands
 pub mod Honest
 pub mod EventOrder
@@ -11,3 +12,4 @@ pub mod CausallyStable
 pub mod Journals
 pub mod Laws
 pub mod Worked
+pub mod WorkedEpochs

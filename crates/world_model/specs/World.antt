@@ -6,6 +6,7 @@ use Rattle.op_base.specs.declared.message.Message.{Message}
 use Rattle.op_base.specs.declared.operation.Update.{Update}
 use Rattle.causal_model.specs.Counts.{members}
 use Rattle.causal_model.specs.Early.{has_id}
+use Rattle.causal_model.specs.History.{epoch_of}
 use Rattle.causal_model.specs.Receiving.{receive_rule}
 use Rattle.causal_model.specs.Sending.{local_messages, beat_messages, local_rule, beat_rule}
 use Rattle.causal_model.specs.State.{State, start, with_own}
@@ -38,6 +39,10 @@ replica_of world r = slice_index_or world.replicas r (start 0 0)
 
 abbrev pub sent_by : PlainWorld → ℕ → List Message
 sent_by world r = slice_index_or world.sent r []
+
+-- the epoch that a world is in: all its replicas are in one
+abbrev pub epoch_in : PlainWorld → ℕ
+epoch_in world = epoch_of (replica_of world 0).history
 
 -- the world once a replica has come to a state
 abbrev pub with_state : PlainWorld → ℕ → State → PlainWorld

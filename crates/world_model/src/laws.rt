@@ -1,6 +1,6 @@
 //! Laws of the plain world. Each is the contract of a function that does nothing.
 
-ghost use Rattle.world_model.specs.Laws.{OpeningIsWorld, OpeningHasSize, SentAreOwn, SentIsNumbered, SendingKeepsWorld, BeatingKeepsWorld, OfferingKeepsWorld, GivingKeepsWorld, ResendingKeepsWorld, RawingKeepsWorld, SettlingKeepsWorld, SettlingEnds, MoreRoundsAreNone, SettledIsEqualCounts, SameEventsAnswerAlike, NoneLagsIsAllStable, LaggingIsAnother};
+ghost use Rattle.world_model.specs.Laws.{OpeningIsWorld, OpeningHasSize, SentAreOwn, SentIsNumbered, SendingKeepsWorld, BeatingKeepsWorld, OfferingKeepsWorld, GivingKeepsWorld, ResendingKeepsWorld, RawingKeepsWorld, RegroupingKeepsStore, NextEpochBegins, NextEpochShowsTheSame, SettlingKeepsWorld, SettlingEnds, MoreRoundsAreNone, SettledIsStill, SettledIsEqualCounts, SameEventsAnswerAlike, NoneLagsIsAllStable, LaggingIsAnother, GrowingGoesOn, GrownAreJournals};
 
 /// A store begins in a world of its members.
 pub fn an_opening_is_a_world()
@@ -14,8 +14,8 @@ pub fn sent_messages_are_numbered()
     ensures numbered { SentIsNumbered }
 {}
 
-/// Each command leaves a world of the same store: a valid update is sent, a beat is made, and messages, outboxes and bytes
-/// are offered.
+/// Each command leaves a world of the same members in the same epoch: a valid update is sent, a beat is made, and messages,
+/// outboxes and bytes are offered.
 pub fn commands_keep_worlds()
     ensures sending { SendingKeepsWorld }
     ensures beating { BeatingKeepsWorld }
@@ -25,11 +25,21 @@ pub fn commands_keep_worlds()
     ensures rawing { RawingKeepsWorld }
 {}
 
-/// Settling ends in a world of the same store, after a round that moves nothing, and more rounds would not be made.
+/// A change of members leaves a world of the same store. Where an epoch begins, it has those members, and each shows what it
+/// had, or what replica 0 had.
+pub fn members_change_at_rest()
+    ensures store { RegroupingKeepsStore }
+    ensures begins { NextEpochBegins }
+    ensures shows { NextEpochShowsTheSame }
+{}
+
+/// Settling ends in a world of the same store, after a round that moves nothing, and more rounds would not be made. Where
+/// all counts are equal then, one more would move nothing.
 pub fn settling_ends()
     ensures world { SettlingKeepsWorld }
     ensures ends { SettlingEnds }
     ensures enough { MoreRoundsAreNone }
+    ensures still { SettledIsStill }
 {}
 
 /// A world is settled where all replicas show equal counts, and replicas of the same events answer every object alike.
@@ -42,4 +52,10 @@ pub fn replicas_show_what_they_have()
 pub fn a_member_lags_where_a_message_is_unstable()
     ensures none { NoneLagsIsAllStable }
     ensures another { LaggingIsAnother }
+{}
+
+/// Journals that grow, and then grow again, have grown; and they are still such as those of one store can be.
+pub fn journals_grow_on()
+    ensures twice { GrowingGoesOn }
+    ensures journals { GrownAreJournals }
 {}

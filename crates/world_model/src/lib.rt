@@ -7,13 +7,18 @@
 mod laws;
 mod outcome;
 mod worked;
+mod worked_epochs;
 
 pub use laws::{
     a_member_lags_where_a_message_is_unstable, an_opening_is_a_world, commands_keep_worlds,
-    replicas_show_what_they_have, sent_messages_are_numbered, settling_ends,
+    members_change_at_rest, replicas_show_what_they_have, sent_messages_are_numbered,
+    settling_ends,
 };
-pub use outcome::{Given, RawGot, Resent, Settle};
+pub use outcome::{Given, RawGot, Regroup, Resent, Settle};
 pub use worked::{
     a_remove_waits_for_its_add, an_add_is_given_and_asked_for, an_add_settles, bytes_are_offered,
     each_waits_for_the_other,
+};
+pub use worked_epochs::{
+    frames_of_an_epoch_that_is_over_are_none, members_change_at_a_settled_moment,
 };

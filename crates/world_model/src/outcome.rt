@@ -47,3 +47,16 @@ pub enum Settle {
     /// There is no memory. The first of the offers and beats were made.
     NoMemory,
 }
+
+/// What comes of a change of members.
+#[derive(Clone, Copy, Debug, PartialEq, Eq)]
+pub enum Regroup {
+    /// The next epoch began: this one.
+    Regrouped(u32),
+    /// Two replicas haven't delivered as many messages of each member, or an operation is unstable at one.
+    Unsettled,
+    /// The epoch is the last that there can be.
+    Last,
+    /// There is no memory. Nothing changed.
+    NoMemory,
+}
