@@ -1,4 +1,5 @@
 pub mod Alone
+pub mod AllSettled
 pub mod Bounds
 pub mod MovesStable
 pub mod ObjectParts
@@ -7,6 +8,7 @@ pub mod Made
 pub mod Own
 pub mod Ranges
 pub mod Receives
+pub mod Regroups
 pub mod Sends
 pub mod SettledWaits
 pub mod Settles

@@ -7,6 +7,7 @@
 #![tactic(auto)]
 
 mod create_fault;
+mod epochs;
 mod numbers;
 mod queries;
 mod receiving;

@@ -4,7 +4,7 @@
 ghost use Rattle.std.specs.Prelude.{IsTrue, nat_le};
 ghost use Rattle.std.specs.List.{list_all};
 
-use crate::{Beat, CreateFault, Local, Receive, Replica};
+use crate::{Beat, CreateFault, Local, Receive, Replica, are_numbers};
 use causal_model::ItemView;
 use op_base::{Act, Answer, Message, ObjectId, Op, Tag, Update, operations_are_valid};
 use std::alloc::Global;
@@ -80,6 +80,31 @@ fn fill(replica: &mut Replica, alloc: Global) -> Result<(), Fail> {
     Ok(())
 }
 
+/// Lets the other of two members acknowledge a message of member 0.
+fn acknowledge(store: &mut Replica, alloc: Global, message: Message) -> Result<(), Fail> {
+    let mut other = Replica::create(alloc, 1, 2, 1, 9)?;
+    receive(&mut other, alloc, message)?;
+    let Beat::Sent(noop) = other.beat(alloc) else {
+        return Err("a no-op is due".into());
+    };
+    receive(store, alloc, noop)?;
+    Ok(())
+}
+
+/// The replica that begins the next epoch, where every operation is stable.
+fn next_of(replica: &Replica, alloc: Global, me: u8, n: u8) -> Result<Option<Replica>, Fail> {
+    if !are_numbers(me.into(), n.into(), replica.w.into(), replica.limit) {
+        return Err("a number is out of its range".into());
+    }
+    if replica.epoch >= 65535 {
+        return Err("it is the last epoch".into());
+    }
+    if !replica.all_settled() {
+        return Ok(None);
+    }
+    Ok(Some(replica.next(alloc, me, n)?))
+}
+
 #[test]
 fn calls_answer_where_there_is_memory(rt: HostRuntime) -> Result<(), Fail> {
     let alloc = rt.alloc();
@@ -97,6 +122,24 @@ fn calls_answer_where_there_is_memory(rt: HostRuntime) -> Result<(), Fail> {
     // the operation is settled, and there is room again
     assert_eq!(rt; (store.log.len(), store.items.len()), (0, 1));
     assert!(rt; matches!(store.local(alloc, &more(alloc, 1)?), Local::Sent(_)));
+    Ok(())
+}
+
+#[test]
+fn a_settled_replica_goes_on_as_another_member(rt: HostRuntime) -> Result<(), Fail> {
+    let alloc = rt.alloc();
+    let mut store = Replica::create(alloc, 0, 2, 1, 9)?;
+    let Local::Sent(message) = store.local(alloc, &more(alloc, 5)?) else {
+        return Err("there is room".into());
+    };
+    // the other member isn't known to have it
+    assert!(rt; next_of(&store, alloc, 2, 3)?.is_none());
+    acknowledge(&mut store, alloc, message)?;
+    let Some(next) = next_of(&store, alloc, 2, 3)? else {
+        return Err("every operation is stable".into());
+    };
+    assert_eq!(rt; (next.me, next.n, next.epoch), (2, 3, 1));
+    assert_eq!(rt; sum(&next, alloc)?, Answer::Sum(5));
     Ok(())
 }
 
