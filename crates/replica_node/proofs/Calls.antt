@@ -12,7 +12,7 @@ use Rattle.causal_model.specs.declared.note.Note.{Note}
 use Rattle.causal_model.specs.declared.note.Note.TheVariants.{Kept}
 use Rattle.causal_model.proofs.Journals.{receiving_replays, legal_grows}
 use Rattle.causal_model.proofs.Outcomes.{notes_of_accepted}
-use Rattle.replica_core.specs.Rules.{StandsFor, SameSettings}
+use Rattle.replica_core.specs.Rules.{StandsFor}
 use Rattle.replica_core.specs.declared.replica.Replica.{Replica}
 use Rattle.replica_node.specs.Nodes.{state_by}
 
@@ -22,10 +22,10 @@ pub record Goes (new : Replica) (first : ℕ × ℕ) (after : List Note) : Type 
   pub stands : StandsFor new (state_by first after)
 
 -- they hold where a group was noted, and the replica stands for what it makes of the state
-pub goes_on : (r new : Replica) (first : ℕ × ℕ) (before after group : List Note) → SameSettings r new → ∥ IsLegal first.1 r.w r.limit first.0 before ∥₁
-    → after ≡ before ++ group → IsGroup r.w r.limit (state_by first before) group → StandsFor new (state_after (state_by first before) group) → Goes new first after
-goes_on r new first before after group settings legal noted is stands = record {
-  legal = rw (settings.w, settings.limit, noted) (∥∥₁_map legal (λ l. legal_grows first.1 r.w r.limit first.0 before group l is));
+pub goes_on : (w limit : ℕ) (new : Replica) (first : ℕ × ℕ) (before after group : List Note) → new.w ≡ w → new.limit ≡ limit → ∥ IsLegal first.1 w limit first.0 before ∥₁
+    → after ≡ before ++ group → IsGroup w limit (state_by first before) group → StandsFor new (state_after (state_by first before) group) → Goes new first after
+goes_on w limit new first before after group same_w same_limit legal noted is stands = record {
+  legal = rw (same_w, same_limit, noted) (∥∥₁_map legal (λ l. legal_grows first.1 w limit first.0 before group l is));
   stands = subst (StandsFor new) (sym (ap (λ ns. state_by first ns) noted ∙ fold-append state_noted (start first.1 first.0) before group)) stands;
 }
 

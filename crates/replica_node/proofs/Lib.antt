@@ -3,3 +3,4 @@ pub mod Given
 pub mod Few
 pub mod Noted
 pub mod Calls
+pub mod Regroups

@@ -1,3 +1,4 @@
 pub mod Notes
 pub mod Nodes
 pub mod Rules
+pub mod Epochs

@@ -1,6 +1,6 @@
 //! A journal: a recorder that keeps its list.
 
-ghost use Rattle.std.specs.Prelude.{◌≡◌, []};
+ghost use Rattle.std.specs.Prelude.{◌≡◌, [], IfOk};
 
 use crate::recorder::Recorder;
 use causal_model::Note;
@@ -39,6 +39,34 @@ impl Journal {
     {
         self.notes.as_slice()
     }
+
+    /// A journal with equal notes. `NoMemory` leaves nothing behind.
+    pub fn copy(&self, alloc: Global) -> Result<Journal, NoMemory>
+        ensures { IfOk result (λ copy. copy.notes ≡ self.now.notes) }
+    {
+        let mut notes = Vec::with_capacity(alloc, self.notes.len())?;
+        for note in &self.notes {
+            notes.push(copy_note(note, alloc)?)?;
+        }
+        Ok(Journal { notes })
+    }
+}
+
+/// An equal note.
+fn copy_note(note: &Note, alloc: Global) -> Result<Note, NoMemory>
+    ensures { IfOk result (λ copy. copy ≡ note.now) }
+{
+    Ok(match note {
+        Note::Sent(message) => Note::Sent(message.copy(alloc)?),
+        Note::Kept(message) => Note::Kept(message.copy(alloc)?),
+        Note::Took(id) => Note::Took(*id),
+        Note::Crook(id) => Note::Crook(*id),
+        Note::Regroup { epoch, n, me } => Note::Regroup {
+            epoch: *epoch,
+            n: *n,
+            me: *me,
+        },
+    })
 }
 
 impl Recorder for Journal {

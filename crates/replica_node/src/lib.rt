@@ -5,6 +5,7 @@
 //! project's own profile.
 #![tactic(auto)]
 
+mod epochs;
 mod journal;
 mod node;
 mod recorder;

@@ -195,6 +195,13 @@ impl<R: Recorder> Node<R> {
         &self.inner
     }
 
+    /// The journal.
+    pub fn recorder(&self) -> &R
+        ensures { result.now ≡ self.now.journal }
+    {
+        &self.journal
+    }
+
     /// The replica and the journal.
     pub fn finish(self) -> (Replica, R)
         ensures replica { result.0 ≡ self.inner }
@@ -220,7 +227,7 @@ fn most_notes(replica: &Replica) -> usize
 }
 
 /// Puts a note at the end, and counts it.
-fn put<R: Recorder>(journal: &mut R, length: &mut u64, note: Note)
+pub fn put<R: Recorder>(journal: &mut R, length: &mut u64, note: Note)
     requires room { 1 ≤ R.spare journal.old }
     requires few { length.old < 2 ^ 63 }
     requires counted { IsCount length.old (R.notes journal.old) }

@@ -4,11 +4,12 @@
 ghost use Rattle.std.specs.Prelude.{◌≡◌, ◌-◌, length, vec_capacity, IfOk, IsTrue};
 ghost use Rattle.op_base.specs.Message.{fits};
 ghost use Rattle.causal_model.specs.Counts.{is_carried};
+ghost use Rattle.replica_node.specs.Epochs.{IsNextOf};
 
 use crate::{Journal, Node, Recorder};
 use causal_model::Note;
 use op_base::{Act, Answer, Message, NoMemory, ObjectId, Op, Tag, Update, operations_are_valid};
-use replica_core::{Beat, Local, Receive, Replica};
+use replica_core::{Beat, Local, Receive, Replica, are_numbers};
 use std::alloc::Global;
 use std::test::Fail;
 
@@ -80,6 +81,34 @@ fn message(alloc: Global) -> Result<Message, Fail>
     Ok(Message { origin: 1, tag, op })
 }
 
+/// The replica that begins the next epoch as a member of three, where a node's can end.
+fn next_of(node: &Node<Journal>, alloc: Global, me: u8) -> Result<Replica, Fail>
+    ensures { IfOk result (λ r. IsNextOf node.now.first node.now.inner.w node.now.inner.limit node.now.journal.notes r) }
+{
+    let replica = node.replica();
+    if !are_numbers(me.into(), 3, replica.w.into(), replica.limit) {
+        return Err("a number is out of its range".into());
+    }
+    if replica.epoch >= 65535 || !replica.all_settled() {
+        return Err("the epoch can't end".into());
+    }
+    Ok(node.next(alloc, me, 3)?)
+}
+
+/// Whether a node received the message of every test as member 0 of two, and then went on as a member of three.
+fn went_on(node: &Node<Journal>, alloc: Global, member: u8) -> Result<bool, Fail> {
+    let [
+        Note::Kept(_),
+        Note::Took(_),
+        Note::Regroup { epoch: 1, n: 3, me },
+    ] = node.recorder().notes()
+    else {
+        return Ok(false);
+    };
+    let answer = node.answer(alloc, &counter(alloc)?)?;
+    Ok(*me == member && node.first() == (0, 2) && node.places() == 3 && answer == Answer::Sum(5))
+}
+
 #[test]
 fn what_is_sent_is_noted(rt: HostRuntime) -> Result<(), Fail> {
     let alloc = rt.alloc();
@@ -113,6 +142,23 @@ fn what_comes_is_noted_with_its_step(rt: HostRuntime) -> Result<(), Fail> {
             [Note::Kept(_), Note::Took(_), Note::Sent(_)]
         )
     );
+    Ok(())
+}
+
+#[test]
+fn a_node_goes_on_and_another_begins_with_its_notes(rt: HostRuntime) -> Result<(), Fail> {
+    let alloc = rt.alloc();
+    let mut node = Node::create(alloc, 0, 2, 4, 10, Journal::new(alloc))?;
+    let message = message(alloc)?;
+    assert!(rt; matches!(node.receive(alloc, message), Receive::Took(_)));
+    node.ready(alloc, 1)?;
+    let next = next_of(&node, alloc, 0)?;
+    let other = next_of(&node, alloc, 2)?;
+    let mut copy = node.recorder().copy(alloc)?;
+    copy.reserve(alloc, 1)?;
+    let heir = node.heir(other, copy);
+    node.adopt(next);
+    assert!(rt; went_on(&node, alloc, 0)? && went_on(&heir, alloc, 2)?);
     Ok(())
 }
 

@@ -32,6 +32,6 @@ invariant_of-self-2 g c =
     let s = state_by node.first before in
     let m = c.args.message in
     let noted = c.put.ensures.noted ∙ ap (λ (notes : _). notes ++ Sent c.in_ok-note.note ∷ []) c.reserve.ensures.kept ∙ ap (λ (x : _). before ++ Sent x ∷ []) c.in_ok-note.ensures in
-    let goes = goes_on node.inner c.commit.new.self node.first before (g.R.Recorder.notes c.put.new.journal) (Sent m ∷ []) c.commit.ensures.settings node.legal noted
+    let goes = goes_on node.inner.w node.inner.limit c.commit.new.self node.first before (g.R.Recorder.notes c.put.new.journal) (Sent m ∷ []) c.commit.ensures.settings.w c.commit.ensures.settings.limit node.legal noted
     (draft_is_group node.inner s m node.stands (c.requires.draft s node.stands)) (c.in_ok-message.ensures.stands s node.stands) in
     record { counted = c.put.ensures.counted; legal = goes.legal; stands = goes.stands }

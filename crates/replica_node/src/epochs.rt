@@ -1,0 +1,92 @@
+//! The end of an epoch: a node goes on with a replica of the next one, and others begin with what it noted.
+
+ghost use Rattle.std.specs.Prelude.{◌≡◌, ◌+◌, ◌^◌, ◌<◌, ◌≤◌, ◌++◌, ◌∷◌, [], IfOk, OnOk, IsTrue};
+ghost use Rattle.std.specs.Prelude.{length as length_of};
+ghost use Rattle.causal_model.specs.History.{is_all_stable};
+ghost use Rattle.causal_model.specs.State.{State};
+ghost use Rattle.causal_model.specs.declared.note.Note.TheVariants as notes;
+ghost use Rattle.replica_core.specs.Numbers.{are_numbers};
+ghost use Rattle.replica_core.specs.Rules.{StandsFor};
+ghost use Rattle.replica_node.specs.Epochs.{IsNextOf};
+
+use crate::node::{Node, put};
+use crate::recorder::Recorder;
+use causal_model::Note;
+use op_base::NoMemory;
+use replica_core::Replica;
+use std::alloc::Global;
+
+impl<R: Recorder> Node<R> {
+    /// The replica that begins the next epoch as member `me` of `n` members: as the replica's call.
+    pub fn next(&self, alloc: Global, me: u8, n: u8) -> Result<Replica, NoMemory>
+        requires numbers { IsTrue (are_numbers me n self.now.inner.w self.now.inner.limit) }
+        requires settled { (s : State) → StandsFor self.now.inner s → IsTrue (is_all_stable s.history.present) }
+        requires early { self.now.inner.epoch < 65535 }
+        ensures me { IfOk result (λ r. r.me ≡ me) }
+        ensures n { IfOk result (λ r. r.n ≡ n) }
+        ensures epoch { IfOk result (λ r. r.epoch ≡ self.now.inner.epoch + 1) }
+        ensures next { IfOk result (λ r. IsNextOf self.now.first self.now.inner.w self.now.inner.limit (R.notes self.now.journal) r) }
+    {
+        let next = self.inner.next(alloc, me, n)?;
+        Ok(next)
+    }
+
+    /// Takes room for so many notes more, where there are then fewer than 2^63. `NoMemory` leaves no less room.
+    pub fn ready(&mut self, alloc: Global, count: usize) -> Result<(), NoMemory>
+        ensures room { OnOk result (count ≤ R.spare self.new.journal) }
+        ensures few { OnOk result (length_of (R.notes self.new.journal) + count < 2 ^ 63) }
+        ensures kept { R.notes self.new.journal ≡ R.notes self.old.journal }
+        ensures spare { R.spare self.old.journal ≤ R.spare self.new.journal }
+        ensures inner { self.new.inner ≡ self.old.inner }
+        ensures first { self.new.first ≡ self.old.first }
+        ensures length { self.new.length ≡ self.old.length }
+    {
+        self.journal.reserve(alloc, count)
+    }
+
+    /// Goes on with a replica of the next epoch, and notes the change. It takes no memory.
+    pub fn adopt(&mut self, next: Replica)
+        requires room { 1 ≤ R.spare self.old.journal }
+        requires few { length_of (R.notes self.old.journal) + 1 < 2 ^ 63 }
+        requires next { IsNextOf self.old.first self.old.inner.w self.old.inner.limit (R.notes self.old.journal) next }
+        ensures inner { self.new.inner ≡ next }
+        ensures first { self.new.first ≡ self.old.first }
+        ensures noted { R.notes self.new.journal ≡ R.notes self.old.journal ++ notes.Regroup next.epoch next.n next.me ∷ [] }
+    {
+        put(&mut self.journal, &mut self.length, change_to(&next));
+        self.inner = next;
+    }
+
+    /// Another node that goes on with a replica of the next epoch, behind a copy of this one's notes, where the change is noted.
+    /// Its journal begins under the same member as this one's. It takes no memory, and this one stays.
+    pub fn heir(&self, next: Replica, recorder: R) -> Node<R>
+        requires same { R.notes recorder ≡ R.notes self.now.journal }
+        requires room { 1 ≤ R.spare recorder }
+        requires few { length_of (R.notes self.now.journal) + 1 < 2 ^ 63 }
+        requires next { IsNextOf self.now.first self.now.inner.w self.now.inner.limit (R.notes self.now.journal) next }
+        ensures inner { result.inner ≡ next }
+        ensures first { result.first ≡ self.now.first }
+        ensures noted { R.notes result.journal ≡ R.notes self.now.journal ++ notes.Regroup next.epoch next.n next.me ∷ [] }
+    {
+        let mut journal = recorder;
+        let mut length = self.length;
+        put(&mut journal, &mut length, change_to(&next));
+        Node {
+            inner: next,
+            journal,
+            length,
+            first: self.first,
+        }
+    }
+}
+
+/// The note of a change to a replica of the next epoch.
+fn change_to(next: &Replica) -> Note
+    ensures { result ≡ notes.Regroup next.now.epoch next.now.n next.now.me }
+{
+    Note::Regroup {
+        epoch: next.epoch,
+        n: next.n,
+        me: next.me,
+    }
+}
