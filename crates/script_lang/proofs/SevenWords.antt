@@ -11,7 +11,7 @@ use Rattle.script_lang.specs.Commands.{verb_of, words_behind, command_words, com
 use Rattle.script_lang.specs.LiveCommands.{live_words, live_command_of}
 use Rattle.script_lang.specs.LiveCommands as live
 use Rattle.script_lang.specs.declared.command.Verb.{Verb}
-use Rattle.script_lang.specs.declared.command.Verb.TheVariants.{Do, Ask, Beat, Give, Resend, Raw, Settle, Log, Size, Stable, Seen, Noops, Lags}
+use Rattle.script_lang.specs.declared.command.Verb.TheVariants.{Do, Ask, Beat, Give, Resend, Raw, Settle, Members, Log, Size, Stable, Seen, Noops, Lags}
 use Rattle.script_lang.specs.declared.fault.Fault.TheVariants as fault
 use Rattle.script_lang.specs.declared.live.LiveCommand.{LiveCommand}
 
@@ -36,6 +36,7 @@ too_many n (Some Give) a b c d e f words = refl
 too_many n (Some Resend) a b c d e f words = refl
 too_many n (Some Raw) a b c d e f words = refl
 too_many n (Some Settle) a b c d e f words = refl
+too_many n (Some Members) a b c d e f words = refl
 too_many n (Some Log) a b c d e f words = refl
 too_many n (Some Size) a b c d e f words = refl
 too_many n (Some Stable) a b c d e f words = refl

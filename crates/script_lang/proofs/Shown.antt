@@ -11,7 +11,7 @@ use Rattle.op_base.specs.declared.outcome.Answer.TheVariants.{Values, Flag, Sum}
 use Rattle.op_base.specs.declared.outcome.Step.{Step}
 use Rattle.op_base.specs.declared.outcome.Step.TheVariants as step
 use Rattle.script_lang.specs.declared.reply.Reply.{Reply}
-use Rattle.script_lang.specs.declared.reply.Reply.TheVariants.{Sent, Busy, End, Quiet, Held, Is, Unsent, Old, Again, Far, Kept, Took, Nothing, BadFrame, Settled, Unsettled, Log, Size, Stable, Seen, Noops, Lags, Bad}
+use Rattle.script_lang.specs.declared.reply.Reply.TheVariants.{Sent, Busy, End, Quiet, Held, Is, Unsent, Old, Again, Far, Kept, Took, Nothing, BadFrame, Settled, Unsettled, Epoch, Last, Log, Size, Stable, Seen, Noops, Lags, Bad}
 use Rattle.script_lang.specs.Replies.{joined, id_word, step_word, answer_words, reply_words, reply_line}
 use Rattle.script_lang.specs.Laws.{IsId, IsStep, IsTag, IsAnswer, IsReply, HaveOneForm, cause_of, AreAlike}
 use Rattle.script_lang.proofs.Parted.{lacks, split-joined}
@@ -58,6 +58,8 @@ reply_as word words =
     else if same_text word (codes "none") then Nothing
     else if same_text word (codes "settled") then Settled
     else if same_text word (codes "unsettled") then Unsettled
+    else if same_text word (codes "epoch") then Epoch (digits_value 10 (first words))
+    else if same_text word (codes "last") then Last
     else if same_text word (codes "log") then Log (map id_of words)
     else if same_text word (codes "size") then size_of words
     else if same_text word (codes "stable") then Stable (length words) (map (λ w. digits_value 10 w) words)
@@ -96,6 +98,7 @@ reply-read (Sent number) h = line-read (codes "ok") (decimal number ∷ []) _ (r
 reply-read (Is answer) h = line-read (codes "=") (answer_words answer) _ (answer-lacks answer h) refl
 reply-read (Took steps) h = line-read (codes "took") (map step_word steps) _ (items-lack step_word IsStep step-lacks steps h) (ap Took (items-read step_word step_of shown_step IsStep step_of-word steps h))
 reply-read (BadFrame fault) h = line-read (codes "bad") (codes "frame" ∷ decimal fault ∷ []) _ (rw (number-lacks fault h) refl) (ap BadFrame (decimal-value fault (omega arith)))
+reply-read (Epoch number) h = line-read (codes "epoch") (decimal number ∷ []) _ (rw (number-lacks number h) refl) (ap Epoch (decimal-value number (omega arith)))
 reply-read (Log ids) h =
     line-read (codes "log") (map id_word ids) _ (items-lack id_word IsId (λ id k. id-lacks 32 id no_space refl k) ids h)
     (ap Log (items-read id_word id_of (λ id. id) IsId id_of-word ids h ∙ map-id ids))

@@ -3,12 +3,12 @@ use Rattle.std.specs.Prelude.{◌≡◌, ◌⊎◌, ℕ, Bool, true, false, nat_
 use Rattle.op_base.specs.Name.{same_text}
 use Rattle.script_lang.specs.Words.{words_of, is_passed_over}
 use Rattle.script_lang.specs.Fault.{◌>>=◌, most_line_bytes, number_of_fault}
-use Rattle.script_lang.specs.Names.{member_of, object_in, bytes_in, amount_in}
+use Rattle.script_lang.specs.Names.{member_of, object_in, bytes_in, amount_in, size_in}
 use Rattle.script_lang.specs.Acts.{update_in}
 use Rattle.script_lang.specs.declared.fault.Fault.{Fault}
 use Rattle.script_lang.specs.declared.fault.Fault.TheVariants as fault
 use Rattle.script_lang.specs.declared.command.Command.{Command}
-use Rattle.script_lang.specs.declared.command.Command.TheVariants.{Do, Ask, Beat, Give, Resend, Raw, Settle, Log, Size, Stable, Seen, Noops, Lags}
+use Rattle.script_lang.specs.declared.command.Command.TheVariants.{Do, Ask, Beat, Give, Resend, Raw, Settle, Members, Log, Size, Stable, Seen, Noops, Lags}
 use Rattle.script_lang.specs.declared.command.Verb.{Verb}
 use Rattle.script_lang.specs.declared.command.Verb.TheVariants as verbs
 use Rattle.script_lang.specs.declared.command.Line.{Line}
@@ -62,6 +62,11 @@ abbrev pub settle_words : List (List ℕ) → Result Command Fault
 settle_words [] = Ok Settle
 settle_words words = Err fault.Words
 
+-- m
+abbrev pub members_words : List (List ℕ) → Result Command Fault
+members_words (m ∷ []) = size_in m >>= λ n. Ok (Members n)
+members_words words = Err fault.Words
+
 -- r, and nothing behind it
 abbrev pub lone_member : ℕ → List (List ℕ) → Result ℕ Fault
 lone_member n (r ∷ []) = member_of n r
@@ -76,6 +81,7 @@ has_lone_member verbs.Give = false
 has_lone_member verbs.Resend = false
 has_lone_member verbs.Raw = false
 has_lone_member verbs.Settle = false
+has_lone_member verbs.Members = false
 has_lone_member verbs.Log = true
 has_lone_member verbs.Size = true
 has_lone_member verbs.Stable = true
@@ -92,6 +98,7 @@ verb_word verbs.Give = codes "give"
 verb_word verbs.Resend = codes "resend"
 verb_word verbs.Raw = codes "raw"
 verb_word verbs.Settle = codes "settle"
+verb_word verbs.Members = codes "members"
 verb_word verbs.Log = codes "log"
 verb_word verbs.Size = codes "size"
 verb_word verbs.Stable = codes "stable"
@@ -101,7 +108,7 @@ verb_word verbs.Lags = codes "lags"
 
 abbrev pub all_verbs : List Verb
 all_verbs =
-    verbs.Do ∷ verbs.Ask ∷ verbs.Beat ∷ verbs.Give ∷ verbs.Resend ∷ verbs.Raw ∷ verbs.Settle ∷ verbs.Log ∷ verbs.Size ∷ verbs.Stable ∷ verbs.Seen ∷ verbs.Noops ∷ verbs.Lags ∷ []
+    verbs.Do ∷ verbs.Ask ∷ verbs.Beat ∷ verbs.Give ∷ verbs.Resend ∷ verbs.Raw ∷ verbs.Settle ∷ verbs.Members ∷ verbs.Log ∷ verbs.Size ∷ verbs.Stable ∷ verbs.Seen ∷ verbs.Noops ∷ verbs.Lags ∷ []
 
 -- the verb of a list whose word this is
 abbrev pub verb_among : List Verb → List ℕ → Option Verb
@@ -121,6 +128,7 @@ verb_words n verbs.Give words = give_words n words
 verb_words n verbs.Resend words = resend_words n words
 verb_words n verbs.Raw words = raw_words n words
 verb_words n verbs.Settle words = settle_words words
+verb_words n verbs.Members words = members_words words
 verb_words n verbs.Log words = lone_member n words >>= λ r. Ok (Log r)
 verb_words n verbs.Size words = lone_member n words >>= λ r. Ok (Size r)
 verb_words n verbs.Stable words = lone_member n words >>= λ r. Ok (Stable r)

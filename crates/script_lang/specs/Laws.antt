@@ -8,7 +8,7 @@ use Rattle.op_base.specs.declared.outcome.Step.{Step}
 use Rattle.op_base.specs.declared.outcome.Step.TheVariants as step
 use Rattle.op_base.specs.declared.tag.MessageId.{MessageId}
 use Rattle.script_lang.specs.declared.reply.Reply.{Reply}
-use Rattle.script_lang.specs.declared.reply.Reply.TheVariants.{Sent, Is, Took, BadFrame, Log, Size, Stable, Seen, Noops, Lags, Bad}
+use Rattle.script_lang.specs.declared.reply.Reply.TheVariants.{Sent, Is, Took, BadFrame, Epoch, Log, Size, Stable, Seen, Noops, Lags, Bad}
 use Rattle.script_lang.specs.Replies.{reply_line}
 
 -- ---- which replies can come
@@ -39,6 +39,7 @@ IsReply (Sent number) = IsNumber number
 IsReply (Is answer) = IsAnswer answer
 IsReply (Took steps) = All IsStep steps
 IsReply (BadFrame fault) = IsNumber fault
+IsReply (Epoch number) = IsNumber number
 IsReply (Log ids) = All IsId ids
 IsReply (Size entries items) = IsNumber entries × IsNumber items
 IsReply (Stable n tag) = IsTag n tag

@@ -45,6 +45,7 @@ keeps (command.Give r k s) = false
 keeps (command.Resend r k) = false
 keeps (command.Raw r bytes) = true
 keeps command.Settle = false
+keeps (command.Members n) = false
 keeps (command.Log r) = false
 keeps (command.Size r) = false
 keeps (command.Stable r) = false

@@ -1,4 +1,4 @@
--- What single words name: members, clients, objects, values, bytes and amounts.
+-- What single words name: members, clients, objects, values, bytes, amounts and numbers of members.
 use Rattle.std.specs.Prelude.{ℕ, ◌-◌, Bool, ◌&&◌, ◌==◌, nat_lt, List, length, take, slice_index, Result, Ok, Err, Option, Some, None, ok_or, if◌then◌else◌}
 use Rattle.std.specs.List.{list_all}
 use Rattle.std.specs.Result.{result_ok}
@@ -7,6 +7,8 @@ use Rattle.op_base.specs.Name.{is_value}
 use Rattle.op_base.specs.Reading.{object_of}
 use Rattle.op_base.specs.declared.name.ObjectId.{ObjectId}
 use Rattle.script_lang.specs.Numbers.{is_digit, number_of}
+use Rattle.script_lang.specs.Fault.{◌>>=◌}
+use Rattle.script_lang.specs.Headers.{is_from_to}
 use Rattle.script_lang.specs.declared.fault.Fault.{Fault}
 use Rattle.script_lang.specs.declared.fault.Fault.TheVariants as fault
 
@@ -34,6 +36,10 @@ bytes_in word = ok_or (result_ok (decode_of word)) fault.Value
 -- the amount, or the number of a message, that a word is
 abbrev pub amount_in : List ℕ → Result ℕ Fault
 amount_in word = ok_or (number_of word) fault.Number
+
+-- how many members a word says, 1 to 16
+abbrev pub size_in : List ℕ → Result ℕ Fault
+size_in word = amount_in word >>= λ n. if is_from_to 1 16 n then Ok n else Err fault.Number
 
 -- whether a word is one or more digits with a colon behind them
 abbrev pub is_client_word : List ℕ → Bool

@@ -1,5 +1,5 @@
 -- What holds of each command that is read.
-use Rattle.std.specs.Prelude.{ℕ, ◌<◌}
+use Rattle.std.specs.Prelude.{ℕ, ◌<◌, ◌≤◌}
 use Rattle.script_lang.specs.declared.command.Command.{Command}
 use Rattle.script_lang.specs.declared.command.Command.TheVariants as command
 use Rattle.script_lang.specs.declared.command.Line.{Line}
@@ -9,7 +9,7 @@ use Rattle.script_lang.specs.declared.live.LiveCommand.TheVariants as live
 use Rattle.script_lang.specs.declared.live.LiveLine.{LiveLine}
 use Rattle.script_lang.specs.declared.live.LiveLine.TheVariants as live_line
 
--- each member that a command names is below n
+-- each member that a command names is below n, and it asks for 1 to 16 members
 abbrev pub IsWithin : ℕ → Command → Type 0
 IsWithin n (command.Do r update) = r < n
 IsWithin n (command.Ask r object) = r < n
@@ -18,6 +18,7 @@ IsWithin n (command.Give r k s) = (r < n) × (k < n)
 IsWithin n (command.Resend r k) = (r < n) × (k < n)
 IsWithin n (command.Raw r bytes) = r < n
 IsWithin n command.Settle = Unit {0}
+IsWithin n (command.Members m) = (1 ≤ m) × (m ≤ 16)
 IsWithin n (command.Log r) = r < n
 IsWithin n (command.Size r) = r < n
 IsWithin n (command.Stable r) = r < n

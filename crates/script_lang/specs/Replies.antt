@@ -8,7 +8,7 @@ use Rattle.op_base.specs.declared.outcome.Step.{Step}
 use Rattle.op_base.specs.declared.outcome.Step.TheVariants as step
 use Rattle.op_base.specs.declared.tag.MessageId.{MessageId}
 use Rattle.script_lang.specs.declared.reply.Reply.{Reply}
-use Rattle.script_lang.specs.declared.reply.Reply.TheVariants.{Sent, Busy, End, Quiet, Held, Is, Unsent, Old, Again, Far, Kept, Took, Nothing, BadFrame, Settled, Unsettled, Log, Size, Stable, Seen, Noops, Lags, Bad}
+use Rattle.script_lang.specs.declared.reply.Reply.TheVariants.{Sent, Busy, End, Quiet, Held, Is, Unsent, Old, Again, Far, Kept, Took, Nothing, BadFrame, Settled, Unsettled, Epoch, Last, Log, Size, Stable, Seen, Noops, Lags, Bad}
 
 -- words, each behind a space
 abbrev pub spaced : List (List ℕ) → List ℕ
@@ -57,6 +57,8 @@ reply_words Nothing = codes "none" ∷ []
 reply_words (BadFrame fault) = codes "bad" ∷ codes "frame" ∷ decimal fault ∷ []
 reply_words Settled = codes "settled" ∷ []
 reply_words Unsettled = codes "unsettled" ∷ []
+reply_words (Epoch number) = codes "epoch" ∷ decimal number ∷ []
+reply_words Last = codes "last" ∷ []
 reply_words (Log ids) = codes "log" ∷ map id_word ids
 reply_words (Size entries items) = codes "size" ∷ decimal entries ∷ decimal items ∷ []
 reply_words (Stable n tag) = codes "stable" ∷ map decimal tag

@@ -1,18 +1,18 @@
 //! The commands of a script.
 
-ghost use Rattle.std.specs.Prelude.{◌≡◌, ◌<◌, IfOk, IsTrue, map, option_copied};
-ghost use Rattle.script_lang.specs.Commands.{do_command, do_words, ask_command, ask_words, give_command, give_words, resend_command, resend_words, raw_command, raw_words, settle_words, has_lone_member, lone_member, verb_of, verb_words, command_words, command_of, line_of, bad_line, IsLineOrNoMemory};
+ghost use Rattle.std.specs.Prelude.{◌≡◌, ℕ, ◌<◌, IfOk, IsTrue, map, option_copied};
+ghost use Rattle.script_lang.specs.Commands.{do_command, do_words, ask_command, ask_words, give_command, give_words, resend_command, resend_words, raw_command, raw_words, settle_words, members_words, has_lone_member, lone_member, verb_of, verb_words, command_words, command_of, line_of, bad_line, IsLineOrNoMemory};
 ghost use Rattle.script_lang.specs.Memory.{Reads, IsAmple, keeps, line_takes_memory};
 ghost use Rattle.script_lang.specs.Ranges.{IsWithin, LineIsWithin};
 
 use crate::act::read_update;
 use crate::fault::{Fault, MOST_LINE_BYTES};
-use crate::name::{read_amount, read_hex, read_member, read_object};
+use crate::name::{read_amount, read_hex, read_member, read_object, read_size};
 use crate::word::{MOST_WORDS, find_words, is_passed_over};
 use op_base::{ByteList, ObjectId, Update};
 use std::alloc::Global;
 
-/// What a command line asks for. Each member that it names is below how many there are.
+/// What a command line asks for. Each member that it names is below how many there are; it asks for 1 to 16 members.
 #[derive(Debug, PartialEq, Eq, Drop)]
 pub enum Command {
     /// Member `r` sends an update.
@@ -29,6 +29,8 @@ pub enum Command {
     Raw { r: u8, bytes: ByteList },
     /// All members exchange what they have until nothing moves.
     Settle,
+    /// The members are changed to 0 to `n - 1`, where the store has settled: the next epoch begins.
+    Members { n: u8 },
     /// The ids of member `r`'s log.
     Log { r: u8 },
     /// How many entries and items member `r` holds.
@@ -66,6 +68,7 @@ enum Verb {
     Resend,
     Raw,
     Settle,
+    Members,
     Log,
     Size,
     Stable,
@@ -126,6 +129,7 @@ fn read_verb(word: &[u8]) -> Option<Verb>
         b"resend" => Some(Verb::Resend),
         b"raw" => Some(Verb::Raw),
         b"settle" => Some(Verb::Settle),
+        b"members" => Some(Verb::Members),
         b"log" => Some(Verb::Log),
         b"size" => Some(Verb::Size),
         b"stable" => Some(Verb::Stable),
@@ -165,6 +169,7 @@ fn read_arguments(alloc: Global, verb: Verb, words: &[&[u8]], n: u8) -> Result<C
         Verb::Resend => read_resend(n, words),
         Verb::Raw => read_raw(alloc, n, words),
         Verb::Settle => read_settle(words),
+        Verb::Members => read_members(words),
         Verb::Log => read_lone(n, Verb::Log, words),
         Verb::Size => read_lone(n, Verb::Size, words),
         Verb::Stable => read_lone(n, Verb::Stable, words),
@@ -190,9 +195,13 @@ fn read_lone(n: u8, verb: Verb, words: &[&[u8]]) -> Result<Command, Fault>
         Verb::Seen => Ok(Command::Seen { r }),
         Verb::Noops => Ok(Command::Noops { r }),
         Verb::Lags => Ok(Command::Lags { r }),
-        Verb::Do | Verb::Ask | Verb::Give | Verb::Resend | Verb::Raw | Verb::Settle => {
-            unreachable!()
-        }
+        Verb::Do
+        | Verb::Ask
+        | Verb::Give
+        | Verb::Resend
+        | Verb::Raw
+        | Verb::Settle
+        | Verb::Members => unreachable!(),
     }
 }
 
@@ -327,6 +336,18 @@ fn read_settle(words: &[&[u8]]) -> Result<Command, Fault>
         Ok(Command::Settle)
     } else {
         Err(Fault::Words)
+    }
+}
+
+/// The words behind `members`.
+#[inline(never)]
+fn read_members(words: &[&[u8]]) -> Result<Command, Fault>
+    ensures command { result ≡ members_words (map (λ word. word.now) words.now) }
+    ensures within { (n : ℕ) → IfOk result (IsWithin n) }
+{
+    match words {
+        [m] => Ok(Command::Members { n: read_size(m)? }),
+        _ => Err(Fault::Words),
     }
 }
 

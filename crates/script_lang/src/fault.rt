@@ -25,7 +25,7 @@ pub enum Fault {
     Operation,
     /// The value is none, or the hexadecimal has an odd number of digits or another character.
     Value,
-    /// The amount, or the number of a message, is no number.
+    /// The amount, or the number of a message, is no number, or that of members is none from 1 to 16.
     Number,
     /// There is no memory for what the command keeps. The line is a command, or its fault is `Object` or a later one.
     NoMemory,

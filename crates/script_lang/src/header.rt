@@ -85,7 +85,7 @@ fn live_header(words: &[&[u8]]) -> Option<Header>
 }
 
 /// Whether a number is from the one to the other.
-fn is_from_to(least: u32, most: u32, x: u32) -> bool
+pub fn is_from_to(least: u32, most: u32, x: u32) -> bool
     ensures { result ≡ is_from_to least most x }
 {
     least <= x && x <= most

@@ -1,10 +1,11 @@
 //! What single words name.
 
-ghost use Rattle.std.specs.Prelude.{◌≡◌, ◌<◌, IfOk, IfSome, option_copied};
-ghost use Rattle.script_lang.specs.Names.{member_of, object_in, value_in, bytes_in, amount_in, client_digits};
+ghost use Rattle.std.specs.Prelude.{◌≡◌, ◌<◌, ◌≤◌, IfOk, IfSome, option_copied};
+ghost use Rattle.script_lang.specs.Names.{member_of, object_in, value_in, bytes_in, amount_in, size_in, client_digits};
 ghost use Rattle.script_lang.specs.Memory.{Reads};
 
 use crate::fault::Fault;
+use crate::header::is_from_to;
 use crate::number::{are_digits, read_number};
 use hex::FromHexError;
 use op_base::{ByteList, ObjectId, Value};
@@ -51,6 +52,19 @@ pub fn read_amount(word: &[u8]) -> Result<u32, Fault>
     ensures { result ≡ amount_in word.now }
 {
     read_number(word).ok_or(Fault::Number)
+}
+
+/// How many members a word says, 1 to 16.
+pub fn read_size(word: &[u8]) -> Result<u8, Fault>
+    ensures size { result ≡ size_in word.now }
+    ensures within { IfOk result (λ n. (1 ≤ n) × (n ≤ 16)) }
+{
+    let n = read_amount(word)?;
+    if is_from_to(1, 16, n) {
+        Ok(n as u8)
+    } else {
+        Err(Fault::Number)
+    }
 }
 
 /// The digits of a word that is one or more of them with a colon behind them.

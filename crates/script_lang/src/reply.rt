@@ -40,8 +40,12 @@ pub enum Reply {
     BadFrame(u8),
     /// All replicas have delivered as many messages of each member.
     Settled,
-    /// They have not.
+    /// They have not; or members can't change, since two replicas' counts differ or an operation is unstable at one.
     Unsettled,
+    /// The next epoch began: this one.
+    Epoch(u32),
+    /// The epoch is the last that there can be.
+    Last,
     /// The ids of the messages that are kept, in log order.
     Log(IdList),
     /// How many messages are kept, and how many items are settled.
@@ -109,6 +113,8 @@ fn put_words(reply: &Reply, out: &mut Text) -> Result<(), NoMemory>
         Reply::BadFrame(fault) => put_numbered(b"bad frame ", u32::from(*fault), out),
         Reply::Settled => out.extend_from_slice(b"settled"),
         Reply::Unsettled => out.extend_from_slice(b"unsettled"),
+        Reply::Epoch(number) => put_numbered(b"epoch ", *number, out),
+        Reply::Last => out.extend_from_slice(b"last"),
         Reply::Log(ids) => {
             out.extend_from_slice(b"log")?;
             put_all(ids.as_slice(), out)

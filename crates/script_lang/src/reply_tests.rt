@@ -82,6 +82,8 @@ fn plain_replies_have_their_lines(rt: HostRuntime) -> Result<(), Fail> {
     is_printed(&rt, alloc, Reply::BadFrame(10), b"bad frame 10\n")?;
     is_printed(&rt, alloc, Reply::Settled, b"settled\n")?;
     is_printed(&rt, alloc, Reply::Unsettled, b"unsettled\n")?;
+    is_printed(&rt, alloc, Reply::Epoch(1), b"epoch 1\n")?;
+    is_printed(&rt, alloc, Reply::Last, b"last\n")?;
     is_printed(&rt, alloc, Reply::Size { entries, items }, b"size 0 12\n")?;
     is_printed(
         &rt,

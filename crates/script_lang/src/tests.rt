@@ -27,7 +27,7 @@ fn live_code(line: &LiveLine) -> u8 {
 #[test]
 fn the_first_fault_of_a_line_is_told(rt: HostRuntime) -> Result<(), Fail> {
     let alloc = rt.alloc();
-    let cases: [(&[u8], u8); 72] = [
+    let cases: [(&[u8], u8); 79] = [
         // Passed over.
         (b"", 0),
         (b" \t ", 0),
@@ -45,6 +45,7 @@ fn the_first_fault_of_a_line_is_told(rt: HostRuntime) -> Result<(), Fail> {
         (b"resend 0 1", 100),
         (b"raw 0 00fF9A", 100),
         (b"settle", 100),
+        (b"members 3", 100),
         (b"log 0", 100),
         (b"size 0", 100),
         (b"stable 0", 100),
@@ -56,7 +57,7 @@ fn the_first_fault_of_a_line_is_told(rt: HostRuntime) -> Result<(), Fail> {
         (b"Do 0 awset:s add x", 2),
         (b"dos", 2),
         (b"settle\r", 2),
-        (b"members 2", 2),
+        (b"member 2", 2),
         (b"ids 0 list:l", 2),
         (b"tombs 0", 2),
         (b"stop", 2),
@@ -76,6 +77,8 @@ fn the_first_fault_of_a_line_is_told(rt: HostRuntime) -> Result<(), Fail> {
         (b"resend 0", 3),
         (b"raw 0", 3),
         (b"settle 0", 3),
+        (b"members", 3),
+        (b"members 3 4", 3),
         (b"seen", 3),
         (b"noops 0 0", 3),
         (b"lags", 3),
@@ -106,9 +109,13 @@ fn the_first_fault_of_a_line_is_told(rt: HostRuntime) -> Result<(), Fail> {
         (b"do 0 awset:a add \x7f", 7),
         (b"raw 0 abc", 7),
         (b"raw 0 0g", 7),
-        // An amount, and the number of a message.
+        // An amount, the number of a message, and that of members.
         (b"do 0 counter:a inc 4294967296", 8),
         (b"give 0 1 00000000001", 8),
+        (b"members 0", 8),
+        (b"members 17", 8),
+        (b"members x", 8),
+        (b"members 99999999999", 8),
     ];
     for (line, wanted) in cases {
         assert_eq!(rt; code(&read_line(alloc, line, 2)), wanted);
