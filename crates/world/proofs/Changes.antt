@@ -7,11 +7,11 @@ use Rattle.op_base.specs.declared.message.Message.{Message}
 use Rattle.causal_model.specs.State.{State, start, with_own}
 use Rattle.frame_codec.specs.Grammar.{frame_of}
 use Rattle.frame_codec.specs.declared.version.Version.TheVariants.{Two}
-use Rattle.world_model.specs.World.{PlainWorld, size_of, replica_of, sent_by, with_state, with_sent, with_all_sent}
-use Rattle.world_model.specs.Worlds.{IsWorld}
+use Rattle.world_model.specs.World.{PlainWorld, size_of, epoch_in, replica_of, sent_by, with_state, with_sent, with_all_sent}
+use Rattle.world_model.specs.Worlds.{KeepsWorld}
 use Rattle.world.specs.Shows.{NotedNode, state_of, Shows}
 use Rattle.world.specs.Steps.{SameNode}
-use Rattle.world.proofs.Nodes.{StandsAt, size_shown, within, state_shown, w_shown, limit_shown, n_shown}
+use Rattle.world.proofs.Nodes.{StandsAt, size_shown, within, state_shown, w_shown, limit_shown, n_shown, epoch_shown}
 
 -- a row with more frames behind it, seen by its frames
 pub rows_with : {X : Type 0} (items : X → List (List ℕ)) (rows : List X) (r : ℕ) (row new : X) (more : List (List ℕ)) → r < length rows → row ≡ slice_index_or rows r row → items new ≡ items row ++ more
@@ -23,7 +23,7 @@ rows_with items rows r row new more low at is =
 -- each member has a row
 pub rows_within : {X : Type 0} (items : X → List (List ℕ)) (nodes : List NotedNode) (rows : List X) (plain : PlainWorld) → Shows nodes (map items rows) plain → (r : ℕ) → r < length nodes → r < length rows
 rows_within items nodes rows plain shows r low =
-    let counted : length rows ≡ length plain.sent = sym (length-map rows items) ∙ ap length shows.frames ∙ length-map plain.sent (map (frame_of Two (size_of plain) 0)) in
+    let counted : length rows ≡ length plain.sent = sym (length-map rows items) ∙ ap length shows.frames ∙ length-map plain.sent (map (frame_of Two (size_of plain) (epoch_in plain))) in
     omega (arith, counted, shows.is_world.of_each, size_shown nodes (map items rows) plain shows)
 
 -- ---- messages that were sent one after the other
@@ -64,13 +64,14 @@ module _ (nodes : List NotedNode) (rows : List (List (List ℕ))) (plain : Plain
   limits_stay = same.limit ∙ limit_shown nodes rows plain shows r node stands
 
   -- a node comes to another state
-  pub changed_shows : (after : State) → state_of left ≡ after → IsWorld (with_state plain r after) → Shows (slice_set nodes r left) rows (with_state plain r after)
-  changed_shows after is world = record {
-    is_world = world;
+  pub changed_shows : (after : State) → state_of left ≡ after → KeepsWorld plain (with_state plain r after) → Shows (slice_set nodes r left) rows (with_state plain r after)
+  changed_shows after is keeps = record {
+    is_world = keeps.is_world;
     states = map-set state_of nodes r left ∙ ap (λ l. slice_set l r (state_of left)) shows.states ∙ ap (slice_set plain.replicas r) is;
     windows = All-set (λ x. x.inner.w ≡ plain.w) nodes r left windows_stay shows.windows;
     limits = All-set (λ x. x.inner.limit ≡ plain.limit) nodes r left limits_stay shows.limits;
-    frames = shows.frames ∙ ap (λ n. map (map (frame_of Two n 0)) plain.sent) (sym (length-set plain.replicas r after));
+    frames = shows.frames ∙ ap (λ epoch. map (map (frame_of Two (size_of plain) epoch)) plain.sent) (sym keeps.epoch)
+        ∙ ap (λ n. map (map (frame_of Two n (epoch_in (with_state plain r after)))) plain.sent) (sym keeps.size);
   }
 
   -- a node stays in its state
@@ -84,26 +85,30 @@ module _ (nodes : List NotedNode) (rows : List (List (List ℕ))) (plain : Plain
   }
 
   -- a node sends messages, whose frames stand behind the others
-  pub sent_shows : (ms : List Message) → state_of left ≡ fold with_own (state_of node) ms → IsWorld (with_all_sent r plain ms)
-      → Shows (slice_set nodes r left) (slice_set rows r (slice_index_or rows r [] ++ map (frame_of Two node.inner.n 0) ms)) (with_all_sent r plain ms)
-  sent_shows ms is world =
+  pub sent_shows : (ms : List Message) → state_of left ≡ fold with_own (state_of node) ms → KeepsWorld plain (with_all_sent r plain ms)
+      → Shows (slice_set nodes r left) (slice_set rows r (slice_index_or rows r [] ++ map (frame_of Two node.inner.n node.inner.epoch) ms)) (with_all_sent r plain ms)
+  sent_shows ms is keeps =
       let after = fold with_own (replica_of plain r) ms in
       let n = size_of plain in
-      let frame : ℕ → Message → List ℕ = λ n. frame_of Two n 0 in
+      let epoch = epoch_in plain in
+      let frame : ℕ → ℕ → Message → List ℕ = λ n epoch. frame_of Two n epoch in
       let inside = within nodes rows plain shows r node stands in
       let low : r < length plain.sent = omega (arith, shows.is_world.of_each, inside) in
       let all = all_are_sent r plain ms inside low in
-      let row : slice_index_or rows r [] ≡ map (frame n) (sent_by plain r) = ap (λ l. slice_index_or l r []) shows.frames ∙ get_or-map (map (frame n)) plain.sent r [] [] low in
-      let more : slice_index_or rows r [] ++ map (frame node.inner.n) ms ≡ map (frame n) (sent_by plain r ++ ms) =
-      ap (λ x. x ++ map (frame node.inner.n) ms) row ∙ ap (λ k. map (frame n) (sent_by plain r) ++ map (frame k) ms) (n_shown nodes rows plain shows r node stands) ∙ sym (map-append (frame n) (sent_by plain r) ms) in
-      subst (Shows (slice_set nodes r left) (slice_set rows r (slice_index_or rows r [] ++ map (frame node.inner.n) ms))) (sym all) (record {
-        is_world = subst IsWorld all world;
+      let sent_all = with_parts plain (slice_set plain.replicas r after) (slice_set plain.sent r (sent_by plain r ++ ms)) in
+      let keeps_all : KeepsWorld plain sent_all = subst (KeepsWorld plain) all keeps in
+      let row : slice_index_or rows r [] ≡ map (frame n epoch) (sent_by plain r) = ap (λ l. slice_index_or l r []) shows.frames ∙ get_or-map (map (frame n epoch)) plain.sent r [] [] low in
+      let more : slice_index_or rows r [] ++ map (frame node.inner.n node.inner.epoch) ms ≡ map (frame n epoch) (sent_by plain r ++ ms) =
+      ap (λ x. x ++ map (frame node.inner.n node.inner.epoch) ms) row ∙ ap (λ k. map (frame n epoch) (sent_by plain r) ++ map (frame k node.inner.epoch) ms) (n_shown nodes rows plain shows r node stands) ∙ ap (λ e. map (frame n epoch) (sent_by plain r) ++ map (frame n e) ms) (epoch_shown nodes rows plain shows r node stands) ∙ sym (map-append (frame n epoch) (sent_by plain r) ms) in
+      subst (Shows (slice_set nodes r left) (slice_set rows r (slice_index_or rows r [] ++ map (frame node.inner.n node.inner.epoch) ms))) (sym all) (record {
+        is_world = keeps_all.is_world;
         states = map-set state_of nodes r left ∙ ap (λ l. slice_set l r (state_of left)) shows.states
             ∙ ap (slice_set plain.replicas r) (is ∙ ap (λ s. fold with_own s ms) (sym (state_shown nodes rows plain shows r node stands)));
         windows = All-set (λ x. x.inner.w ≡ plain.w) nodes r left windows_stay shows.windows;
         limits = All-set (λ x. x.inner.limit ≡ plain.limit) nodes r left limits_stay shows.limits;
-        frames = ap (λ l. slice_set l r (slice_index_or rows r [] ++ map (frame node.inner.n) ms)) shows.frames
-            ∙ ap (slice_set (map (map (frame n)) plain.sent) r) more
-            ∙ sym (map-set (map (frame n)) plain.sent r (sent_by plain r ++ ms))
-            ∙ ap (λ k. map (map (frame k)) (slice_set plain.sent r (sent_by plain r ++ ms))) (sym (length-set plain.replicas r after));
+        frames = ap (λ l. slice_set l r (slice_index_or rows r [] ++ map (frame node.inner.n node.inner.epoch) ms)) shows.frames
+            ∙ ap (slice_set (map (map (frame n epoch)) plain.sent) r) more
+            ∙ sym (map-set (map (frame n epoch)) plain.sent r (sent_by plain r ++ ms))
+            ∙ ap (λ k. map (map (frame k epoch)) (slice_set plain.sent r (sent_by plain r ++ ms))) (sym keeps_all.size)
+            ∙ ap (λ e. map (map (frame (size_of sent_all) e)) (slice_set plain.sent r (sent_by plain r ++ ms))) (sym keeps_all.epoch);
       })

@@ -26,12 +26,12 @@ use Rattle.causal_model.specs.declared.outcome.Receive.TheVariants as receive
 use Rattle.causal_model.specs.Journal.{receive_notes}
 use Rattle.causal_model.specs.Receiving.{is_accepted, receive_rule}
 use Rattle.replica_node.specs.Rules.{noting}
-use Rattle.world_model.specs.World.{PlainWorld, size_of, sent_by, sent_message, offer_at, give_of, wants_frame, takes_frame, give_at}
+use Rattle.world_model.specs.World.{PlainWorld, size_of, epoch_in, sent_by, sent_message, offer_at, give_of, wants_frame, takes_frame, give_at}
 use Rattle.world_model.proofs.Sent.{sent_are_own, sent_is_numbered}
 use Rattle.world.specs.Shows.{NotedNode, Shows}
 use Rattle.world.specs.Steps.{SameNode, IsFrameOf}
 use Rattle.world_model.specs.declared.outcome.Given.TheVariants as given
-use Rattle.world.proofs.Nodes.{StandsAt, size_shown, n_shown, limit_shown}
+use Rattle.world.proofs.Nodes.{StandsAt, size_shown, n_shown, epoch_shown, limit_shown}
 use Rattle.world.proofs.Follow.{Comes}
 use Rattle.world.proofs.Replies.{Notes, replies_offer}
 
@@ -52,8 +52,8 @@ operation_is_sent op.NoOp h = tt
 operation_is_sent (op.Update u) h = let parts = and_parts (is_key u.object.key) (is_valid_act u.act) h in (parts.0, argument_is_sent u.act parts.1)
 
 -- the frame of a message that fits a store and can be carried there
-frame_is_sent : (n limit : ℕ) (m : Message) → IsTrue (fits n m) → IsTrue (is_carried limit m) → IsFrame n 0 limit (frame_of Two n 0 m) m
-frame_is_sent n limit m fit carried =
+frame_is_sent : (n epoch limit : ℕ) (m : Message) → IsTrue (fits n m) → IsTrue (is_carried limit m) → IsFrame n epoch limit (frame_of Two n epoch m) m
+frame_is_sent n epoch limit m fit carried =
     let parts = and_parts (list_all (λ e. nat_le e limit) m.tag) (is_valid m.op) carried in
     let each = AllPass-from_list_all (λ e. nat_le e limit) m.tag parts.0 in
     (Two, record { in_epoch = tt; fits = fit; within = λ i d b. leb-true (slice_index_or m.tag i d) limit (each i d b); operation = operation_is_sent m.op parts.1; spelled = refl })
@@ -74,8 +74,8 @@ operation_is_valid : (version : Version) (o : Op) → IsOperation version o → 
 operation_is_valid version op.NoOp h = refl
 operation_is_valid version (op.Update u) h = and_from (is_key u.object.key) (is_valid_act u.act) h.0 (argument_is_valid version u.act h.1)
 
-pub frame_is_carried : (n limit : ℕ) (frame : List ℕ) (m : Message) → IsFrame n 0 limit frame m → IsTrue (is_carried limit m)
-frame_is_carried n limit frame m is =
+pub frame_is_carried : (n epoch limit : ℕ) (frame : List ℕ) (m : Message) → IsFrame n epoch limit frame m → IsTrue (is_carried limit m)
+frame_is_carried n epoch limit frame m is =
     and_from (list_all (λ e. nat_le e limit) m.tag) (is_valid m.op) (list_all-from_AllPass (λ e. nat_le e limit) m.tag (λ i d b. le-leb (slice_index_or m.tag i d) limit (is.1.within i d b))) (operation_is_valid is.0 m.op is.1.operation)
 
 -- ---- what is given
@@ -86,11 +86,11 @@ none_at_0 nodes rows plain shows k low seq is =
     subst (λ s. sent_message plain k s ≡ None) (sym is) (sent_is_numbered plain k 0 shows.is_world (omega (arith, low, size_shown nodes rows plain shows)))
 
 -- a message that is given: it was sent, fits and can be carried, and this is its frame
-pub record IsGiven (plain : PlainWorld) (k seq n limit : ℕ) (frame : List ℕ) (m : Message) : Type 0 where
+pub record IsGiven (plain : PlainWorld) (k seq n epoch limit : ℕ) (frame : List ℕ) (m : Message) : Type 0 where
   pub sent : sent_message plain k seq ≡ Some m
   pub fit : IsTrue (fits (size_of plain) m)
   pub carried : IsTrue (is_carried plain.limit m)
-  pub is : IsFrameOf n limit (record { origin = k; seq = seq }) frame m
+  pub is : IsFrameOf n epoch limit (record { origin = k; seq = seq }) frame m
 
 module _ {X : Type 0} (items : X → List (List ℕ)) (nodes : List NotedNode) (sent : List X) (plain : PlainWorld) (shows : Shows nodes (map items sent) plain)
     (k : ℕ) (row : X) (low : k < length nodes) (at : row ≡ slice_index_or sent k row) where
@@ -100,9 +100,9 @@ module _ {X : Type 0} (items : X → List (List ℕ)) (nodes : List NotedNode) (
   kept : k < length plain.sent
   kept = omega (arith, member, shows.is_world.of_each)
 
-  row_shown : items row ≡ map (frame_of Two (size_of plain) 0) (sent_by plain k)
+  row_shown : items row ≡ map (frame_of Two (size_of plain) (epoch_in plain)) (sent_by plain k)
   row_shown =
-      let frames = map (frame_of Two (size_of plain) 0) in
+      let frames = map (frame_of Two (size_of plain) (epoch_in plain)) in
       let counted : length sent ≡ length plain.sent = sym (length-map sent items) ∙ ap length shows.frames ∙ length-map plain.sent frames in
       let l : k < length sent = omega (arith, kept, counted) in
       ap items at ∙ sym (get_or-map items sent k row [] l) ∙ ap (λ rows. slice_index_or rows k []) shows.frames ∙ get_or-map frames plain.sent k [] [] kept
@@ -110,7 +110,7 @@ module _ {X : Type 0} (items : X → List (List ℕ)) (nodes : List NotedNode) (
   pub none_is_past : (seq : ℕ) → length (items row) < seq → sent_message plain k seq ≡ None
   none_is_past seq past =
       let ms = sent_by plain k in
-      let counted : length (items row) ≡ length ms = ap length row_shown ∙ length-map ms (frame_of Two (size_of plain) 0) in
+      let counted : length (items row) ≡ length ms = ap length row_shown ∙ length-map ms (frame_of Two (size_of plain) (epoch_in plain)) in
       let none : slice_get ms (seq - 1) ≡ None = slice_get_past ms (seq - 1) (omega (arith, past, counted)) in
       sent_is_numbered plain k seq shows.is_world member ∙ by (seq == 0) (slice_get ms (seq - 1)) none where
         by : (b : Bool) (x : Option Message) → x ≡ None → (if b then None else x) ≡ None
@@ -118,11 +118,12 @@ module _ {X : Type 0} (items : X → List (List ℕ)) (nodes : List NotedNode) (
         by false x e = e
 
   module _ (r : ℕ) (node : NotedNode) (stands : StandsAt nodes r node) (seq : ℕ) (some : seq ≢ 0) (most : seq ≤ length (items row)) (frame : List ℕ) (is : frame ≡ slice_index_or (items row) (seq - 1) frame) where
-    pub message_given : (m : Message) × IsGiven plain k seq node.inner.n node.inner.limit frame m
+    pub message_given : (m : Message) × IsGiven plain k seq node.inner.n node.inner.epoch node.inner.limit frame m
     message_given =
         let n = size_of plain in
+        let epoch = epoch_in plain in
         let ms = sent_by plain k in
-        let counted : length (items row) ≡ length ms = ap length row_shown ∙ length-map ms (frame_of Two n 0) in
+        let counted : length (items row) ≡ length ms = ap length row_shown ∙ length-map ms (frame_of Two n epoch) in
         elim (slice_get_cases ms (seq - 1)).1 [
           | inl here ↦
               let m = here.0 in
@@ -131,9 +132,10 @@ module _ {X : Type 0} (items : X → List (List ℕ)) (nodes : List NotedNode) (
               let own = All-get_or IsOwn ms (seq - 1) m here.1 (sent_are_own plain k shows.is_world member).1 in
               let parts = subst IsOwn here.3 own in
               let ids = and_parts (k == m.origin) (seq == number m) (found (has_id (record { origin = k; seq = seq })) ms m number_is).1 in
-              let spelled : frame ≡ frame_of Two n 0 m = is ∙ ap (λ l. slice_index_or l (seq - 1) frame) row_shown ∙ get_or-map (frame_of Two n 0) ms (seq - 1) m frame here.1 ∙ ap (frame_of Two n 0) here.3 in
-              let sent_frame = subst (λ x. IsFrame n 0 plain.limit x m) (sym spelled) (frame_is_sent n plain.limit m parts.1 parts.2) in
+              let spelled : frame ≡ frame_of Two n epoch m = is ∙ ap (λ l. slice_index_or l (seq - 1) frame) row_shown ∙ get_or-map (frame_of Two n epoch) ms (seq - 1) m frame here.1 ∙ ap (frame_of Two n epoch) here.3 in
+              let sent_frame = subst (λ x. IsFrame n epoch plain.limit x m) (sym spelled) (frame_is_sent n epoch plain.limit m parts.1 parts.2) in
               let same_n = n_shown nodes (map items sent) plain shows r node stands in
+              let same_epoch = epoch_shown nodes (map items sent) plain shows r node stands in
               let same_limit = limit_shown nodes (map items sent) plain shows r node stands in (
                 m,
                 record {
@@ -141,7 +143,7 @@ module _ {X : Type 0} (items : X → List (List ℕ)) (nodes : List NotedNode) (
                   fit = parts.1;
                   carried = parts.2;
                   is = record {
-                    is = subst (λ x. IsFrame x 0 node.inner.limit frame m) (sym same_n) (subst (λ x. IsFrame n 0 x frame m) (sym same_limit) sent_frame);
+                    is = subst (λ x. IsFrame x node.inner.epoch node.inner.limit frame m) (sym same_n) (subst (λ x. IsFrame n x node.inner.limit frame m) (sym same_epoch) (subst (λ x. IsFrame n epoch x frame m) (sym same_limit) sent_frame));
                     id = ap (λ (o : ℕ). record { origin = o; seq = number m }) (sym (eqb-true k m.origin ids.0)) ∙ ap (λ (s : ℕ). record { origin = k; seq = s }) (sym (eqb-true seq (number m) ids.1));
                   };
                 },
@@ -154,7 +156,7 @@ module _ {X : Type 0} (items : X → List (List ℕ)) (nodes : List NotedNode) (
 
     -- what giving it answers, by what it answers at the node
     pub replies_give : (left : NotedNode) → SameNode node left → (answer : Receive)
-        → ((m : Message) → IsFrameOf node.inner.n node.inner.limit (record { origin = k; seq = seq }) frame m
+        → ((m : Message) → IsFrameOf node.inner.n node.inner.epoch node.inner.limit (record { origin = k; seq = seq }) frame m
         → Notes receive.NoMemory wants_frame (noting node.first (receive_notes m) (receive_rule node.inner.w m)) node.journal.notes answer left.journal.notes)
         → Comes (given.Got receive.NoMemory) takes_frame (give_at r k seq plain) plain (given.Got answer) (Shows (slice_set nodes r left) (map items sent))
     replies_give left same answer follows =

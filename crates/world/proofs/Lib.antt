@@ -8,6 +8,11 @@ pub mod Bytes
 pub mod Openings
 pub mod Offers
 pub mod Outboxes
+pub mod OwnMessages
+pub mod Growing
 pub mod Settles
 pub mod Honest
 pub mod Lags
+pub mod Apart
+pub mod Regroups
+pub mod Entrants

@@ -1,16 +1,18 @@
 -- What a world shows of a node.
-use Rattle.std.proofs.Common.{◌≡◌, ℕ, ◌<◌, ◌^◌, ◌&&◌, nat_lt, nat_le, List, length, map, slice_index_or, sym, ap, subst, ◌∙◌, arith}
+use Rattle.std.proofs.Common.{◌≡◌, ℕ, ◌<◌, ◌≤◌, ◌^◌, ◌&&◌, nat_lt, nat_le, List, length, map, slice_index_or, sym, ap, subst, ◌∙◌, arith}
 use Rattle.std.proofs.lemmas.Bool.{and_parts, leb-true}
 use Rattle.std.proofs.lemmas.List.{length-map, get_or-map}
 use Rattle.std.proofs.lemmas.Simd.{map-map}
 use Rattle.std.proofs.lemmas.List.Elements.{All-get_or}
 use Rattle.op_base.specs.Message.{id_of}
 use Rattle.op_base.specs.declared.message.Message.{Message}
+use Rattle.causal_model.specs.History.{epoch_of}
 use Rattle.causal_model.specs.Log.{log_of, kept_log, message_of}
 use Rattle.causal_model.specs.Covering.{store_keeps, store_covers}
 use Rattle.causal_model.specs.State.{State, start}
+use Rattle.causal_model.proofs.Histories.{IsLimited-from_test}
 use Rattle.replica_core.specs.Numbers.{is_from_to}
-use Rattle.world_model.specs.World.{PlainWorld, size_of, replica_of}
+use Rattle.world_model.specs.World.{PlainWorld, size_of, replica_of, epoch_in}
 use Rattle.world_model.specs.Showing.{log_at}
 use Rattle.world.specs.Shows.{NotedNode, state_of, Shows}
 
@@ -42,6 +44,9 @@ module _ (nodes : List NotedNode) (rows : List (List (List ℕ))) (plain : Plain
     pub n_shown : node.inner.n ≡ size_of plain
     n_shown = sym node.stands.of_store ∙ ap (λ s. s.history.present.n) (sym state_shown) ∙ (shows.is_world.replicas r within).of_store
 
+    pub epoch_shown : node.inner.epoch ≡ epoch_in plain
+    epoch_shown = sym node.stands.in_epoch ∙ ap (λ s. epoch_of s.history) (sym state_shown) ∙ (shows.is_world.replicas r within).in_epoch
+
     -- what goes by the window, the limit and the state is at the node as at the plain replica
     pub alike : {X : Type 0} (f : ℕ → ℕ → State → X) → f node.inner.w node.inner.limit (state_of node) ≡ f plain.w plain.limit (replica_of plain r)
     alike f = ap (λ w. f w node.inner.limit (state_of node)) w_shown ∙ ap (λ limit. f plain.w limit (state_of node)) limit_shown ∙ ap (f plain.w plain.limit) (sym state_shown)
@@ -54,6 +59,10 @@ module _ (nodes : List NotedNode) (rows : List (List (List ℕ))) (plain : Plain
         sym (map-map id_of message_of node.inner.log.entries) ∙ ap (map id_of) node.stands.log.holds
         ∙ ap (λ n. map id_of (kept n node.inner.me)) (sym node.stands.of_store) ∙ ap (λ me. map id_of (kept h.present.n me)) (sym node.stands.of_member)
         ∙ ap (λ s. map id_of (log_of s.history)) (sym state_shown)
+
+-- an epoch is one that frames have
+pub epoch_is_low : (node : NotedNode) → node.inner.epoch ≤ 65535
+epoch_is_low node = omega (arith, node.stands.in_epoch, (IsLimited-from_test node.inner.limit (state_of node).history node.stands.is_state.is_limited).epochs)
 
 -- a limit is a number of 32 bits
 pub limit_is_small : (node : NotedNode) → node.inner.limit < 2 ^ 32

@@ -28,6 +28,7 @@ use Rattle.causal_model.proofs.Outcomes.{steps_of_accepted, accepted_is_accepted
 use Rattle.outbox.specs.Sent.{AreAbove}
 use Rattle.replica_node.specs.Nodes.{state_by}
 use Rattle.world_model.specs.Offering.{Offered, offered, offered_more, none_offered}
+use Rattle.world.specs.Growing.{NotesOffers}
 use Rattle.world.specs.Shows.{NotedNode, state_of}
 use Rattle.world.specs.Steps.{SameNode, OffersSome, OffersTo, OffersBetween, CanBeOffered, offered_at}
 use Rattle.world.specs.declared.offering.Offers.{Offers}
@@ -41,7 +42,7 @@ on_err_with (Ok x) P Q f p = tt
 on_err_with (Err e) P Q f p = f p
 
 pub same_twice : (a b c : NotedNode) → SameNode a b → SameNode b c → SameNode a c
-same_twice a b c one two = record { first = two.first ∙ one.first; n = two.n ∙ one.n; w = two.w ∙ one.w; limit = two.limit ∙ one.limit }
+same_twice a b c one two = record { first = two.first ∙ one.first; n = two.n ∙ one.n; w = two.w ∙ one.w; limit = two.limit ∙ one.limit; epoch = two.epoch ∙ one.epoch }
 
 -- ---- one message
 
@@ -181,14 +182,18 @@ module _ (nodes : List NotedNode) (r k : ℕ) (to of : NotedNode) (to_is : slice
       let all = subst (λ l. All (λ m. IsTrue (is_carried x.node.inner.limit m)) l) (ap (λ o. o.inner.outbox.messages) there ∙ sym same) x.carried in
       subst (λ n. IsTrue (is_carried n (slice_index_or ms i d))) (ap (λ o. o.inner.limit) here) (all i d l))
 
-  pub offers_between : (result : Result Offers NoMemory) (new : NotedNode) (left : List NotedNode) → OffersTo to ms result new → left ≡ slice_set nodes r new → OffersBetween nodes r k result left
-  offers_between result new left offers are = record {
+  pub offers_between : (result : Result Offers NoMemory) (new : NotedNode) (left : List NotedNode) → OffersTo to ms result new → NotesOffers ms to.journal.notes new.journal.notes → left ≡ slice_set nodes r new → OffersBetween nodes r k result left
+  offers_between result new left offers noted are = record {
     new = new;
     are = are;
     each = λ node other node_is other_is.
         let here : to ≡ node = cc in
         let there : of ≡ other = cc in
         subst (λ x. OffersTo x other.inner.outbox.messages result new) here (subst (λ l. OffersTo to l result new) (same ∙ ap (λ o. o.inner.outbox.messages) there) offers);
+    notes = λ node other node_is other_is.
+        let here : to ≡ node = cc in
+        let there : of ≡ other = cc in
+        subst (λ x. NotesOffers other.inner.outbox.messages x.journal.notes new.journal.notes) here (subst (λ l. NotesOffers l to.journal.notes new.journal.notes) (same ∙ ap (λ o. o.inner.outbox.messages) there) noted);
   }
 
 -- a list in two parts: what stands in each

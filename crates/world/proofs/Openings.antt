@@ -5,35 +5,36 @@ use Rattle.std.proofs.lemmas.List.{length-map, map-append}
 use Rattle.std.proofs.lemmas.List.Elements.{All-push}
 use Rattle.std.proofs.lemmas.List.FromFn.{map-range_with_len_more, length-map-range_with_len}
 use Rattle.causal_model.specs.Counts.{members}
-use Rattle.causal_model.specs.State.{start}
+use Rattle.causal_model.specs.State.{State, start}
 use Rattle.frame_codec.specs.Grammar.{frame_of}
 use Rattle.frame_codec.specs.declared.version.Version.TheVariants.{Two}
 use Rattle.replica_core.specs.Numbers.{are_numbers, is_from_to}
-use Rattle.world_model.specs.World.{opening, size_of}
+use Rattle.world_model.specs.World.{opening, size_of, epoch_in}
 use Rattle.world_model.specs.Honest.{IsHonest}
 use Rattle.world_model.specs.Worlds.{IsWorld}
 use Rattle.world_model.proofs.Worlds.{opening_is_world, opening_has_size}
 use Rattle.honest_worlds.proofs.Commands.{opening_is_honest}
 use Rattle.world.specs.Shows.{NotedNode, state_of, Shows}
-use Rattle.world.specs.Steps.{AreOpened, are_empty}
+use Rattle.world.specs.Steps.{AreNodesOf, are_empty}
 
-pub none_opened : (n w limit : ℕ) (nodes : List NotedNode) → nodes ≡ [] → AreOpened n w limit 0 nodes
-none_opened n w limit nodes is = record {
+-- the nodes of no members, and of one more
+pub no_nodes : (state_at : ℕ → State) (w limit : ℕ) (nodes : List NotedNode) → nodes ≡ [] → AreNodesOf state_at w limit 0 nodes
+no_nodes state_at w limit nodes is = record {
   states = ap (map state_of) is;
   windows = λ k d l. absurd (omega (arith, l, ap length is));
   limits = λ k d l. absurd (omega (arith, l, ap length is));
 }
 
-pub one_opened : (n w limit count : ℕ) (nodes after : List NotedNode) (node : NotedNode) → AreOpened n w limit count nodes → after ≡ nodes ++ node ∷ []
-    → state_of node ≡ start n count → node.inner.w ≡ w → node.inner.limit ≡ limit → AreOpened n w limit (count + 1) after
-one_opened n w limit count nodes after node opened is state wide most =
-    let all : AreOpened n w limit (count + 1) (nodes ++ node ∷ []) = record {
-      states = map-append state_of nodes (node ∷ []) ∙ ap (λ l. l ++ state_of node ∷ []) opened.states ∙ ap (λ s. map (λ me. start n me) (members count) ++ s ∷ []) state
-          ∙ sym (map-range_with_len_more (λ me. start n me) 0 count count (omega arith));
-      windows = All-push (λ x. x.inner.w ≡ w) nodes node opened.windows wide;
-      limits = All-push (λ x. x.inner.limit ≡ limit) nodes node opened.limits most;
+pub one_node_more : (state_at : ℕ → State) (w limit count : ℕ) (nodes after : List NotedNode) (node : NotedNode) → AreNodesOf state_at w limit count nodes → after ≡ nodes ++ node ∷ []
+    → state_of node ≡ state_at count → node.inner.w ≡ w → node.inner.limit ≡ limit → AreNodesOf state_at w limit (count + 1) after
+one_node_more state_at w limit count nodes after node are is state wide most =
+    let all : AreNodesOf state_at w limit (count + 1) (nodes ++ node ∷ []) = record {
+      states = map-append state_of nodes (node ∷ []) ∙ ap (λ l. l ++ state_of node ∷ []) are.states ∙ ap (λ s. map state_at (members count) ++ s ∷ []) state
+          ∙ sym (map-range_with_len_more state_at 0 count count (omega arith));
+      windows = All-push (λ x. x.inner.w ≡ w) nodes node are.windows wide;
+      limits = All-push (λ x. x.inner.limit ≡ limit) nodes node are.limits most;
     } in
-    subst (AreOpened n w limit (count + 1)) (sym is) all
+    subst (AreNodesOf state_at w limit (count + 1)) (sym is) all
 
 pub one_empty : {X : Type 0} (items : X → List (List ℕ)) (rows after : List X) (row : X) (count : ℕ) → map items rows ≡ are_empty count → after ≡ rows ++ row ∷ [] → items row ≡ [] → map items after ≡ are_empty (count + 1)
 one_empty items rows after row count so is none =
@@ -45,10 +46,10 @@ pub no_frames : {X : Type 0} (f : X → List ℕ) (ids : List ℕ) → map {A = 
 no_frames f [] = refl
 no_frames f (me ∷ ids) = ap (λ l. [] ∷ l) (no_frames f ids)
 
-pub opened_members : (n w limit : ℕ) (nodes : List NotedNode) → AreOpened n w limit n nodes → length nodes ≡ n
-opened_members n w limit nodes opened = sym (length-map nodes state_of) ∙ ap length opened.states ∙ length-map-range_with_len (λ me. start n me) 0 n
+pub nodes_of_members : (state_at : ℕ → State) (w limit n : ℕ) (nodes : List NotedNode) → AreNodesOf state_at w limit n nodes → length nodes ≡ n
+nodes_of_members state_at w limit n nodes are = sym (length-map nodes state_of) ∙ ap length are.states ∙ length-map-range_with_len state_at 0 n
 
-pub opened_shows : (n w limit : ℕ) (nodes : List NotedNode) (rows : List (List (List ℕ))) → IsTrue (are_numbers 0 n w limit) → AreOpened n w limit n nodes → rows ≡ are_empty n → Shows nodes rows (opening n w limit)
+pub opened_shows : (n w limit : ℕ) (nodes : List NotedNode) (rows : List (List (List ℕ))) → IsTrue (are_numbers 0 n w limit) → AreNodesOf (start n) w limit n nodes → rows ≡ are_empty n → Shows nodes rows (opening n w limit)
 opened_shows n w limit nodes rows numbers opened empty =
     let parts = and_parts (is_from_to 1 16 n && is_from_to 1 64 w && is_from_to 1 1000000 limit) (nat_lt 0 n) numbers in
     let three = and_parts (is_from_to 1 16 n && is_from_to 1 64 w) (is_from_to 1 1000000 limit) parts.0 in
@@ -61,7 +62,7 @@ opened_shows n w limit nodes rows numbers opened empty =
       states = opened.states;
       windows = opened.windows;
       limits = opened.limits;
-      frames = empty ∙ no_frames (frame_of Two (size_of (opening n w limit)) 0) (members n);
+      frames = empty ∙ no_frames (frame_of Two (size_of (opening n w limit)) (epoch_in (opening n w limit))) (members n);
     }
 
 -- a store that can be opened is honest then

@@ -16,8 +16,9 @@ use Rattle.causal_model.specs.declared.outcome.Refusal.TheVariants as refusal
 use Rattle.causal_model.specs.Stability.{stable_vector, is_stable}
 use Rattle.world_model.specs.World.{PlainWorld, size_of, replica_of, with_state}
 use Rattle.world_model.specs.Offering.{Offered, offered, offered_more, none_offered, offered_between, outbox_in, resend_at}
-use Rattle.world_model.specs.Worlds.{IsWorld}
+use Rattle.world_model.specs.Worlds.{IsWorld, KeepsWorld}
 use Rattle.world_model.proofs.Commands.{offering_keeps_world, resending_keeps_world}
+use Rattle.world_model.proofs.Worlds.{world_keeps_itself, kept_twice}
 use Rattle.world_model.proofs.Sent.{messages_fit, messages_carried}
 use Rattle.world.specs.Answers.{IsAfterSome}
 use Rattle.world.specs.Midst.{offered_first}
@@ -118,21 +119,21 @@ own_resent plain r k same =
 -- ---- some messages of a store
 
 some_keep : (plain : PlainWorld) (r : ℕ) → r < size_of plain → (o : Offered) (ms : List Message) → All (λ m. IsTrue (fits (size_of plain) m)) ms → All (λ m. IsTrue (is_carried plain.limit m)) ms
-    → IsWorld (with_state plain r o.state) → IsWorld (with_state plain r (fold (offered_more plain.w) o ms).state)
-some_keep plain r low o [] fit carried world = world
-some_keep plain r low o (m ∷ ms) fit carried world =
+    → KeepsWorld plain (with_state plain r o.state) → KeepsWorld plain (with_state plain r (fold (offered_more plain.w) o ms).state)
+some_keep plain r low o [] fit carried keeps = keeps
+some_keep plain r low o (m ∷ ms) fit carried keeps =
     let before = with_state plain r o.state in
     let size : size_of before ≡ size_of plain = length-set plain.replicas r o.state in
-    let next = (offering_keeps_world before r m world (omega (arith, low, size)) (subst (λ n. IsTrue (fits n m)) (sym size) (All-head (λ y. IsTrue (fits (size_of plain) y)) m ms fit)) (All-head (λ y. IsTrue (is_carried plain.limit y)) m ms carried)).is_world in
+    let next = (offering_keeps_world before r m keeps.is_world (omega (arith, low, size)) (subst (λ n. IsTrue (fits n m)) (sym size) (All-head (λ y. IsTrue (fits (size_of plain) y)) m ms fit)) (All-head (λ y. IsTrue (is_carried plain.limit y)) m ms carried)) in
     let here : replica_of before r ≡ o.state = get_or-set_same plain.replicas r o.state (start 0 0) low in
-    let there = subst (λ s. IsWorld (with_state before r (receive_rule plain.w m s).1)) here next in
+    let there = subst (λ s. KeepsWorld before (with_state before r (receive_rule plain.w m s).1)) here next in
     let after = (receive_rule plain.w m o.state).1 in
-    let twice = subst (λ l. IsWorld (record { w = plain.w; limit = plain.limit; replicas = l; sent = plain.sent })) (set_twice plain.replicas r o.state after) there in
-    some_keep plain r low (offered_more plain.w o m) ms (All-tail (λ y. IsTrue (fits (size_of plain) y)) m ms fit) (All-tail (λ y. IsTrue (is_carried plain.limit y)) m ms carried) twice
+    let twice = subst (λ l. KeepsWorld before (record { w = plain.w; limit = plain.limit; replicas = l; sent = plain.sent })) (set_twice plain.replicas r o.state after) there in
+    some_keep plain r low (offered_more plain.w o m) ms (All-tail (λ y. IsTrue (fits (size_of plain) y)) m ms fit) (All-tail (λ y. IsTrue (is_carried plain.limit y)) m ms carried) (kept_twice plain before (with_state plain r after) keeps twice)
 
 -- a world with a replica as it was
-as_it_was : (plain : PlainWorld) (r : ℕ) → IsWorld plain → IsWorld (with_state plain r (replica_of plain r))
-as_it_was plain r is = subst (λ l. IsWorld (record { w = plain.w; limit = plain.limit; replicas = l; sent = plain.sent })) (sym (set-get_or plain.replicas r (start 0 0))) is
+as_it_was : (plain : PlainWorld) (r : ℕ) → IsWorld plain → KeepsWorld plain (with_state plain r (replica_of plain r))
+as_it_was plain r is = subst (λ l. KeepsWorld plain (record { w = plain.w; limit = plain.limit; replicas = l; sent = plain.sent })) (sym (set-get_or plain.replicas r (start 0 0))) (world_keeps_itself plain is)
 
 -- what comes of offering an outbox: all of it is, or memory ended after the first of its messages
 abbrev pub Offers : PlainWorld → ℕ → ℕ → Result Made NoMemory → (PlainWorld → Type 0) → Type 0
@@ -162,18 +163,18 @@ module _ (nodes : List NotedNode) (rows : List (List (List ℕ))) (plain : Plain
       let whole = is.1 ∙ alike_offers nodes rows plain shows r k to of to_stands of_stands in (
         record { steps = ap (λ (o : Offered). o.steps) whole; kept = ap (λ (o : Offered). o.kept) whole },
         changed_shows nodes rows plain shows r to to_stands new is.0 (offered_between plain r k).state (ap (λ (o : Offered). o.state) whole)
-            (resending_keeps_world plain r k shows.is_world (within nodes rows plain shows r to to_stands)).is_world,
+            (resending_keeps_world plain r k shows.is_world (within nodes rows plain shows r to to_stands)),
       )
   offers_at to of new to_stands of_stands (Err e) is =
       let j = is.1.0 in
       let ms = outbox_in (replica_of plain k) in
       let inside = within nodes rows plain shows r to to_stands in
       let parts = outbox_fits nodes rows plain shows k (within nodes rows plain shows k of of_stands) in
-      let world = some_keep plain r inside (none_offered (replica_of plain r)) (take j ms) (All-take (λ m. IsTrue (fits (size_of plain) m)) j ms parts.0) (All-take (λ m. IsTrue (is_carried plain.limit m)) j ms parts.1) (as_it_was plain r shows.is_world) in (
+      let keeps = some_keep plain r inside (none_offered (replica_of plain r)) (take j ms) (All-take (λ m. IsTrue (fits (size_of plain) m)) j ms parts.0) (All-take (λ m. IsTrue (is_carried plain.limit m)) j ms parts.1) (as_it_was plain r shows.is_world) in (
         offered_first j plain r k,
         (j, refl),
         changed_shows nodes rows plain shows r to to_stands new is.0 (offered plain.w (replica_of plain r) (take j ms)).state
-            (is.1.1 ∙ ap (λ (o : Offered). o.state) (alike_some nodes rows plain shows r k to of to_stands of_stands j)) world,
+            (is.1.1 ∙ ap (λ (o : Offered). o.state) (alike_some nodes rows plain shows r k to of to_stands of_stands j)) keeps,
       )
 
   pub outbox_offers : (result : Result Made NoMemory) → OffersBetween nodes r k result left → Offers plain r k result (Shows left rows)

@@ -23,8 +23,9 @@ use Rattle.frame_codec.specs.declared.version.Version.TheVariants.{Two}
 use Rattle.replica_node.specs.Nodes.{state_by}
 use Rattle.replica_node.specs.Rules.{noting}
 use Rattle.world_model.specs.World.{PlainWorld, size_of, replica_of, with_all_sent, local_at, beat_at, offer_at}
-use Rattle.world_model.specs.Worlds.{IsWorld}
+use Rattle.world_model.specs.Worlds.{KeepsWorld}
 use Rattle.world_model.proofs.Commands.{sending_keeps_world, beating_keeps_world, offering_keeps_world}
+use Rattle.world_model.proofs.Worlds.{world_keeps_itself}
 use Rattle.world.specs.Shows.{NotedNode, state_of, Shows}
 use Rattle.world.specs.Steps.{SameNode}
 use Rattle.world.proofs.Changes.{rows_with, rows_within, changed_shows, same_shows, sent_shows}
@@ -71,27 +72,27 @@ module _ (nodes : List NotedNode) (rows : List (List (List ℕ))) (plain : Plain
       let same_got : got ≡ receive_rule plain.w m (replica_of plain r) = alike nodes rows plain shows r node stands (λ w limit s. receive_rule w m s) in
       let fits_state = subst (λ n. IsTrue (fits n m)) (sym (node.stands.of_store ∙ n_shown nodes rows plain shows r node stands)) fit in
       let carried_here = subst (λ limit. IsTrue (is_carried limit m)) (sym (limit_shown nodes rows plain shows r node stands)) carried in
-      let world = (offering_keeps_world plain r m shows.is_world (within nodes rows plain shows r node stands) fit carried).is_world in
+      let keeps = (offering_keeps_world plain r m shows.is_world (within nodes rows plain shows r node stands) fit carried) in
       replies no_memory needs rule (told (offer_at r m plain).0, (offer_at r m plain).1) (receive_notes m got.0) (receive_rule plain.w m (replica_of plain r)).1 answer (Shows (slice_set nodes r left) rows)
       (ap (λ x. x.0) is ∙ ap (λ x. told x.0) same_got) (ap (λ x. x.1) is) (receiving_replays node.inner.w node.inner.limit (state_of node) m node.stands.is_state fits_state carried_here ∙ ap (λ x. x.1) same_got)
-      (λ _ after. changed_shows nodes rows plain shows r node stands left same (receive_rule plain.w m (replica_of plain r)).1 after world)
+      (λ _ after. changed_shows nodes rows plain shows r node stands left same (receive_rule plain.w m (replica_of plain r)).1 after keeps)
       (λ _. same_shows nodes rows plain shows r node stands left same)
 
   -- a message is sent by a rule, where it gives one
   pub replies_sent : {A : Type 0} (no_memory : A) (needs : A → Bool) (notes_of : A → List Note) (messages_of : A → List Message) (rule : State → A × State) (told answer : A)
       → (rule (state_of node)).0 ≡ told → state_after (state_of node) (notes_of (rule (state_of node)).0) ≡ fold with_own (state_of node) (messages_of (rule (state_of node)).0)
-      → messages_of no_memory ≡ [] → IsWorld (with_all_sent r plain (messages_of told))
+      → messages_of no_memory ≡ [] → KeepsWorld plain (with_all_sent r plain (messages_of told))
       → Notes no_memory needs (noting node.first notes_of rule) node.journal.notes answer left.journal.notes
       → Comes no_memory needs (told, with_all_sent r plain (messages_of told)) plain answer
-      (Shows (slice_set nodes r left) (slice_set rows r (slice_index_or rows r [] ++ map (frame_of Two node.inner.n 0) (messages_of answer))))
-  replies_sent no_memory needs notes_of messages_of rule told answer is replays none world =
+      (Shows (slice_set nodes r left) (slice_set rows r (slice_index_or rows r [] ++ map (frame_of Two node.inner.n node.inner.epoch) (messages_of answer))))
+  replies_sent no_memory needs notes_of messages_of rule told answer is replays none keeps =
       let s = state_of node in
-      let rows_of : List Message → List (List (List ℕ)) = λ ms. slice_set rows r (slice_index_or rows r [] ++ map (frame_of Two node.inner.n 0) ms) in
+      let rows_of : List Message → List (List (List ℕ)) = λ ms. slice_set rows r (slice_index_or rows r [] ++ map (frame_of Two node.inner.n node.inner.epoch) ms) in
       let shown = sent_shows nodes rows plain shows r node stands left same in
       replies no_memory needs (noting node.first notes_of rule) (told, with_all_sent r plain (messages_of told)) (notes_of (rule s).0) (fold with_own s (messages_of told)) answer (Shows (slice_set nodes r left) (rows_of (messages_of answer)))
       is refl (replays ∙ ap (λ x. fold with_own s (messages_of x)) is)
-      (λ e after. subst (λ ms. Shows (slice_set nodes r left) (rows_of ms) (with_all_sent r plain (messages_of told))) (sym (ap messages_of e)) (shown (messages_of told) after world))
-      (λ e stays. subst (λ ms. Shows (slice_set nodes r left) (rows_of ms) plain) (sym (ap messages_of e ∙ none)) (shown [] stays shows.is_world))
+      (λ e after. subst (λ ms. Shows (slice_set nodes r left) (rows_of ms) (with_all_sent r plain (messages_of told))) (sym (ap messages_of e)) (shown (messages_of told) after keeps))
+      (λ e stays. subst (λ ms. Shows (slice_set nodes r left) (rows_of ms) plain) (sym (ap messages_of e ∙ none)) (shown [] stays (world_keeps_itself plain shows.is_world)))
 
 -- a send, where the row of frames is one of a table
 module _ {X : Type 0} (items : X → List (List ℕ)) (nodes : List NotedNode) (sent : List X) (plain : PlainWorld) (shows : Shows nodes (map items sent) plain)
@@ -103,20 +104,20 @@ module _ {X : Type 0} (items : X → List (List ℕ)) (nodes : List NotedNode) (
   rows_shown no_memory needs made answer frames more =
       subst (λ rows. Comes no_memory needs made plain answer (Shows (slice_set nodes r left) rows)) (sym (rows_with items sent r row new frames (rows_within items nodes sent plain shows r stands.low) at more))
 
-  pub replies_local : (update : Update) (answer : Local) → IsTrue (is_valid_update update) → items new ≡ items row ++ map (frame_of Two node.inner.n 0) (local_messages answer)
+  pub replies_local : (update : Update) (answer : Local) → IsTrue (is_valid_update update) → items new ≡ items row ++ map (frame_of Two node.inner.n node.inner.epoch) (local_messages answer)
       → Notes local.NoMemory is_sent (noting node.first local_notes (local_rule node.inner.w node.inner.limit update)) node.journal.notes answer left.journal.notes
       → Comes local.NoMemory is_sent (local_at r update plain) plain answer (Shows (slice_set nodes r left) (map items (slice_set sent r new)))
   replies_local update answer valid more follows =
-      rows_shown local.NoMemory is_sent (local_at r update plain) answer (map (frame_of Two node.inner.n 0) (local_messages answer)) more
+      rows_shown local.NoMemory is_sent (local_at r update plain) answer (map (frame_of Two node.inner.n node.inner.epoch) (local_messages answer)) more
       (replies_sent nodes (map items sent) plain shows r node stands left same local.NoMemory is_sent local_notes local_messages (local_rule node.inner.w node.inner.limit update) (local_at r update plain).0 answer
       (alike nodes (map items sent) plain shows r node stands (λ w limit s. (local_rule w limit update s).0)) (sending_replays node.inner.w node.inner.limit (state_of node) update) refl
-      (sending_keeps_world plain r update shows.is_world (within nodes (map items sent) plain shows r node stands) valid).is_world follows)
+      (sending_keeps_world plain r update shows.is_world (within nodes (map items sent) plain shows r node stands) valid) follows)
 
-  pub replies_beat : (answer : Beat) → items new ≡ items row ++ map (frame_of Two node.inner.n 0) (beat_messages answer)
+  pub replies_beat : (answer : Beat) → items new ≡ items row ++ map (frame_of Two node.inner.n node.inner.epoch) (beat_messages answer)
       → Notes beat.NoMemory is_beat (noting node.first beat_notes (beat_rule node.inner.w node.inner.limit)) node.journal.notes answer left.journal.notes
       → Comes beat.NoMemory is_beat (beat_at r plain) plain answer (Shows (slice_set nodes r left) (map items (slice_set sent r new)))
   replies_beat answer more follows =
-      rows_shown beat.NoMemory is_beat (beat_at r plain) answer (map (frame_of Two node.inner.n 0) (beat_messages answer)) more
+      rows_shown beat.NoMemory is_beat (beat_at r plain) answer (map (frame_of Two node.inner.n node.inner.epoch) (beat_messages answer)) more
       (replies_sent nodes (map items sent) plain shows r node stands left same beat.NoMemory is_beat beat_notes beat_messages (beat_rule node.inner.w node.inner.limit) (beat_at r plain).0 answer
       (alike nodes (map items sent) plain shows r node stands (λ w limit s. (beat_rule w limit s).0)) (beating_replays node.inner.w node.inner.limit (state_of node)) refl
-      (beating_keeps_world plain r shows.is_world (within nodes (map items sent) plain shows r node stands)).is_world follows)
+      (beating_keeps_world plain r shows.is_world (within nodes (map items sent) plain shows r node stands)) follows)

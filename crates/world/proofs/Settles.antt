@@ -1,16 +1,18 @@
 -- The parts of settling, one after the other.
-use Rattle.std.proofs.Common.{◌≡◌, ℕ, zero, suc, ◌+◌, ◌-◌, ◌*◌, ◌<◌, ◌≤◌, ◌==◌, ◌&&◌, not, nat_eq, replicate, Bool, true, false, List, [], ◌∷◌, ◌++◌, Result, Ok, Err, fold, length, map, refl, sym, ap, subst, ◌∙◌, inl, inr, add-one, add-zero, zero-add, arith}
-use Rattle.std.specs.List.{range_with_len}
+use Rattle.std.proofs.Common.{◌≡◌, ℕ, zero, suc, ◌+◌, ◌-◌, ◌*◌, ◌<◌, ◌≤◌, ◌≢◌, ◌==◌, ◌&&◌, ◌||◌, not, nat_eq, replicate, Bool, true, false, List, [], ◌∷◌, ◌++◌, Result, Ok, Err, fold, length, map, refl, sym, ap, subst, ◌∙◌, inl, inr, add-one, add-zero, zero-add, arith}
+use Rattle.std.specs.List.{range_with_len, list_any}
 use Rattle.std.proofs.Math.Logic.{∥∥₁_elim}
 use Rattle.std.proofs.Math.Bridge.{le_prop}
 use Rattle.std.proofs.Math.Nat.{mul-le-mul_right}
-use Rattle.std.proofs.lemmas.Bool.{cond-true, cond-false, cases_eq, eq-eqb}
+use Rattle.std.proofs.lemmas.Bool.{cond-true, cond-false, cases_eq, eq-eqb, eqb-true, false_from_ne_true}
 use Rattle.std.specs.Cmp.Lexicographic.{pointwise, bytes_decides}
 use Rattle.std.proofs.lemmas.List.Sums.{fold-append}
 use Rattle.op_base.specs.declared.memory.NoMemory.{NoMemory}
+use Rattle.op_base.specs.declared.outcome.Step.{Step}
 use Rattle.causal_model.specs.Counts.{members}
 use Rattle.world_model.specs.World.{PlainWorld, size_of}
-use Rattle.world_model.specs.Settling.{Round, after_offers, after_beat, after_offer, offers_made, round_of, rounds_within, most_rounds, world_settled, is_quiescent}
+use Rattle.world_model.specs.Settling.{Round, is_delivery, with_offered, after_offers, after_beat, after_offer, offers_made, round_of, rounds_within, most_rounds, world_settled, is_quiescent}
+use Rattle.world_model.specs.Offering.{offered_between, resend_at}
 use Rattle.world_model.specs.Showing.{seen_at}
 use Rattle.world_model.proofs.Shown.{settled_is_equal_counts}
 use Rattle.world.specs.Answers.{ShowsPlain}
@@ -40,6 +42,16 @@ one_more f round k before after Shows Leaves here step =
 -- it has come to all members
 pub over_all : (f : Round → ℕ → Round) (round : Round) (k n : ℕ) (moved : Bool) (Leaves : PlainWorld → Type 0) → k ≡ n → StandsIn (fold f round (members k)) moved Leaves → StandsIn (fold f round (members n)) moved Leaves
 over_all f round k n moved Leaves e here = subst (λ x. StandsIn (fold f round (members x)) moved Leaves) e here
+
+-- ---- an offer
+
+-- an outbox was offered to another replica
+pub offer_is_made : (plain : PlainWorld) (r k : ℕ) (moved after : Bool) (steps : List Step) (Leaves : PlainWorld → Type 0) → r ≢ k → steps ≡ (offered_between plain r k).steps → after ≡ (moved || list_any is_delivery steps)
+    → Leaves (resend_at r k plain).1 → StandsIn (after_offer r (round_at plain moved) k) after Leaves
+offer_is_made plain r k moved after steps Leaves other same is leaves =
+    let round = round_at plain moved in
+    let isnt : (r == k) ≡ false = false_from_ne_true (r == k) (λ e. other (eqb-true r k e)) in
+    subst (λ x. StandsIn x after Leaves) (sym (cond-false (r == k) round (with_offered round r (offered_between plain r k)) isnt)) (record { moved_is = is ∙ ap (λ made. moved || list_any is_delivery made) same; shows = leaves })
 
 -- ---- where memory ends
 

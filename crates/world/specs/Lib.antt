@@ -1,6 +1,9 @@
 pub mod Shows
+pub mod Growing
+pub mod Apart
 pub mod Midst
 pub mod Answers
 pub mod Steps
+pub mod Entrants
 pub mod Settles
 pub mod Honest

@@ -7,7 +7,7 @@ use Rattle.replica_node.specs.Nodes.{state_by}
 use Rattle.replica_node.specs.Notes.{Notes}
 use Rattle.replica_node.specs.contracts.journal.JournalRecorder.TheImpl.{ghosts}
 use Rattle.replica_node.specs.declared.node.Node.{Node}
-use Rattle.world_model.specs.World.{PlainWorld, size_of}
+use Rattle.world_model.specs.World.{PlainWorld, size_of, epoch_in}
 use Rattle.world_model.specs.Worlds.{IsWorld}
 
 -- a node with its journal in memory
@@ -25,5 +25,5 @@ pub record Shows (nodes : List NotedNode) (rows : List (List (List ℕ))) (plain
   pub states : map state_of nodes ≡ plain.replicas
   pub windows : All (λ node. node.inner.w ≡ plain.w) nodes
   pub limits : All (λ node. node.inner.limit ≡ plain.limit) nodes
-  -- the frames are those of what each member sent, in the order of their numbers
-  pub frames : rows ≡ map (map (frame_of Two (size_of plain) 0)) plain.sent
+  -- the frames are those of what each member sent in this epoch, in the order of their numbers
+  pub frames : rows ≡ map (map (frame_of Two (size_of plain) (epoch_in plain))) plain.sent

@@ -5,7 +5,7 @@ use Rattle.op_base.specs.declared.memory.NoMemory.{NoMemory}
 use Rattle.op_base.specs.declared.message.Message.{Message}
 use Rattle.op_base.specs.declared.tag.MessageId.{MessageId}
 use Rattle.causal_model.specs.Counts.{members, is_carried}
-use Rattle.causal_model.specs.State.{State, start}
+use Rattle.causal_model.specs.State.{State}
 use Rattle.causal_model.specs.Journal.{receive_notes}
 use Rattle.causal_model.specs.Receiving.{receive_rule}
 use Rattle.causal_model.specs.declared.note.Note.{Note}
@@ -18,12 +18,13 @@ use Rattle.replica_node.specs.Rules.{noting}
 use Rattle.world_model.specs.Offering.{Offered, offered}
 use Rattle.world_model.specs.declared.outcome.RawGot.{RawGot}
 use Rattle.world_model.specs.declared.outcome.RawGot.TheVariants as raw
+use Rattle.world.specs.Growing.{NotesOffers}
 use Rattle.world.specs.Shows.{NotedNode, state_of}
 use Rattle.world.specs.declared.offering.Offers.{Offers}
 
--- the nodes of the first members, which have noted nothing
-pub record AreOpened (n w limit count : ℕ) (nodes : List NotedNode) : Type 0 where
-  pub states : map state_of nodes ≡ map (λ me. start n me) (members count)
+-- the nodes of the first members, each of which is in its member's state
+pub record AreNodesOf (state_at : ℕ → State) (w limit count : ℕ) (nodes : List NotedNode) : Type 0 where
+  pub states : map state_of nodes ≡ map state_at (members count)
   pub windows : All (λ node. node.inner.w ≡ w) nodes
   pub limits : All (λ node. node.inner.limit ≡ limit) nodes
 
@@ -31,25 +32,26 @@ pub record AreOpened (n w limit count : ℕ) (nodes : List NotedNode) : Type 0 w
 abbrev pub are_empty : ℕ → List (List (List ℕ))
 are_empty count = map (λ me. []) (members count)
 
--- one node is that of the same member and store as another
+-- one node is that of the same member and store as another, in the same epoch
 pub record SameNode (before new : NotedNode) : Type 0 where
   pub first : new.first ≡ before.first
   pub n : new.inner.n ≡ before.inner.n
   pub w : new.inner.w ≡ before.inner.w
   pub limit : new.inner.limit ≡ before.inner.limit
+  pub epoch : new.inner.epoch ≡ before.inner.epoch
 
--- a message of a store that is sent as a frame, and its id
-pub record IsFrameOf (n limit : ℕ) (given : MessageId) (frame : List ℕ) (m : Message) : Type 0 where
-  pub is : IsFrame n 0 limit frame m
+-- a message of a store that is sent as a frame in an epoch, and its id
+pub record IsFrameOf (n epoch limit : ℕ) (given : MessageId) (frame : List ℕ) (m : Message) : Type 0 where
+  pub is : IsFrame n epoch limit frame m
   pub id : id_of m ≡ given
 
--- offering bytes to a node of a store of n members, as a rule of its notes
+-- offering bytes to a node of a store of n members in an epoch, as a rule of its notes
 abbrev pub raw_noting_of : ℕ × ℕ → ℕ → List Note → Result Message FrameFault → RawGot × List Note
 raw_noting_of first w notes (Ok m) = let made = noting first (receive_notes m) (receive_rule w m) notes in (raw.Got made.0, made.1)
 raw_noting_of first w notes (Err fault) = (raw.Bad fault, notes)
 
-abbrev pub raw_noting : ℕ × ℕ → ℕ → ℕ → ℕ → List ℕ → List Note → RawGot × List Note
-raw_noting first n w limit bytes notes = raw_noting_of first w notes (frame_read n 0 limit bytes)
+abbrev pub raw_noting : ℕ × ℕ → ℕ → ℕ → ℕ → ℕ → List ℕ → List Note → RawGot × List Note
+raw_noting first n epoch w limit bytes notes = raw_noting_of first w notes (frame_read n epoch limit bytes)
 
 -- what bytes come to, by what came of their message
 abbrev pub raw_got : Receive → RawGot
@@ -85,8 +87,10 @@ abbrev pub OffersTo : NotedNode → List Message → Result Offers NoMemory → 
 OffersTo node messages (Ok made) new = SameNode node new × (offered_at new made ≡ offered node.inner.w (state_of node) messages)
 OffersTo node messages (Err e) new = SameNode node new × OffersSome node.inner.w (state_of node) messages new
 
--- what offering the outbox of the node at place k to the one at place r leaves of the nodes: the other node alone changes
+-- what offering the outbox of the node at place k to the one at place r leaves of the nodes: the other node alone changes, and
+-- notes these offers
 pub record OffersBetween (nodes : List NotedNode) (r k : ℕ) (result : Result Offers NoMemory) (left : List NotedNode) : Type 0 where
   pub new : NotedNode
   pub are : left ≡ slice_set nodes r new
   pub each : (node other : NotedNode) → slice_get nodes r ≡ Some node → slice_get nodes k ≡ Some other → OffersTo node other.inner.outbox.messages result new
+  pub notes : (node other : NotedNode) → slice_get nodes r ≡ Some node → slice_get nodes k ≡ Some other → NotesOffers other.inner.outbox.messages node.journal.notes new.journal.notes

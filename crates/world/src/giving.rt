@@ -60,15 +60,21 @@ impl World {
 /// came before or is early.
 fn offer_frame(alloc: Global, node: &mut Node<Journal>, id: MessageId, frame: &[u8]) -> Receive
     requires of { id.origin < node.old.inner.n }
-    requires frame { ∥ ((m : Message) × IsFrameOf node.old.inner.n node.old.inner.limit id frame.now m) ∥₁ }
-    ensures answer { (m : Message) → IsFrameOf node.old.inner.n node.old.inner.limit id frame.now m
+    requires frame { ∥ ((m : Message) × IsFrameOf node.old.inner.n node.old.inner.epoch node.old.inner.limit id frame.now m) ∥₁ }
+    ensures answer { (m : Message) → IsFrameOf node.old.inner.n node.old.inner.epoch node.old.inner.limit id frame.now m
         → Follows (λ (there ns : List Note). there ≡ ns) Receive.NoMemory wants_frame (noting node.old.first (receive_notes m) (receive_rule node.old.inner.w m)) node.old.journal.notes result node.new.journal.notes }
     ensures same { SameNode node.old node.new }
 {
     if let Some(refusal) = node.inner.known(id) {
         return refusal.answer();
     }
-    match decode(alloc, frame, node.inner.n, 0, node.inner.limit) {
+    match decode(
+        alloc,
+        frame,
+        node.inner.n,
+        node.inner.epoch,
+        node.inner.limit,
+    ) {
         Ok(message) => node.receive(alloc, message),
         // It is the frame of a message, so only memory can be wanting.
         Err(_) => Receive::NoMemory,
@@ -77,10 +83,16 @@ fn offer_frame(alloc: Global, node: &mut Node<Journal>, id: MessageId, frame: &[
 
 /// Offers the message of bytes to a node, where they are a frame.
 fn offer_bytes(alloc: Global, node: &mut Node<Journal>, bytes: &[u8]) -> RawGot
-    ensures answer { Follows (λ (there ns : List Note). there ≡ ns) RawGot.NoMemory is_frame (raw_noting node.old.first node.old.inner.n node.old.inner.w node.old.inner.limit bytes.now) node.old.journal.notes result node.new.journal.notes }
+    ensures answer { Follows (λ (there ns : List Note). there ≡ ns) RawGot.NoMemory is_frame (raw_noting node.old.first node.old.inner.n node.old.inner.epoch node.old.inner.w node.old.inner.limit bytes.now) node.old.journal.notes result node.new.journal.notes }
     ensures same { SameNode node.old node.new }
 {
-    match decode(alloc, bytes, node.inner.n, 0, node.inner.limit) {
+    match decode(
+        alloc,
+        bytes,
+        node.inner.n,
+        node.inner.epoch,
+        node.inner.limit,
+    ) {
         Ok(message) => raw_got(node.receive(alloc, message)),
         Err(DecodeFault::NoMemory) => RawGot::NoMemory,
         Err(DecodeFault::Frame(fault)) => RawGot::Bad(fault),

@@ -4,9 +4,11 @@
 //! What calls there are, and settling by rounds, is this project's own profile.
 #![tactic(auto)]
 
+mod closed;
 mod giving;
 mod lagging;
 mod offering;
+mod regrouping;
 mod sending;
 mod settling;
 #[cfg(test)]
@@ -14,4 +16,4 @@ mod tests;
 mod world;
 
 pub use world::{FrameTable, NodeList, World};
-pub use world_model::{Given, RawGot, Resent, Settle};
+pub use world_model::{Given, RawGot, Regroup, Resent, Settle};

@@ -1,11 +1,12 @@
 //! Offering a member's outbox to a replica of the world.
 
-ghost use Rattle.std.specs.Prelude.{◌≡◌, ◌≢◌, ◌⊎◌, ◌<◌, length, IsTrue, All, IfOk, OnOk, OnErr};
+ghost use Rattle.std.specs.Prelude.{◌≡◌, ◌≢◌, ◌⊎◌, ◌<◌, ◌∷◌, [], length, IsTrue, All, IfOk, OnOk, OnErr};
 ghost use Rattle.op_base.specs.Message.{fits};
 ghost use Rattle.causal_model.specs.Counts.{is_carried};
 ghost use Rattle.causal_model.specs.Follows.{FollowsOrStops};
 ghost use Rattle.world_model.specs.World.{PlainWorld};
 ghost use Rattle.world_model.specs.Offering.{offered, offered_more, offered_between, resend_at, resent_of};
+ghost use Rattle.world.specs.Growing.{NotesOffers};
 ghost use Rattle.world.specs.Shows.{state_of};
 ghost use Rattle.world.specs.Steps.{SameNode, OffersSome, OffersBetween, CanBeOffered, HasOffered, offered_at};
 
@@ -24,7 +25,7 @@ pub struct Offers {
 }
 
 impl World {
-    ghost use Rattle.world.specs.Answers.{ShowsPlain, IsAfterSome};
+    ghost use Rattle.world.specs.Answers.{HasGrown, ShowsPlain, IsAfterSome};
     ghost use Rattle.world.specs.Honest.{ShowsHonest, is_fair_resent};
 
     /// Offers the outbox of member `k` to replica `r`, oldest first. After `NoMemory` the first of its messages were
@@ -50,6 +51,7 @@ impl World {
         ensures made { (plain : PlainWorld) → ShowsPlain self.old plain → IfOk result (λ made. HasOffered (offered_between plain r k) made) }
         ensures world { (plain : PlainWorld) → ShowsPlain self.old plain → IfOk result (λ made. ShowsPlain self.new (resend_at r k plain).1) }
         ensures some { (plain : PlainWorld) → ShowsPlain self.old plain → OnErr result ((midst : PlainWorld) × IsAfterSome r k plain midst × ShowsPlain self.new midst) }
+        ensures grown { HasGrown self.old self.new }
         ensures members { length self.new.nodes.items ≡ length self.old.nodes.items }
     {
         if r == k {
@@ -112,6 +114,7 @@ fn offer_lacking(
     ensures made { IfOk result (λ made. offered_at node.new made ≡ offered node.old.inner.w (state_of node.old) outbox.now.messages) }
     ensures some { OnErr result (OffersSome node.old.inner.w (state_of node.old) outbox.now.messages node.new) }
     ensures same { SameNode node.old node.new }
+    ensures noted { NotesOffers outbox.now.messages node.old.journal.notes node.new.journal.notes }
 {
     let delivered = node.replica().counts.at(of);
     offer_messages(alloc, node, outbox.messages_above(delivered))
@@ -128,6 +131,7 @@ fn offer_messages(
     ensures made { IfOk result (λ made. offered_at node.new made ≡ offered node.old.inner.w (state_of node.old) messages.now) }
     ensures some { OnErr result (OffersSome node.old.inner.w (state_of node.old) messages.now node.new) }
     ensures same { SameNode node.old node.new }
+    ensures noted { NotesOffers messages.now node.old.journal.notes node.new.journal.notes }
 {
     let mut made = Offers {
         steps: Vec::new(alloc),
@@ -151,6 +155,7 @@ fn offer_one(
     ensures made { OnOk result (offered_at node.new made.new ≡ offered_more node.old.inner.w (offered_at node.old made.old) message.now) }
     ensures some { OnErr result ((state_of node.new ≡ state_of node.old) ⊎ (state_of node.new ≡ (offered_more node.old.inner.w (offered_at node.old made.old) message.now).state)) }
     ensures same { SameNode node.old node.new }
+    ensures noted { NotesOffers (message.now ∷ []) node.old.journal.notes node.new.journal.notes }
 {
     if node.replica().refusal(message).is_some() {
         return Ok(());

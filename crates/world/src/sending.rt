@@ -22,7 +22,7 @@ use replica_node::{Journal, Node};
 use std::alloc::Global;
 
 impl World {
-    ghost use Rattle.world.specs.Answers.{ShowsPlain};
+    ghost use Rattle.world.specs.Answers.{HasGrown, ShowsPlain};
     ghost use Rattle.world.specs.Honest.{ShowsHonest};
 
     /// Sends an update at replica `r`, and keeps the frame of what was sent. Every refusal leaves the world as it was, and
@@ -46,6 +46,7 @@ impl World {
         ensures answer { Follows ShowsPlain Beat.NoMemory is_beat (beat_at r) self.old result self.new }
         ensures honest { ShowsHonest self.old → ShowsHonest self.new }
         ensures free { ShowsHonest self.old → result ≢ Beat.Held }
+        ensures grown { HasGrown self.old self.new }
         ensures members { length self.new.nodes.items ≡ length self.old.nodes.items }
     {
         let node = &mut self.nodes[r as usize];
@@ -63,7 +64,7 @@ fn send(
 ) -> Local
     ensures answer { Follows (λ (there ns : List Note). there ≡ ns) Local.NoMemory is_sent (noting node.old.first local_notes (local_rule node.old.inner.w node.old.inner.limit update.now)) node.old.journal.notes result node.new.journal.notes }
     ensures same { SameNode node.old node.new }
-    ensures frames { frames.new.items ≡ frames.old.items ++ map (frame_of Version.Two node.old.inner.n 0) (local_messages result) }
+    ensures frames { frames.new.items ≡ frames.old.items ++ map (frame_of Version.Two node.old.inner.n node.old.inner.epoch) (local_messages result) }
 {
     let message = match node.inner.draft(alloc, update) {
         Ok(message) => message,
@@ -79,7 +80,7 @@ fn send(
 fn send_noop(alloc: Global, node: &mut Node<Journal>, frames: &mut Vec<ByteList>) -> Beat
     ensures answer { Follows (λ (there ns : List Note). there ≡ ns) Beat.NoMemory is_beat (noting node.old.first beat_notes (beat_rule node.old.inner.w node.old.inner.limit)) node.old.journal.notes result node.new.journal.notes }
     ensures same { SameNode node.old node.new }
-    ensures frames { frames.new.items ≡ frames.old.items ++ map (frame_of Version.Two node.old.inner.n 0) (beat_messages result) }
+    ensures frames { frames.new.items ≡ frames.old.items ++ map (frame_of Version.Two node.old.inner.n node.old.inner.epoch) (beat_messages result) }
 {
     let message = match node.inner.draft_noop() {
         Ok(message) => message,
@@ -105,10 +106,10 @@ fn commit(
     ensures noted { IfOk result (λ m. node.new.journal.notes ≡ node.old.journal.notes ++ notes.Sent message ∷ []) }
     ensures kept { OnErr result (node.new.journal.notes ≡ node.old.journal.notes) }
     ensures same { SameNode node.old node.new }
-    ensures frames { IfOk result (λ m. frames.new.items ≡ frames.old.items ++ frame_of Version.Two node.old.inner.n 0 message ∷ []) }
+    ensures frames { IfOk result (λ m. frames.new.items ≡ frames.old.items ++ frame_of Version.Two node.old.inner.n node.old.inner.epoch message ∷ []) }
     ensures no_frame { OnErr result (frames.new.items ≡ frames.old.items) }
 {
-    let frame = encode(alloc, &message, node.inner.n, 0)?;
+    let frame = encode(alloc, &message, node.inner.n, node.inner.epoch)?;
     // It grows by a factor, so that many single reserves take constant time each.
     frames.reserve(1)?;
     let message = node.commit(alloc, message)?;

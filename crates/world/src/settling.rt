@@ -15,7 +15,7 @@ use std::alloc::Global;
 use world_model::Settle;
 
 impl World {
-    ghost use Rattle.world.specs.Answers.{ShowsPlain};
+    ghost use Rattle.world.specs.Answers.{HasGrown, ShowsPlain};
     ghost use Rattle.world.specs.Honest.{ShowsHonest, ShowsQuiescent};
     ghost use Rattle.world.specs.Midst.{IsAmongOffers, IsInSettling};
 
@@ -27,6 +27,7 @@ impl World {
         ensures honest { ShowsHonest self.old → ShowsHonest self.new }
         ensures settles { ShowsHonest self.old → result ≢ Settle.Unsettled }
         ensures quiescent { ShowsHonest self.old → result ≡ Settle.Settled → ShowsQuiescent self.new }
+        ensures grown { HasGrown self.old self.new }
         ensures members { length self.new.nodes.items ≡ length self.old.nodes.items }
     {
         match self.make_rounds(alloc) {
@@ -45,6 +46,7 @@ impl World {
     fn make_rounds(&mut self, alloc: Global) -> Result<(), NoMemory>
         ensures made { (plain : PlainWorld) → ShowsPlain self.old plain → IfOk result (λ done. ShowsPlain self.new (world_settled plain)) }
         ensures some { (plain : PlainWorld) → ShowsPlain self.old plain → OnErr result ((midst : PlainWorld) × IsInSettling plain midst × ShowsPlain self.new midst) }
+        ensures grown { HasGrown self.old self.new }
         ensures members { length self.new.nodes.items ≡ length self.old.nodes.items }
     {
         let most = self.most_rounds();
@@ -68,6 +70,7 @@ impl World {
     /// Makes a round. Whether it moved something.
     fn make_round(&mut self, alloc: Global) -> Result<bool, NoMemory>
         ensures made { (plain : PlainWorld) → ShowsPlain self.old plain → LeadsTo (round_of plain) (IsInRound plain) result (ShowsPlain self.new) }
+        ensures grown { HasGrown self.old self.new }
         ensures members { length self.new.nodes.items ≡ length self.old.nodes.items }
     {
         let moved = self.make_all_offers(alloc)?;
@@ -77,6 +80,7 @@ impl World {
     /// Offers the outboxes of all others to each replica upwards. Whether a message was delivered.
     fn make_all_offers(&mut self, alloc: Global) -> Result<bool, NoMemory>
         ensures made { (plain : PlainWorld) → ShowsPlain self.old plain → LeadsTo (offers_made plain) (IsAmongOffers plain) result (ShowsPlain self.new) }
+        ensures grown { HasGrown self.old self.new }
         ensures members { length self.new.nodes.items ≡ length self.old.nodes.items }
     {
         let mut moved = false;
@@ -90,6 +94,7 @@ impl World {
     fn make_offers(&mut self, alloc: Global, r: u8, mut moved: bool) -> Result<bool, NoMemory>
         requires { r < length self.old.nodes.items }
         ensures made { (plain : PlainWorld) → ShowsPlain self.old plain → LeadsTo (after_offers (round_at plain moved) r) (IsAmongOffersTo (round_at plain moved) r) result (ShowsPlain self.new) }
+        ensures grown { HasGrown self.old self.new }
         ensures members { length self.new.nodes.items ≡ length self.old.nodes.items }
     {
         for k in 0..self.nodes.len() as u8 {
@@ -103,6 +108,7 @@ impl World {
         requires to { r < length self.old.nodes.items }
         requires of { k < length self.old.nodes.items }
         ensures made { (plain : PlainWorld) → ShowsPlain self.old plain → LeadsTo (after_offer r (round_at plain moved) k) (IsBetween plain r k) result (ShowsPlain self.new) }
+        ensures grown { HasGrown self.old self.new }
         ensures members { length self.new.nodes.items ≡ length self.old.nodes.items }
     {
         if r == k {
@@ -115,6 +121,7 @@ impl World {
     /// Makes a beat at each replica upwards. Whether something has moved by then.
     fn make_beats(&mut self, alloc: Global, mut moved: bool) -> Result<bool, NoMemory>
         ensures made { (plain : PlainWorld) → ShowsPlain self.old plain → LeadsTo (beats_made (round_at plain moved)) (IsAmongBeatsOf (round_at plain moved)) result (ShowsPlain self.new) }
+        ensures grown { HasGrown self.old self.new }
         ensures members { length self.new.nodes.items ≡ length self.old.nodes.items }
     {
         for r in 0..self.nodes.len() as u8 {
@@ -127,6 +134,7 @@ impl World {
     fn make_beat(&mut self, alloc: Global, r: u8, moved: bool) -> Result<bool, NoMemory>
         requires { r < length self.old.nodes.items }
         ensures made { (plain : PlainWorld) → ShowsPlain self.old plain → LeadsTo (after_beat (round_at plain moved) r) (λ midst. midst ≡ plain) result (ShowsPlain self.new) }
+        ensures grown { HasGrown self.old self.new }
         ensures members { length self.new.nodes.items ≡ length self.old.nodes.items }
     {
         match self.beat(alloc, r) {
@@ -137,7 +145,7 @@ impl World {
     }
 
     /// Whether all replicas have delivered as many messages of each member.
-    fn is_quiescent(&self) -> bool
+    pub(crate) fn is_quiescent(&self) -> bool
         ensures { (plain : PlainWorld) → ShowsPlain self.now plain → result ≡ is_quiescent plain }
     {
         let first = self.seen(0);

@@ -2,7 +2,7 @@
 
 ghost use Rattle.std.specs.Prelude.{◌≡◌, length, IfOk};
 
-use crate::{Given, RawGot, Resent, Settle, World};
+use crate::{Given, RawGot, Regroup, Resent, Settle, World};
 use op_base::{Act, Answer, ObjectId, Update};
 use replica_core::{Beat, CreateFault, Local, Receive};
 use std::alloc::Global;
@@ -153,6 +153,29 @@ fn one_id_of_two_contents_is_not_settled(rt: HostRuntime) -> Result<(), Fail> {
     for (r, sum) in [(0, 0), (1, 5), (2, 7)] {
         assert_eq!(rt; world.answer(alloc, r, &object)?, Answer::Sum(sum));
     }
+    Ok(())
+}
+
+#[test]
+fn two_members_become_three_and_then_one(rt: HostRuntime) -> Result<(), Fail> {
+    let alloc = rt.alloc();
+    let mut world = World::create(alloc, 2, 1, 9)?;
+    let update = one_more(alloc)?;
+    let object = counter(alloc)?;
+    assert!(rt; matches!(world.local(alloc, 0, &update), Local::Sent(_)));
+    assert_eq!(rt; world.regroup(alloc, 3), Regroup::Unsettled);
+    assert_eq!(rt; world.settle(alloc), Settle::Settled);
+    assert_eq!(rt; world.regroup(alloc, 3), Regroup::Regrouped(1));
+    if world.nodes.len() != 3 {
+        return Err("three members were wanted".into());
+    }
+    assert_eq!(rt; world.give(alloc, 1, 0, 1), Given::Unsent);
+    assert_eq!(rt; world.answer(alloc, 2, &object)?, Answer::Sum(1));
+    assert!(rt; matches!(world.local(alloc, 2, &update), Local::Sent(_)));
+    assert!(rt; matches!(world.give(alloc, 1, 2, 1), Given::Got(Receive::Took(_))));
+    assert_eq!(rt; world.settle(alloc), Settle::Settled);
+    assert_eq!(rt; world.regroup(alloc, 1), Regroup::Regrouped(2));
+    assert_eq!(rt; world.answer(alloc, 0, &object)?, Answer::Sum(2));
     Ok(())
 }
 

@@ -1,6 +1,7 @@
 //! The world, and what it shows of a replica.
 
 ghost use Rattle.std.specs.Prelude.{◌≤◌, ◌≡◌, ◌↔◌, ◌<◌, false, [], length, map, None, IsTrue, IfOk, IsErrOf};
+ghost use Rattle.causal_model.specs.State.{start};
 ghost use Rattle.replica_core.specs.Numbers.{are_numbers};
 ghost use Rattle.world_model.specs.Offering.{outbox_in};
 ghost use Rattle.honest_worlds.specs.Laws.{honest_noops};
@@ -8,7 +9,7 @@ ghost use Rattle.world_model.specs.Honest.{IsHonest};
 ghost use Rattle.world_model.specs.World.{PlainWorld, opening, replica_of, size_of};
 ghost use Rattle.world_model.specs.Showing.{answer_at, log_at, entries_at, items_at, stable_at, seen_at, noops_at, lags_at};
 ghost use Rattle.world.specs.Shows.{Shows};
-ghost use Rattle.world.specs.Steps.{AreOpened, are_empty};
+ghost use Rattle.world.specs.Steps.{AreNodesOf, are_empty};
 
 use crate::lagging::lagging_at;
 use causal_model::ItemView;
@@ -115,7 +116,7 @@ impl World {
 /// The nodes of `n` members that have noted nothing.
 fn open_nodes(alloc: Global, n: u8, w: u8, limit: u32) -> Result<NodeList, NoMemory>
     requires { IsTrue (are_numbers 0 n w limit) }
-    ensures { IfOk result (λ nodes. AreOpened n w limit n nodes.items) }
+    ensures { IfOk result (λ nodes. AreNodesOf (start n) w limit n nodes.items) }
 {
     let mut nodes = Vec::with_capacity(alloc, n as usize)?;
     for me in 0..n {
@@ -129,7 +130,7 @@ fn open_nodes(alloc: Global, n: u8, w: u8, limit: u32) -> Result<NodeList, NoMem
 }
 
 /// An empty row for each of `n` members.
-fn empty_rows(alloc: Global, n: u8) -> Result<FrameTable, NoMemory>
+pub(crate) fn empty_rows(alloc: Global, n: u8) -> Result<FrameTable, NoMemory>
     ensures { IfOk result (λ rows. map (λ row. row.items) rows.items ≡ are_empty n) }
 {
     let mut rows = Vec::with_capacity(alloc, n as usize)?;

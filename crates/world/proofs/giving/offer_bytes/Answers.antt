@@ -6,16 +6,16 @@ use Rattle.world_model.specs.declared.outcome.RawGot.TheVariants as raw
 use Rattle.world.specs.Steps.{raw_noting}
 use Rattle.world.proofs.Bytes.{read_is_told}
 use Rattle.world.proofs.Givings.{frame_is_carried}
-use Rattle.world.proofs.Nodes.{limit_is_small}
+use Rattle.world.proofs.Nodes.{epoch_is_low, limit_is_small}
 use Rattle.world.proofs.Replies.{Notes}
 use Rattle.world.proofs.giving.offer_bytes.Goals as goal
 
 pub receive-requires-clause-carried : goal.receive-requires-clause-carried
-receive-requires-clause-carried c = frame_is_carried c.args.node.now.inner.n c.args.node.now.inner.limit c.args.bytes.now c.in-Ok.message c.in-Ok.ensures.found
+receive-requires-clause-carried c = frame_is_carried c.args.node.now.inner.n c.args.node.now.inner.epoch c.args.node.now.inner.limit c.args.bytes.now c.in-Ok.message c.in-Ok.ensures.found
 
 pub returns-in-Ok-clause-answer : goal.returns-in-Ok-clause-answer
 returns-in-Ok-clause-answer c =
     let node = c.args.node.now in
-    let read = frames_are_read node.inner.n 0 node.inner.limit (omega arith) (limit_is_small node) c.args.bytes.now c.in-Ok.message c.in-Ok.ensures.found in
-    subst (λ (x : RawGot). Notes raw.NoMemory is_frame (raw_noting node.first node.inner.n node.inner.w node.inner.limit c.args.bytes.now) node.journal.notes x c.receive.new.self.journal.notes) (sym c.raw_got.ensures)
-    (read_is_told node.first node.inner.n node.inner.w node.inner.limit c.args.bytes.now c.in-Ok.message node.journal.notes c.receive.new.self.journal.notes c.receive.result read c.receive.ensures.answer)
+    let read = frames_are_read node.inner.n node.inner.epoch node.inner.limit (omega (arith, epoch_is_low node)) (limit_is_small node) c.args.bytes.now c.in-Ok.message c.in-Ok.ensures.found in
+    subst (λ (x : RawGot). Notes raw.NoMemory is_frame (raw_noting node.first node.inner.n node.inner.epoch node.inner.w node.inner.limit c.args.bytes.now) node.journal.notes x c.receive.new.self.journal.notes) (sym c.raw_got.ensures)
+    (read_is_told node.first node.inner.n node.inner.epoch node.inner.w node.inner.limit c.args.bytes.now c.in-Ok.message node.journal.notes c.receive.new.self.journal.notes c.receive.result read c.receive.ensures.answer)

@@ -11,7 +11,7 @@ use Rattle.world.proofs.Replies.{Notes}
 use Rattle.world.proofs.giving.offer_frame.Goals as goal
 
 pub receive-requires-clause-carried : goal.receive-requires-clause-carried
-receive-requires-clause-carried c = frame_is_carried c.args.node.now.inner.n c.args.node.now.inner.limit c.args.frame.now c.in-Ok.message c.in-Ok.ensures.found
+receive-requires-clause-carried c = frame_is_carried c.args.node.now.inner.n c.args.node.now.inner.epoch c.args.node.now.inner.limit c.args.frame.now c.in-Ok.message c.in-Ok.ensures.found
 
 pub returns-in-Ok-clause-answer : goal.returns-in-Ok-clause-answer
 returns-in-Ok-clause-answer c = λ m is ns there.

@@ -96,7 +96,7 @@ returns-then-r-k c =
           (stands_right nodes low high c.split_at_mut-low.ensures.value c.args.k c.index-high-0.result c.split_at_mut-low.ensures.front_len c.requires.of)
           c.replica.result.now.outbox.messages (ap (λ (x : Replica). x.outbox.messages) c.replica.ensures)
           c.offer_lacking.result c.offer_lacking.new.node _
-          (offers_to (slice_index_or low c.args.r c.index-low-r.result) c.offer_lacking.new.node c.replica.result.now.outbox.messages c.offer_lacking.result c.offer_lacking.ensures.made c.offer_lacking.ensures.some c.offer_lacking.ensures.same)
+          (offers_to (slice_index_or low c.args.r c.index-low-r.result) c.offer_lacking.new.node c.replica.result.now.outbox.messages c.offer_lacking.result c.offer_lacking.ensures.made c.offer_lacking.ensures.some c.offer_lacking.ensures.same) c.offer_lacking.ensures.noted
           (sym (set-append_left low high c.args.r c.offer_lacking.new.node (omega (arith, c.if-r-k.true, c.split_at_mut-low.ensures.front_len))) ∙ ap (λ (l : List NotedNode). slice_set l c.args.r c.offer_lacking.new.node) (sym c.split_at_mut-low.ensures.value));
     }
 
@@ -113,6 +113,6 @@ returns-else-r-k c =
           (stands_left nodes low high c.split_at_mut-low-else-r-k.ensures.value c.args.k c.index-low-k.result (omega (arith, c.if-r-k.false, c.requires.apart, c.split_at_mut-low-else-r-k.ensures.front_len)))
           c.replica-else-r-k.result.now.outbox.messages (ap (λ (x : Replica). x.outbox.messages) c.replica-else-r-k.ensures)
           c.offer_lacking-else-r-k.result new _
-          (offers_to (slice_index_or high 0 c.index-high-0-else-r-k.result) new c.replica-else-r-k.result.now.outbox.messages c.offer_lacking-else-r-k.result c.offer_lacking-else-r-k.ensures.made c.offer_lacking-else-r-k.ensures.some c.offer_lacking-else-r-k.ensures.same)
+          (offers_to (slice_index_or high 0 c.index-high-0-else-r-k.result) new c.replica-else-r-k.result.now.outbox.messages c.offer_lacking-else-r-k.result c.offer_lacking-else-r-k.ensures.made c.offer_lacking-else-r-k.ensures.some c.offer_lacking-else-r-k.ensures.same) c.offer_lacking-else-r-k.ensures.noted
           (ap (λ i. low ++ slice_set high i new) (sym none) ∙ sym (set-append_right low high c.args.r c.args.r new c.split_at_mut-low-else-r-k.ensures.front_len (omega arith)) ∙ ap (λ (l : List NotedNode). slice_set l c.args.r new) (sym c.split_at_mut-low-else-r-k.ensures.value));
     }

@@ -8,6 +8,7 @@ use Rattle.world_model.specs.Offering.{Offered}
 use Rattle.world.specs.Shows.{state_of}
 use Rattle.world.specs.Steps.{offered_at}
 use Rattle.world.proofs.Offers.{on_err_with, all_lacking, some_lacking}
+use Rattle.world.proofs.Growing.{offers_above}
 use Rattle.world.proofs.offering.offer_lacking.Goals as goal
 
 pub at-delivered-requires : goal.at-delivered-requires
@@ -28,3 +29,7 @@ returns-clause-some c =
     let delivered_is = c.at-delivered.ensures ∙ ap (λ (x : Replica). entry x.counts c.args.of) c.replica.ensures in
     on_err_with c.offer_messages.result _ _
     (some_lacking node c.args.of c.args.outbox.now.messages c.messages_above.result.now c.at-delivered.result delivered_is c.requires.own c.messages_above.ensures c.offer_messages.new.node) c.offer_messages.ensures.some
+
+pub returns-clause-noted : goal.returns-clause-noted
+returns-clause-noted c =
+    offers_above c.at-delivered.result c.args.outbox.now.messages c.messages_above.result.now c.messages_above.ensures c.args.node.now.journal.notes c.offer_messages.new.node.journal.notes c.offer_messages.ensures.noted

@@ -8,12 +8,14 @@ use Rattle.world_model.specs.Offering.{Offered, offered}
 use Rattle.world.specs.Shows.{state_of}
 use Rattle.world.specs.Steps.{OffersSome, offered_at}
 use Rattle.world.proofs.Offers.{on_err, same_twice, one_offered, some_offered}
+use Rattle.world.proofs.Growing.{no_offers, offers_more}
 use Rattle.world.proofs.offering.offer_messages.Goals as goal
 
 pub loop-message-init : goal.loop-message-init
 loop-message-init c = record {
   so_far = ap (λ (x : List Step). let o : Offered = record { state = state_of c.args.node.now; steps = x; kept = false } in o) c.new.ensures.items;
-  same = record { first = refl; n = refl; w = refl; limit = refl };
+  same = record { first = refl; n = refl; w = refl; limit = refl; epoch = refl };
+  noted = no_offers c.args.messages.now c.args.node.now.journal.notes;
 }
 
 pub offer_one-requires-clause-fits : goal.offer_one-requires-clause-fits
@@ -45,6 +47,7 @@ loop-message-preserved c =
     record {
       so_far = c.in_ok-offer_one.ensures.made ∙ one_offered node.inner.w c.loop-message.node.inner.w (state_of node) c.args.messages.now c.loop-message.message-index c.message-item.result c.loop-message-test.true c.message-item.is so c.loop-message.invariant.so_far c.loop-message.invariant.same.w;
       same = same_twice node c.loop-message.node c.offer_one.new.node c.loop-message.invariant.same c.offer_one.ensures.same;
+      noted = offers_more c.args.messages.now c.loop-message.message-index c.message-item.result c.loop-message-test.true c.message-item.is node.journal.notes c.loop-message.node.journal.notes c.offer_one.new.node.journal.notes c.loop-message.invariant.noted c.offer_one.ensures.noted;
     }
 
 pub returns-clause-made : goal.returns-clause-made
@@ -56,3 +59,10 @@ returns-clause-made c =
 
 pub returns-clause-same : goal.returns-clause-same
 returns-clause-same c = c.loop-message.invariant.same
+
+pub returns-in_err-offer_one-clause-noted : goal.returns-in_err-offer_one-clause-noted
+returns-in_err-offer_one-clause-noted c =
+    offers_more c.args.messages.now c.loop-message.message-index c.message-item.result c.loop-message-test.true c.message-item.is c.args.node.now.journal.notes c.loop-message.node.journal.notes c.offer_one.new.node.journal.notes c.loop-message.invariant.noted c.offer_one.ensures.noted
+
+pub returns-clause-noted : goal.returns-clause-noted
+returns-clause-noted c = c.loop-message.invariant.noted

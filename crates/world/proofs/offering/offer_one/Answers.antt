@@ -1,4 +1,4 @@
-use Rattle.std.proofs.Common.{rules, ◌≡◌, ◌++◌, List, None, true, inr, sym, ap, subst, ◌∙◌}
+use Rattle.std.proofs.Common.{rules, ◌≡◌, ◌++◌, ◌∷◌, [], zero, List, None, true, inr, refl, arith, sym, ap, subst, ◌∙◌}
 use Rattle.op_base.specs.declared.outcome.Step.{Step}
 use Rattle.causal_model.specs.Receiving.{refusal_of}
 use Rattle.causal_model.specs.State.{State}
@@ -7,6 +7,7 @@ use Rattle.replica_core.specs.declared.replica.Replica.{Replica}
 use Rattle.world_model.specs.Offering.{Offered}
 use Rattle.world.specs.Shows.{state_of}
 use Rattle.world.proofs.Offers.{on_err, one_is_accepted}
+use Rattle.world.proofs.Growing.{one_offer}
 use Rattle.world.proofs.offering.offer_one.Goals as goal
 
 pub returns-in_err-extend_from_slice-clause-some : goal.returns-in_err-extend_from_slice-clause-some
@@ -31,3 +32,13 @@ returns-clause-made c =
     (sym (refused (state_of node) node.stands) ∙ none) c.in_ok-steps.ensures.steps c.accept.ensures.first c.in_ok-steps.ensures.noted in
     let steps : c.extend_from_slice.new.self.items ≡ made.steps.items ++ c.in_ok-steps.steps = search rules in
     ap (λ (l : List Step). let o : Offered = record { state = state_of c.accept.new.self; steps = l; kept = true } in o) steps ∙ more
+
+pub returns-in_err-extend_from_slice-clause-noted : goal.returns-in_err-extend_from_slice-clause-noted
+returns-in_err-extend_from_slice-clause-noted c =
+    let m = c.args.message.now in
+    one_offer (m ∷ []) m c.in_ok-message.message c.in_ok-steps.steps c.args.node.now.journal.notes c.accept.new.self.journal.notes (zero, omega arith, refl) c.in_ok-message.ensures c.in_ok-steps.ensures.noted
+
+pub returns-clause-noted : goal.returns-clause-noted
+returns-clause-noted c =
+    let m = c.args.message.now in
+    one_offer (m ∷ []) m c.in_ok-message.message c.in_ok-steps.steps c.args.node.now.journal.notes c.accept.new.self.journal.notes (zero, omega arith, refl) c.in_ok-message.ensures c.in_ok-steps.ensures.noted

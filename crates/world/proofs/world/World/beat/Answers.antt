@@ -13,6 +13,7 @@ use Rattle.world.proofs.Changes.{rows_within}
 use Rattle.world.proofs.Follow.{some_is_left, follows_keeps, follows_answers}
 use Rattle.world.proofs.Nodes.{member_shown}
 use Rattle.world.proofs.Replies.{replies_beat}
+use Rattle.world.proofs.Growing.{beating_grows}
 use Rattle.world.proofs.world.World.beat.Goals as goal
 
 pub index_mut-frames-requires : goal.index_mut-frames-requires
@@ -43,3 +44,7 @@ returns-clause-free c =
     follows_answers beat.NoMemory (beat_at c.args.r) IsHonest (ShowsPlain c.args.self.now) _ c.send_noop.result is_beat (λ answer. answer ≢ beat.Held) (λ e. cc)
     (λ plain shows honest. no_beat_is_held plain c.args.r honest (member_shown c.args.self.now.nodes.items _ plain shows c.args.r c.requires))
     (returns-clause-answer c)
+
+pub returns-clause-grown : goal.returns-clause-grown
+returns-clause-grown c =
+    beating_grows c.args.self.now.nodes.items c.args.r c.index_mut-node.result.now (record { low = c.requires; at = c.index_mut-node.ensures.value }) c.send_noop.new.node c.send_noop.result c.send_noop.ensures.answer

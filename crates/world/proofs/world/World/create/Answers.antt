@@ -1,7 +1,8 @@
 use Rattle.std.proofs.Common.{rules, IsTrue, map}
+use Rattle.causal_model.specs.State.{start}
 use Rattle.replica_core.specs.Numbers.{are_numbers}
 use Rattle.world_model.specs.World.{opening}
-use Rattle.world.proofs.Openings.{opened_shows, opened_members, opened_honest}
+use Rattle.world.proofs.Openings.{opened_shows, nodes_of_members, opened_honest}
 use Rattle.world.proofs.world.World.create.Goals as goal
 
 pub invariant_of-result : goal.invariant_of-result
@@ -10,7 +11,7 @@ invariant_of-result c =
     record { shows = ∣ (opening c.args.n c.args.w c.args.limit, opened_shows c.args.n c.args.w c.args.limit c.in_ok-nodes.nodes.items (map (λ row. row.items) c.in_ok-sent.sent.items) numbers c.in_ok-nodes.ensures c.in_ok-sent.ensures) ∣₁ }
 
 pub returns-clause-members : goal.returns-clause-members
-returns-clause-members c = opened_members c.args.n c.args.w c.args.limit c.in_ok-nodes.nodes.items c.in_ok-nodes.ensures
+returns-clause-members c = nodes_of_members (start c.args.n) c.args.w c.args.limit c.args.n c.in_ok-nodes.nodes.items c.in_ok-nodes.ensures
 
 pub returns-clause-opening : goal.returns-clause-opening
 returns-clause-opening c =

@@ -6,6 +6,7 @@ use Rattle.world_model.specs.Offering.{Offered}
 use Rattle.world.specs.Shows.{NotedNode, Shows}
 use Rattle.world.specs.Steps.{OffersBetween, CanBeOffered}
 use Rattle.world.proofs.Outboxes.{can_be_offered, own_outbox, own_resent, outbox_offers, offers_made, offers_world, offers_some, offers_leave}
+use Rattle.world.proofs.Growing.{outbox_grows}
 use Rattle.world.proofs.world.World.offer_outbox.Goals as goal
 
 pub returns-then-r-k-clause-made : goal.returns-then-r-k-clause-made
@@ -45,3 +46,11 @@ returns-clause-some c plain shows =
     offers_some plain c.args.r c.args.k c.offer_between.result _
     (outbox_offers c.args.self.now.nodes.items (map (λ row. row.items) c.args.self.now.sent.items) plain shows c.args.r c.args.k c.requires.to c.requires.of (with_items c.args.self.now.nodes c.offer_between.new.nodes).items c.offer_between.result (subst (λ (l : List NotedNode). OffersBetween c.args.self.now.nodes.items c.args.r c.args.k c.offer_between.result l) (sym (with_items_is c.args.self.now.nodes c.offer_between.new.nodes (c.offer_between.auto.nodes ∙ c.deref_mut.ensures.len)))
     (subst (λ (l : List NotedNode). OffersBetween l c.args.r c.args.k c.offer_between.result c.offer_between.new.nodes) c.deref_mut.ensures.value c.offer_between.ensures.offered)))
+
+pub returns-clause-grown : goal.returns-clause-grown
+returns-clause-grown c =
+    let nodes = c.args.self.now.nodes.items in
+    let between = subst (λ (l : List NotedNode). OffersBetween l c.args.r c.args.k c.offer_between.result c.offer_between.new.nodes) c.deref_mut.ensures.value c.offer_between.ensures.offered in
+    outbox_grows nodes (with_items c.args.self.now.nodes c.offer_between.new.nodes).items c.args.r c.args.k c.offer_between.result c.requires.to c.requires.of
+    (∥∥₁_map c.args.self.now.shows (λ x. can_be_offered nodes (map (λ row. row.items) c.args.self.now.sent.items) x.0 x.1 c.args.r c.args.k c.requires.to c.requires.of))
+    (subst (λ (l : List NotedNode). OffersBetween nodes c.args.r c.args.k c.offer_between.result l) (sym (with_items_is c.args.self.now.nodes c.offer_between.new.nodes (c.offer_between.auto.nodes ∙ c.deref_mut.ensures.len))) between)

@@ -1,0 +1,86 @@
+-- How members begin the next epoch, and what of nodes it needs.
+use Rattle.std.specs.Prelude.{◌≡◌, ℕ, ◌+◌, ◌-◌, ◌<◌, ◌≤◌, ◌^◌, nat_lt, List, IsTrue, length, if◌then◌else◌}
+use Rattle.std.specs.List.{slice_index_or}
+use Rattle.causal_model.specs.History.{is_all_stable}
+use Rattle.causal_model.specs.Journal.{regrouped}
+use Rattle.causal_model.specs.State.{State}
+use Rattle.replica_core.specs.Rules.{StandsFor}
+use Rattle.replica_core.specs.declared.replica.Replica.{Replica}
+use Rattle.replica_node.specs.Epochs.{IsNextOf}
+use Rattle.world.specs.Shows.{NotedNode, state_of}
+use Rattle.world.specs.declared.regrouping.Entrant.{Entrant}
+use Rattle.world.specs.declared.regrouping.Entrant.TheVariants as entrant
+
+-- every operation of the epoch is stable at a node, and its epoch isn't the last
+abbrev pub IsSettled : NotedNode → Type 0
+IsSettled node = (s : State) → StandsFor node.inner s → IsTrue (is_all_stable s.history.present)
+
+abbrev pub IsEarly : NotedNode → Type 0
+IsEarly node = node.inner.epoch < 65535
+
+-- a node has room for one note more
+pub record IsReady (node : NotedNode) : Type 0 where
+  pub room : 1 ≤ node.journal.spare
+  pub few : length node.journal.notes + 1 < 2 ^ 63
+
+-- a node is as it was, but for its room
+pub record IsAsBefore (before after : NotedNode) : Type 0 where
+  pub inner : after.inner ≡ before.inner
+  pub first : after.first ≡ before.first
+  pub notes : after.journal.notes ≡ before.journal.notes
+
+pub record AreAsBefore (before after : List NotedNode) : Type 0 where
+  pub count : length after ≡ length before
+  pub each : (q : ℕ) (d : NotedNode) → q < length before → IsAsBefore (slice_index_or before q d) (slice_index_or after q d)
+
+-- a node is the next epoch's of member q of n: it has what the end of the epoch makes of a node's state
+pub record IsNextNode (n q : ℕ) (node next : NotedNode) : Type 0 where
+  pub state : state_of next ≡ regrouped n q (state_of node)
+  pub w : next.inner.w ≡ node.inner.w
+  pub limit : next.inner.limit ≡ node.inner.limit
+
+-- the node at place q can go on with a replica, as member q of n
+pub record CanGoOn (n q : ℕ) (nodes : List NotedNode) (replica : Replica) : Type 0 where
+  pub low : q < length nodes
+  pub me : replica.me ≡ q
+  pub n_is : replica.n ≡ n
+  pub next : (d : NotedNode) → let node = slice_index_or nodes q d in IsNextOf node.first node.inner.w node.inner.limit node.journal.notes replica
+
+-- how member q of n begins: its node goes on; or it is new, and its node begins with what member 0 has
+abbrev pub IsEntrant : ℕ → List NotedNode → ℕ → Entrant → Type 0
+IsEntrant n nodes q (entrant.Stays replica) = CanGoOn n q nodes replica
+IsEntrant n nodes q (entrant.Comes next) = (length nodes ≤ q) × ((d : NotedNode) → IsNextNode n q (slice_index_or nodes 0 d) next)
+
+-- how the last so many of n members begin, the last first
+pub record AreEntrants (n : ℕ) (nodes : List NotedNode) (count : ℕ) (entrants : List Entrant) : Type 0 where
+  pub count_is : length entrants ≡ count
+  pub each : (i : ℕ) (d : Entrant) → i < count → IsEntrant n nodes (n - 1 - i) (slice_index_or entrants i d)
+
+-- with the node of which place member q begins, where there are so many
+abbrev pub place_for : ℕ → ℕ → ℕ
+place_for size q = if nat_lt q size then q else 0
+
+-- the first members of n have their next nodes
+abbrev pub HaveEntered : ℕ → List NotedNode → ℕ → List NotedNode → Type 0
+HaveEntered n before count after = (q : ℕ) (d e : NotedNode) → q < count → IsNextNode n q (slice_index_or before (place_for (length before) q) d) (slice_index_or after q e)
+
+-- all of them
+pub record AreNext (n : ℕ) (before after : List NotedNode) : Type 0 where
+  pub count : length after ≡ n
+  pub each : HaveEntered n before n after
+
+-- a member can enter at a place: its node has room there, and can go on; or a node comes behind the others
+abbrev pub CanEnter : List NotedNode → ℕ → Entrant → Type 0
+CanEnter nodes q (entrant.Stays replica) =
+    (q < length nodes) × ((d : NotedNode) → let node = slice_index_or nodes q d in IsReady node × IsNextOf node.first node.inner.w node.inner.limit node.journal.notes replica)
+CanEnter nodes q (entrant.Comes next) = length nodes ≡ q
+
+-- its node is then this
+abbrev pub EntersAs : List NotedNode → ℕ → Entrant → NotedNode → Type 0
+EntersAs nodes q (entrant.Stays replica) next = (d : NotedNode) → IsNextNode replica.n replica.me (slice_index_or nodes q d) next
+EntersAs nodes q (entrant.Comes node) next = next ≡ node
+
+-- how many nodes there then are
+abbrev pub count_with : ℕ → Entrant → ℕ
+count_with count (entrant.Stays replica) = count
+count_with count (entrant.Comes node) = count + 1
