@@ -1,9 +1,9 @@
 -- What a line of a script asks for is in range: the members are of the store, the update is valid, the bytes are bytes.
-use Rattle.std.proofs.Common.{◌≡◌, ℕ, ◌<◌, Bool, true, false, cond, nat_lt, IsTrue, List, [], ◌∷◌, length, Option, Some, None, Result, Ok, Err, refl, subst, arith}
+use Rattle.std.proofs.Common.{◌≡◌, ℕ, ◌<◌, ◌≤◌, Bool, true, false, cond, nat_lt, nat_le, IsTrue, List, [], ◌∷◌, length, Option, Some, None, Result, Ok, Err, refl, subst, arith}
 use Rattle.std.specs.Prelude.{IfOk, ok_or, codes, All, ◌==◌, ◌%◌, if◌then◌else◌}
 use Rattle.std.specs.Result.{result_ok}
 use Rattle.std.proofs.lemmas.List.{get_or_default}
-use Rattle.std.proofs.lemmas.Bool.{and_parts, and_from, ltb-true}
+use Rattle.std.proofs.lemmas.Bool.{and_parts, and_from, ltb-true, leb-true}
 use Rattle.hex.specs.Hex.{decode_of, decode_pairs}
 use Rattle.hex.specs.declared.error.FromHexError.{FromHexError}
 use Rattle.hex.specs.declared.error.FromHexError.TheVariants.{OddLength}
@@ -17,10 +17,11 @@ use Rattle.op_base.specs.declared.name.Kind.TheVariants as kind
 use Rattle.op_base.specs.declared.name.ObjectId.{ObjectId}
 use Rattle.op_base.specs.declared.operation.Act.{Act}
 use Rattle.op_base.specs.declared.operation.Act.TheVariants as act
-use Rattle.script_lang.specs.Commands.{do_command, do_words, ask_words, give_words, resend_words, raw_words, settle_words, lone_member, words_behind, command_words, command_of, bad_line, run_or_bad, line_of}
+use Rattle.script_lang.specs.Commands.{do_command, do_words, ask_words, give_words, resend_words, raw_words, settle_words, members_words, lone_member, words_behind, command_words, command_of, bad_line, run_or_bad, line_of}
 use Rattle.script_lang.specs.Fault.{◌>>=◌, most_line_bytes, number_of_fault}
-use Rattle.script_lang.specs.Names.{below, member_of, object_in, value_in, bytes_in, amount_in}
+use Rattle.script_lang.specs.Names.{below, member_of, object_in, value_in, bytes_in, amount_in, size_in}
 use Rattle.script_lang.specs.Acts.{operation_in, set_act, flag_act, register_act, counter_act, clearable_act, kind_act, update_in}
+use Rattle.script_lang.specs.Headers.{is_from_to}
 use Rattle.script_lang.specs.Numbers.{number_of}
 use Rattle.script_lang.specs.Words.{words_of, is_passed_over}
 use Rattle.script_lang.specs.declared.act.Operation.{Operation}
@@ -40,6 +41,7 @@ CanRun n (command.Give r k s) = r < n
 CanRun n (command.Resend r k) = r < n
 CanRun n (command.Raw r bytes) = (r < n) × All (λ b. b < 256) bytes
 CanRun n command.Settle = Unit {0}
+CanRun n (command.Members m) = (1 ≤ m) × (m ≤ 16)
 CanRun n (command.Log r) = r < n
 CanRun n (command.Size r) = r < n
 CanRun n (command.Stable r) = r < n
@@ -98,6 +100,11 @@ value word = where_passed (λ v. IsTrue (is_value v)) (is_value word) word fault
 
 amount : (word : List ℕ) → IfOk (amount_in word) (λ a. IsTrue (nat_lt a 4294967296))
 amount word = where_some (λ a. IsTrue (nat_lt a 4294967296)) _ _ fault.Number (λ t. (and_parts _ _ t).1)
+
+size : (word : List ℕ) → IfOk (size_in word) (λ m. (1 ≤ m) × (m ≤ 16))
+size word =
+    given (λ a. IsTrue (nat_lt a 4294967296)) (λ m. (1 ≤ m) × (m ≤ 16)) (amount_in word) _ (amount word) (λ m small.
+    where_passed (λ m. (1 ≤ m) × (m ≤ 16)) (is_from_to 1 16 m) m fault.Number (λ t. let both = and_parts (nat_le 1 m) (nat_le m 16) t in (leb-true 1 m both.0, leb-true m 16 both.1)))
 
 -- ---- bytes in hexadecimal
 
@@ -225,6 +232,11 @@ module _ (n : ℕ) where
   settle_can_run [] = tt
   settle_can_run (a ∷ words) = tt
 
+  members_can_run : (words : List (List ℕ)) → IfOk (members_words words) (CanRun n)
+  members_can_run [] = tt
+  members_can_run (m ∷ []) = given (λ m. (1 ≤ m) × (m ≤ 16)) (CanRun n) (size_in m) _ (size m) (λ m within. within)
+  members_can_run (a ∷ b ∷ words) = tt
+
   lone : (words : List (List ℕ)) → IfOk (lone_member n words) Below
   lone [] = tt
   lone (r ∷ []) = member n r
@@ -241,13 +253,14 @@ module _ (n : ℕ) where
       (either_verb n (words_behind n) words (same_text (codes "resend") word) _ _ (resend_can_run words)
       (either_verb n (words_behind n) words (same_text (codes "raw") word) _ _ (raw_can_run words)
       (either_verb n (words_behind n) words (same_text (codes "settle") word) _ _ (settle_can_run words)
+      (either_verb n (words_behind n) words (same_text (codes "members") word) _ _ (members_can_run words)
       (either_verb n (words_behind n) words (same_text (codes "log") word) _ _ (given Below (CanRun n) (lone_member n words) _ (lone words) (λ r l. l))
       (either_verb n (words_behind n) words (same_text (codes "size") word) _ _ (given Below (CanRun n) (lone_member n words) _ (lone words) (λ r l. l))
       (either_verb n (words_behind n) words (same_text (codes "stable") word) _ _ (given Below (CanRun n) (lone_member n words) _ (lone words) (λ r l. l))
       (either_verb n (words_behind n) words (same_text (codes "seen") word) _ _ (given Below (CanRun n) (lone_member n words) _ (lone words) (λ r l. l))
       (either_verb n (words_behind n) words (same_text (codes "noops") word) _ _ (given Below (CanRun n) (lone_member n words) _ (lone words) (λ r l. l))
       (either_verb n (words_behind n) words (same_text (codes "lags") word) _ _ (given Below (CanRun n) (lone_member n words) _ (lone words) (λ r l. l))
-      tt))))))))))))
+      tt)))))))))))))
 
   not_bad : (o : Option ℕ) (c : Command) → bad_line o ≡ line.Run c → CanRun n c
   not_bad None c e = cc

@@ -1,25 +1,24 @@
 -- Each command is replied to in a plain world.
-use Rattle.std.proofs.Common.{◌≡◌, ◌≢◌, ℕ, Bool, true, false, cond, List, [], ◌∷◌, Option, Some, None, Result, Ok, Err, refl}
+use Rattle.std.proofs.Common.{◌≢◌, ℕ, Bool, true, false, not, ◌==◌, cond, List, [], ◌∷◌, Option, Some, None, Result, Ok, Err}
 use Rattle.op_base.specs.declared.message.Message.{Message}
 use Rattle.op_base.specs.declared.outcome.Step.{Step}
-use Rattle.causal_model.specs.Counts.{count_of}
 use Rattle.causal_model.specs.Receiving.{accepted, steps, with_early, refusal_of, receive_by}
-use Rattle.causal_model.specs.Sending.{is_noop_due}
-use Rattle.causal_model.specs.Stability.{unstable_operations, unstable_noops, noop_window}
 use Rattle.causal_model.specs.declared.outcome.Local.TheVariants as local
 use Rattle.causal_model.specs.declared.outcome.Beat.TheVariants as beat
 use Rattle.causal_model.specs.declared.outcome.Refusal.{Refusal}
 use Rattle.causal_model.specs.declared.outcome.Refusal.TheVariants as refusal
 use Rattle.frame_codec.specs.declared.fault.FrameFault.{FrameFault}
-use Rattle.script_lang.specs.declared.command.Command.{Command}
 use Rattle.script_lang.specs.declared.command.Command.TheVariants as command
 use Rattle.script_lang.specs.declared.reply.Reply.{Reply}
 use Rattle.world_model.specs.Offering.{offered_between, resent_of}
 use Rattle.world_model.specs.Raw.{read_at, raw_of}
+use Rattle.world_model.specs.Regrouping.{last_epoch, is_at_rest, next_world}
 use Rattle.world_model.specs.Settling.{world_settled, is_quiescent}
-use Rattle.world_model.specs.World.{PlainWorld, replica_of, sent_message, give_of}
+use Rattle.world_model.specs.World.{PlainWorld, epoch_in, replica_of, sent_message, give_of}
+use Rattle.world_model.specs.declared.outcome.Regroup.{Regroup}
+use Rattle.world_model.specs.declared.outcome.Regroup.TheVariants as regroup
 use Rattle.world_model.specs.declared.outcome.Settle.TheVariants as settle
-use Rattle.script_net.specs.Commands.{local_reply, beat_reply, receive_reply, given_reply, resent_reply, raw_reply, settle_reply, command_at}
+use Rattle.script_net.specs.Commands.{local_reply, beat_reply, receive_reply, given_reply, resent_reply, raw_reply, settle_reply, regroup_reply}
 use Rattle.script_net.specs.Laws.{CommandsAreRepliedTo}
 
 -- something is replied
@@ -67,6 +66,11 @@ settling_is_replied_to : (settled : Bool) → settle_reply (cond settled settle.
 settling_is_replied_to true = is_there _
 settling_is_replied_to false = is_there _
 
+regrouping_is_replied_to : (last moves : Bool) (epoch : ℕ) (world after : PlainWorld) → regroup_reply (cond {A = Regroup × PlainWorld} last (regroup.Last, world) (cond moves (regroup.Unsettled, world) (regroup.Regrouped epoch, after))).0 ≢ None
+regrouping_is_replied_to true moves epoch world after = is_there _
+regrouping_is_replied_to false true epoch world after = is_there _
+regrouping_is_replied_to false false epoch world after = is_there _
+
 pub commands_are_replied_to : CommandsAreRepliedTo
 commands_are_replied_to (command.Do r update) world = sending_is_replied_to _ _ _
 commands_are_replied_to (command.Ask r object) world = is_there _
@@ -75,6 +79,7 @@ commands_are_replied_to (command.Give r k s) world = giving_is_replied_to world 
 commands_are_replied_to (command.Resend r k) world = outbox_is_replied_to (offered_between world r k).steps (offered_between world r k).kept
 commands_are_replied_to (command.Raw r bytes) world = bytes_are_replied_to world r (read_at world r bytes)
 commands_are_replied_to command.Settle world = settling_is_replied_to (is_quiescent (world_settled world))
+commands_are_replied_to (command.Members n) world = regrouping_is_replied_to (epoch_in world == last_epoch) (not (is_at_rest world)) _ world (next_world n world)
 commands_are_replied_to (command.Log r) world = is_there _
 commands_are_replied_to (command.Size r) world = is_there _
 commands_are_replied_to (command.Stable r) world = is_there _

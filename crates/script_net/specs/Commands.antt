@@ -9,18 +9,21 @@ use Rattle.causal_model.specs.declared.outcome.Receive.{Receive}
 use Rattle.causal_model.specs.declared.outcome.Receive.TheVariants as receive
 use Rattle.frame_codec.specs.Fault.{fault_number}
 use Rattle.script_lang.specs.declared.command.Command.{Command}
-use Rattle.script_lang.specs.declared.command.Command.TheVariants.{Do, Ask, Beat, Give, Resend, Raw, Settle, Log, Size, Stable, Seen, Noops, Lags}
+use Rattle.script_lang.specs.declared.command.Command.TheVariants.{Do, Ask, Beat, Give, Resend, Raw, Settle, Members, Log, Size, Stable, Seen, Noops, Lags}
 use Rattle.script_lang.specs.declared.reply.Reply.{Reply}
 use Rattle.script_lang.specs.declared.reply.Reply.TheVariants as reply
 use Rattle.world_model.specs.World.{PlainWorld, size_of, local_at, beat_at, give_at}
 use Rattle.world_model.specs.Offering.{resend_at}
 use Rattle.world_model.specs.Raw.{raw_at}
+use Rattle.world_model.specs.Regrouping.{regroup_at}
 use Rattle.world_model.specs.Settling.{settle_at}
 use Rattle.world_model.specs.Showing.{answer_at, log_at, entries_at, items_at, stable_at, seen_at, noops_at, lags_at}
 use Rattle.world_model.specs.declared.outcome.Given.{Given}
 use Rattle.world_model.specs.declared.outcome.Given.TheVariants as given
 use Rattle.world_model.specs.declared.outcome.RawGot.{RawGot}
 use Rattle.world_model.specs.declared.outcome.RawGot.TheVariants as raw
+use Rattle.world_model.specs.declared.outcome.Regroup.{Regroup}
+use Rattle.world_model.specs.declared.outcome.Regroup.TheVariants as regroup
 use Rattle.world_model.specs.declared.outcome.Resent.{Resent}
 use Rattle.world_model.specs.declared.outcome.Resent.TheVariants as resent
 use Rattle.world_model.specs.declared.outcome.Settle.{Settle as ASettle}
@@ -76,6 +79,13 @@ settle_reply settle.Settled = Some reply.Settled
 settle_reply settle.Unsettled = Some reply.Unsettled
 settle_reply settle.NoMemory = None
 
+-- a change of members: the epoch that began
+abbrev pub regroup_reply : Regroup → Option Reply
+regroup_reply (regroup.Regrouped epoch) = Some (reply.Epoch epoch)
+regroup_reply regroup.Unsettled = Some reply.Unsettled
+regroup_reply regroup.Last = Some reply.Last
+regroup_reply regroup.NoMemory = None
+
 -- ---- commands
 
 -- the reply to a command in a plain world, and the plain world after it
@@ -87,6 +97,7 @@ command_at (Give r k s) world = let made = give_at r k s world in (given_reply m
 command_at (Resend r k) world = let made = resend_at r k world in (resent_reply made.0, made.1)
 command_at (Raw r bytes) world = let made = raw_at r bytes world in (raw_reply made.0, made.1)
 command_at Settle world = let made = settle_at world in (settle_reply made.0, made.1)
+command_at (Members n) world = let made = regroup_at n world in (regroup_reply made.0, made.1)
 command_at (Log r) world = (Some (reply.Log (log_at world r)), world)
 command_at (Size r) world = (Some (reply.Size (entries_at world r) (items_at world r)), world)
 command_at (Stable r) world = (Some (reply.Stable (size_of world) (stable_at world r)), world)

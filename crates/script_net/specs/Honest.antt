@@ -3,45 +3,69 @@ use Rattle.std.specs.Prelude.{◌≡◌, ℕ, Bool, true, false, not, IsTrue, Al
 use Rattle.std.specs.List.{list_all, flat_map}
 use Rattle.script_lang.specs.Commands.{line_of}
 use Rattle.script_lang.specs.Headers.{header_of}
-use Rattle.script_lang.specs.Replies.{reply_line}
 use Rattle.script_lang.specs.declared.command.Line.{Line}
 use Rattle.script_lang.specs.declared.command.Line.TheVariants.{Run}
 use Rattle.script_lang.specs.declared.command.Command.TheVariants.{Raw}
-use Rattle.script_lang.specs.declared.header.Header.{Header}
-use Rattle.script_lang.specs.declared.header.Header.TheVariants.{Store, Live}
 use Rattle.script_lang.specs.declared.reply.Reply.{Reply}
 use Rattle.script_lang.specs.declared.reply.Reply.TheVariants.{Far, Held, Unsettled, Took}
 use Rattle.world_model.specs.Settling.{is_delivery}
+use Rattle.world_model.specs.World.{PlainWorld, size_of}
 use Rattle.script_net.specs.Lines.{lines_of, from_command}
+use Rattle.script_net.specs.Transcript.{line_reply, reply_text, world_of_line, changes_members, opened}
+
+-- ---- lines with their replies
+
+-- a line as it is read, and what is replied to it
+pub record Exchange : Type 0 where
+  pub line : Line
+  pub reply : Option Reply
+
+-- those of lines, each in the plain world before it
+abbrev pub exchanges : PlainWorld → List (List ℕ) → List Exchange
+exchanges world [] = []
+exchanges world (bytes ∷ lines) =
+    let line = line_of (size_of world) bytes in
+    record { line = line; reply = line_reply world line } ∷ exchanges (world_of_line world bytes) lines
+
+-- those of the lines behind a header, and none without one
+abbrev pub exchanges_behind : Option PlainWorld → List (List ℕ) → List Exchange
+exchanges_behind None lines = []
+exchanges_behind (Some world) lines = exchanges world lines
+
+abbrev pub exchanges_from : List (List ℕ) → List Exchange
+exchanges_from [] = []
+exchanges_from (first ∷ lines) = exchanges_behind (opened (header_of first)) lines
+
+-- those of a script
+abbrev pub exchanges_of : List ℕ → List Exchange
+exchanges_of script = exchanges_from (from_command (lines_of script))
+
+-- ---- no bytes
 
 -- whether a line offers bytes, which anyone may have made
 abbrev pub offers_bytes : Line → Bool
 offers_bytes (Run (Raw r bytes)) = true
 offers_bytes line = false
 
--- whether none of the lines behind a header offers bytes, and none of a script does
-abbrev pub are_unforged : Option Header → List (List ℕ) → Bool
-are_unforged (Some (Store n w limit)) lines = list_all (λ line. not (offers_bytes (line_of n line))) lines
-are_unforged (Some (Live n w clients turns loss)) lines = true
-are_unforged None lines = true
-
-abbrev pub are_unforged_from : List (List ℕ) → Bool
-are_unforged_from [] = true
-are_unforged_from (first ∷ lines) = are_unforged (header_of first) lines
+-- whether none of lines offers bytes, and none of a script does
+abbrev pub are_unforged : List Exchange → Bool
+are_unforged made = list_all (λ (e : Exchange). not (offers_bytes e.line)) made
 
 abbrev pub is_unforged : List ℕ → Bool
-is_unforged script = are_unforged_from (from_command (lines_of script))
+is_unforged script = are_unforged (exchanges_of script)
 
--- whether a reply tells neither that a message is far or was dropped, nor that a beat is held or the store isn't settled
-abbrev pub is_fair : Reply → Bool
-is_fair Far = false
-is_fair Held = false
-is_fair Unsettled = false
-is_fair (Took steps) = list_all is_delivery steps
-is_fair reply = true
+-- ---- fair replies
 
--- a text is the lines of fair replies
-pub record IsFairText (text : List ℕ) : Type 0 where
-  pub replies : List Reply
-  pub fair : All (λ reply. IsTrue (is_fair reply)) replies
-  pub lines : text ≡ flat_map reply_line replies
+-- whether what is replied to a line, if anything, tells neither that a message is far or was dropped, nor that a beat is held
+-- or the store isn't settled; of which the last may be told to a change of members
+abbrev pub is_fair_to : Line → Option Reply → Bool
+is_fair_to line (Some Far) = false
+is_fair_to line (Some Held) = false
+is_fair_to line (Some Unsettled) = changes_members line
+is_fair_to line (Some (Took steps)) = list_all is_delivery steps
+is_fair_to line other = true
+
+-- a text is the replies to the lines of a script, and each is fair
+pub record IsFairText (script text : List ℕ) : Type 0 where
+  pub fair : All (λ (e : Exchange). IsTrue (is_fair_to e.line e.reply)) (exchanges_of script)
+  pub lines : text ≡ flat_map (λ (e : Exchange). reply_text e.reply) (exchanges_of script)

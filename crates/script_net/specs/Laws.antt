@@ -9,15 +9,15 @@ use Rattle.script_lang.specs.Commands.{line_of}
 use Rattle.script_lang.specs.Headers.{header_of}
 use Rattle.script_lang.specs.declared.command.Line.TheVariants.{Run}
 use Rattle.script_lang.specs.declared.command.Command.{Command}
-use Rattle.script_lang.specs.declared.command.Command.TheVariants.{Do, Ask, Raw}
+use Rattle.script_lang.specs.declared.command.Command.TheVariants.{Do, Ask, Raw, Members}
 use Rattle.script_lang.specs.declared.header.Header.TheVariants.{Store}
 use Rattle.script_lang.specs.declared.reply.Reply.{Reply}
-use Rattle.script_lang.specs.declared.reply.Reply.TheVariants.{Busy, Old, Again, Far, BadFrame}
-use Rattle.world_model.specs.World.{PlainWorld, size_of, replica_of, opening}
+use Rattle.script_lang.specs.declared.reply.Reply.TheVariants.{Busy, Old, Again, Far, BadFrame, Epoch}
+use Rattle.world_model.specs.World.{PlainWorld, size_of, epoch_in, replica_of, opening}
 use Rattle.world_model.specs.Showing.{entries_at}
 use Rattle.world_model.specs.Worlds.{IsWorld}
 use Rattle.script_net.specs.Commands.{command_at}
-use Rattle.script_net.specs.Transcript.{line_reply, text_of_line, world_of_line, replies_to, world_after}
+use Rattle.script_net.specs.Transcript.{line_reply, text_of_line, world_of_line, changes_members, replies_to, world_after}
 
 -- the plain world of a store after lines
 abbrev pub world_by : ℕ → ℕ → ℕ → List (List ℕ) → PlainWorld
@@ -25,35 +25,46 @@ world_by n w limit lines = world_after (opening n w limit) lines
 
 -- ---- every script
 
--- behind a header each line leaves a world of as many members and with the window and the limit of the header
+-- behind a header each line leaves a world with the window and the limit of the header
 abbrev pub ScriptsKeepWorlds : Type 0
 ScriptsKeepWorlds = (header : List ℕ) (lines : List (List ℕ)) (n w limit : ℕ) → header_of header ≡ Some (Store n w limit)
-    → IsWorld (world_by n w limit lines) × (size_of (world_by n w limit lines) ≡ n)
-    × ((world_by n w limit lines).w ≡ w) × ((world_by n w limit lines).limit ≡ limit)
+    → let world = world_by n w limit lines in IsWorld world × (world.w ≡ w) × (world.limit ≡ limit)
+
+-- a change of members that is replied to by an epoch leaves as many members as it asks for, in that epoch
+abbrev pub MembersAreAsked : Type 0
+MembersAreAsked = (header : List ℕ) (lines : List (List ℕ)) (line : List ℕ) (n w limit m epoch : ℕ) → header_of header ≡ Some (Store n w limit)
+    → let world = world_by n w limit lines in
+    line_of (size_of world) line ≡ Run (Members m) → line_reply world (line_of (size_of world) line) ≡ Some (Epoch epoch)
+    → (size_of (world_of_line world line) ≡ m) × (epoch_in (world_of_line world line) ≡ epoch)
+
+-- every other line leaves the members and the epoch
+abbrev pub MembersStay : Type 0
+MembersStay = (header : List ℕ) (lines : List (List ℕ)) (line : List ℕ) (n w limit : ℕ) → header_of header ≡ Some (Store n w limit)
+    → let world = world_by n w limit lines in changes_members (line_of (size_of world) line) ≡ false
+    → (size_of (world_of_line world line) ≡ size_of world) × (epoch_in (world_of_line world line) ≡ epoch_in world)
 
 -- each command is replied to: a plain world knows no want of memory
 abbrev pub CommandsAreRepliedTo : Type 0
 CommandsAreRepliedTo = (command : Command) (world : PlainWorld) → (command_at command world).0 ≢ None
 
--- every log has at most n * w entries after every line
+-- every log has at most as many entries as the members' windows have room for, after every line
 abbrev pub LogsAreBounded : Type 0
 LogsAreBounded = (header : List ℕ) (lines : List (List ℕ)) (n w limit r : ℕ) → header_of header ≡ Some (Store n w limit)
-    → r < n → entries_at (world_by n w limit lines) r ≤ n * w
+    → let world = world_by n w limit lines in r < size_of world → entries_at world r ≤ size_of world * w
 
 -- a line that sends an update is replied to by busy exactly where as many own operations are unstable as the window has
 abbrev pub BusyIsExact : Type 0
 BusyIsExact = (header : List ℕ) (lines : List (List ℕ)) (line : List ℕ) (n w limit r : ℕ) (update : Update) → header_of header ≡ Some (Store n w limit)
-    → line_of n line ≡ Run (Do r update)
-    → (line_reply (world_by n w limit lines) (line_of n line) ≡ Some Busy)
-    ↔ (unstable_operations n r (replica_of (world_by n w limit lines) r).history.present.messages r ≡ w)
+    → let world = world_by n w limit lines in let members = size_of world in line_of members line ≡ Run (Do r update)
+    → (line_reply world (line_of members line) ≡ Some Busy) ↔ (unstable_operations members r (replica_of world r).history.present.messages r ≡ w)
 
 -- lines that ask two replicas of the same events for an object have the same reply, after any lines behind a header: at one
 -- point of a script or at two
 abbrev pub EqualEventsAnswerAlike : Type 0
 EqualEventsAnswerAlike = (header : List ℕ) (lines others : List (List ℕ)) (first second : List ℕ) (n w limit r k : ℕ) (object : ObjectId) → header_of header ≡ Some (Store n w limit)
-    → line_of n first ≡ Run (Ask r object) → line_of n second ≡ Run (Ask k object)
-    → SameEvents (replica_of (world_by n w limit lines) r).history (replica_of (world_by n w limit others) k).history
-    → text_of_line (world_by n w limit lines) first ≡ text_of_line (world_by n w limit others) second
+    → let world = world_by n w limit lines in let other = world_by n w limit others in
+    line_of (size_of world) first ≡ Run (Ask r object) → line_of (size_of other) second ≡ Run (Ask k object)
+    → SameEvents (replica_of world r).history (replica_of other k).history → text_of_line world first ≡ text_of_line other second
 
 -- ---- one line more
 

@@ -1,8 +1,9 @@
 -- The transcript of a script: the replies of a plain world, whose replicas keep every message, to its command lines.
-use Rattle.std.specs.Prelude.{ℕ, List, [], ◌∷◌, ◌++◌, fold, Option, Some, None}
+use Rattle.std.specs.Prelude.{ℕ, Bool, true, false, List, [], ◌∷◌, ◌++◌, fold, Option, Some, None}
 use Rattle.script_lang.specs.Commands.{line_of}
 use Rattle.script_lang.specs.Headers.{header_of}
 use Rattle.script_lang.specs.Replies.{reply_line}
+use Rattle.script_lang.specs.declared.command.Command.TheVariants.{Members}
 use Rattle.script_lang.specs.declared.command.Line.{Line}
 use Rattle.script_lang.specs.declared.command.Line.TheVariants as line
 use Rattle.script_lang.specs.declared.header.Header.{Header}
@@ -38,6 +39,11 @@ text_of_line world bytes = reply_text (line_reply world (line_of (size_of world)
 
 abbrev pub world_of_line : PlainWorld → List ℕ → PlainWorld
 world_of_line world bytes = line_world world (line_of (size_of world) bytes)
+
+-- whether a line asks for a change of members
+abbrev pub changes_members : Line → Bool
+changes_members (line.Run (Members n)) = true
+changes_members other = false
 
 -- the replies to lines, and the plain world after them
 abbrev pub replies_to : PlainWorld → List (List ℕ) → List ℕ

@@ -47,3 +47,9 @@ abbrev pub LinesArePassedOver : Type 0
 LinesArePassedOver = IsRepliedTo
     (codes "# a store" ∷ codes "" ∷ codes "store 1 1" ∷ codes "# of one" ∷ codes "frob" ∷ codes "beat 0" ∷ [])
     (codes "bad 2" ∷ codes "quiet" ∷ [])
+
+-- a member comes, begins with what there is, and can't go until its update is stable
+abbrev pub MembersChange : Type 0
+MembersChange = IsRepliedTo
+    (codes "store 1 1" ∷ codes "do 0 counter:a inc 5" ∷ codes "members 2" ∷ codes "ask 1 counter:a" ∷ codes "do 1 counter:a inc 1" ∷ codes "members 1" ∷ [])
+    (codes "ok 1" ∷ codes "epoch 1" ∷ codes "= 5" ∷ codes "ok 1" ∷ codes "unsettled" ∷ [])

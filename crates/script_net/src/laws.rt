@@ -1,11 +1,14 @@
 //! Laws of transcripts. Each is the contract of a function that does nothing.
 
-ghost use Rattle.script_net.specs.Laws.{CommandsAreRepliedTo, ScriptsKeepWorlds, LogsAreBounded, BusyIsExact, EqualEventsAnswerAlike, OneLineMoreReplies, OneLineMoreLeaves, RefusedBytesChangeNothing, RefusedBytesGo};
+ghost use Rattle.script_net.specs.Laws.{CommandsAreRepliedTo, ScriptsKeepWorlds, MembersAreAsked, MembersStay, LogsAreBounded, BusyIsExact, EqualEventsAnswerAlike, OneLineMoreReplies, OneLineMoreLeaves, RefusedBytesChangeNothing, RefusedBytesGo};
 ghost use Rattle.script_net.specs.HonestLaws.{ScriptsAreHonest, TranscriptsAreFair};
 
-/// Behind a header each line of a script leaves a world of the header's store, whose logs are bounded.
+/// Behind a header each line of a script leaves a world of the header's store, whose logs are bounded. Its members are those
+/// that the last change of members asked for.
 pub fn scripts_keep_worlds()
     ensures worlds { ScriptsKeepWorlds }
+    ensures asked { MembersAreAsked }
+    ensures stay { MembersStay }
     ensures logs { LogsAreBounded }
 {}
 
@@ -30,7 +33,7 @@ pub fn refused_bytes_change_nothing()
 {}
 
 /// Where no line offers bytes the world is honest after every line, and no reply tells of a message that is far or dropped, of
-/// a beat that is held or of a store that didn't settle.
+/// a beat that is held or of a store that didn't settle. That the store hasn't settled may be told to a change of members.
 pub fn unforged_scripts_are_honest()
     ensures worlds { ScriptsAreHonest }
     ensures fair { TranscriptsAreFair }

@@ -1,11 +1,11 @@
 //! Commands on a world, and what is replied to them.
 
-ghost use Rattle.std.specs.Prelude.{◌≡◌, ◌<◌, IfOk, length, Some};
+ghost use Rattle.std.specs.Prelude.{◌≡◌, ◌<◌, ◌≤◌, IfOk, length, Some};
 ghost use Rattle.script_lang.specs.Replies.{HasItsEntries};
 ghost use Rattle.script_lang.specs.Ranges.{IsWithin};
 ghost use Rattle.world_model.specs.World.{PlainWorld, size_of};
 ghost use Rattle.world.specs.Answers.{ShowsPlain};
-ghost use Rattle.script_net.specs.Commands.{command_at, local_reply, beat_reply, receive_reply, given_reply, resent_reply, raw_reply, settle_reply};
+ghost use Rattle.script_net.specs.Commands.{command_at, local_reply, beat_reply, receive_reply, given_reply, resent_reply, raw_reply, settle_reply, regroup_reply};
 ghost use Rattle.script_net.specs.Replied.{Told, IsReply, HaveNumbers};
 ghost use Rattle.causal_model.specs.Sending.{local_messages, beat_messages};
 
@@ -13,7 +13,7 @@ use op_base::{ByteList, NoMemory, ObjectId, Update};
 use replica_core::{Beat, Local, Receive};
 use script_lang::{Command, Reply};
 use std::alloc::Global;
-use world::{Given, RawGot, Resent, Settle, World};
+use world::{Given, RawGot, Regroup, Resent, Settle, World};
 
 /// Runs a command. On `NoMemory` nothing is replied, and the world may stand in the midst of the command.
 ///
@@ -31,6 +31,7 @@ pub fn reply_to(alloc: Global, world: &mut World, command: &Command) -> Result<R
         Command::Resend { r, k } => resend(alloc, world, *r, *k),
         Command::Raw { r, bytes } => offer_bytes(alloc, world, *r, bytes),
         Command::Settle => settle(alloc, world),
+        Command::Members { n } => change_members(alloc, world, *n),
         Command::Log { r } => list_log(alloc, world, *r),
         Command::Size { r } => Ok(size_reply(world, *r)),
         Command::Stable { r } => Ok(stable_reply(world, *r)),
@@ -109,6 +110,17 @@ fn settle(alloc: Global, world: &mut World) -> Result<Reply, NoMemory>
     ensures entries { IfOk result HasItsEntries }
 {
     settle_reply(world.settle(alloc))
+}
+
+/// The members become replicas 0 to `n - 1`, where the store is at rest.
+#[inline(never)]
+fn change_members(alloc: Global, world: &mut World, n: u8) -> Result<Reply, NoMemory>
+    requires some { 1 ≤ n }
+    requires few { n ≤ 16 }
+    ensures told { (plain : PlainWorld) → ShowsPlain world.old plain → Told plain (Command.Members n) result world.new }
+    ensures entries { IfOk result HasItsEntries }
+{
+    regroup_reply(world.regroup(alloc, n))
 }
 
 /// The ids of replica `r`'s log.
@@ -252,5 +264,18 @@ fn settle_reply(answer: Settle) -> Result<Reply, NoMemory>
         Settle::Settled => Ok(Reply::Settled),
         Settle::Unsettled => Ok(Reply::Unsettled),
         Settle::NoMemory => Err(NoMemory),
+    }
+}
+
+/// The reply to a change of members.
+fn regroup_reply(answer: Regroup) -> Result<Reply, NoMemory>
+    ensures told { IsReply (regroup_reply answer) result }
+    ensures entries { IfOk result HasItsEntries }
+{
+    match answer {
+        Regroup::Regrouped(epoch) => Ok(Reply::Epoch(epoch)),
+        Regroup::Unsettled => Ok(Reply::Unsettled),
+        Regroup::Last => Ok(Reply::Last),
+        Regroup::NoMemory => Err(NoMemory),
     }
 }

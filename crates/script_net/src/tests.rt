@@ -1,8 +1,10 @@
 //! Whole scripts: each line's reply, as worked by hand.
 
+mod changes;
 mod scripts;
 
 use crate::Runner;
+use crate::tests::changes::CHANGES;
 use crate::tests::scripts::{LIMIT, SCRIPTS, Script};
 use op_base::{NoMemory, Text};
 use replica_core::CreateFault;
@@ -33,6 +35,20 @@ fn first_wrong<'a>(
     Ok(None)
 }
 
+/// Runs scripts, and gives the first line that has another reply than the one beside it.
+fn first_wrong_of(alloc: Global, scripts: &[Script]) -> Result<Option<&'static str>, Fail> {
+    for script in scripts {
+        let mut runner = Runner::create(alloc, script.n, script.w, script.limit)
+            .ok()
+            .ok_or("there is memory")?;
+        let wrong = first_wrong(alloc, &mut runner, script.rows)?;
+        if wrong.is_some() {
+            return Ok(wrong);
+        }
+    }
+    Ok(None)
+}
+
 /// A run at a store of two members.
 fn run_of_two(alloc: Global) -> Result<Runner, Fail> {
     Ok(
@@ -44,13 +60,13 @@ fn run_of_two(alloc: Global) -> Result<Runner, Fail> {
 
 #[test]
 fn each_line_has_its_reply(rt: HostRuntime) -> Result<(), Fail> {
-    let alloc = rt.alloc();
-    for script in SCRIPTS {
-        let mut runner = Runner::create(alloc, script.n, script.w, script.limit)
-            .ok()
-            .ok_or("there is memory")?;
-        assert_eq!(rt; first_wrong(alloc, &mut runner, script.rows)?, None);
-    }
+    assert_eq!(rt; first_wrong_of(rt.alloc(), &SCRIPTS)?, None);
+    Ok(())
+}
+
+#[test]
+fn members_change(rt: HostRuntime) -> Result<(), Fail> {
+    assert_eq!(rt; first_wrong_of(rt.alloc(), &CHANGES)?, None);
     Ok(())
 }
 

@@ -1,6 +1,6 @@
 //! Worked transcripts: that the definition means what was meant. Each is the contract of a function that does nothing.
 
-ghost use Rattle.script_net.specs.Worked.{OneMemberCounts, AMessageIsTaken, AWindowIsFull, BytesAreNoFrame, AMessageIsDropped, LinesArePassedOver};
+ghost use Rattle.script_net.specs.Worked.{OneMemberCounts, AMessageIsTaken, AWindowIsFull, BytesAreNoFrame, AMessageIsDropped, LinesArePassedOver, MembersChange};
 
 /// One member counts, and is asked.
 pub fn one_member_counts()
@@ -30,4 +30,9 @@ pub fn a_message_is_dropped()
 /// A comment and an empty line have no reply.
 pub fn lines_are_passed_over()
     ensures { LinesArePassedOver }
+{}
+
+/// A member comes, and can't go until its update is stable.
+pub fn members_change()
+    ensures { MembersChange }
 {}
