@@ -211,9 +211,9 @@ module _ (left_old left_new : Option (List ℕ)) (reads_old reads_new writes_old
       let left = split_left a.given input left_new (sym tells ∙ a.gave) in
       completes_given s a.given left.0 left.1 left.2 a.ends
 
--- where all came and was answered, the whole transcript was written: the lines of fair replies, where no line offers bytes
+-- where all came and was answered, the whole transcript was written: fair replies, where no line offers bytes
 pub fine_is_fair : (s : Status) (left_old left_new : Option (List ℕ)) (reads_old reads_new writes_old writes_new : ℕ) (old new : Option (List ℕ)) (input : List ℕ) → left_old ≡ Some input
-    → AnswersInput s left_old left_new reads_old reads_new writes_old writes_new old new → is_unforged input ≡ true → s ≡ status.Fine → TookFair old new
+    → AnswersInput s left_old left_new reads_old reads_new writes_old writes_new old new → is_unforged input ≡ true → s ≡ status.Fine → TookFair input old new
 fine_is_fair s left_old left_new reads_old reads_new writes_old writes_new old new input tells a plain fine =
     let left = split_left a.given input left_new (sym tells ∙ a.gave) in
     let ends : EndsFine a.given left_new old new = subst (λ x. Ends x a.given left_new reads_old reads_new writes_old writes_new old new) fine a.ends in

@@ -88,10 +88,10 @@ pub record IsGoodScript (words : List (List ℕ)) (input : List ℕ) : Type 0 wh
   pub short : length input ≤ most_input
   pub header : lacks_header true (from_command (lines_of input)) ≡ false
 
--- the sink took the lines of fair replies
-pub record TookFair (old new : Option (List ℕ)) : Type 0 where
+-- the sink took the replies to the lines of a script, and each is fair
+pub record TookFair (script : List ℕ) (old new : Option (List ℕ)) : Type 0 where
   pub text : List ℕ
-  pub fair : IsFairText text
+  pub fair : IsFairText script text
   pub took : Took old new text
 
 -- ---- a script that is made

@@ -212,10 +212,10 @@ pub fn run<R, S: Source, K: Sink, G: Gate + Sync>(
     ensures answers { request_of (map string_bytes words.now) ≡ Some Request.Script
         → AnswersInput result (S.left source.old) (S.left source.new) (S.faults source.old) (S.faults source.new) (K.faults sink.old) (K.faults sink.new) (K.held sink.old) (K.held sink.new) }
 
-    // Where no line of it offers bytes, no reply tells of a message that is far or dropped, of a beat that is held or of a
-    // store that didn't settle.
+    // Where no line of it offers bytes, no reply tells of a message that is far or dropped, of a beat that is held or, but for
+    // a change of members, of a store that didn't settle.
     ensures fair { (input : List ℕ) → S.left source.old ≡ Some input → request_of (map string_bytes words.now) ≡ Some Request.Script
-        → is_unforged input ≡ true → result ≡ Status.Fine → TookFair (K.held sink.old) (K.held sink.new) }
+        → is_unforged input ≡ true → result ≡ Status.Fine → TookFair input (K.held sink.old) (K.held sink.new) }
 
     // A made script: what is written is its summary.
     ensures makes { (seed count n w : ℕ) → request_of (map string_bytes words.now) ≡ Some (Request.Make seed count n w)

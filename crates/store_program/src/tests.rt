@@ -71,7 +71,7 @@ fn script(rt: &HostRuntime, input: &[u8]) -> Result<(Status, Vec<u8>), AllocErro
 
 #[test]
 fn scripts_give_their_transcripts(rt: HostRuntime) -> Result<(), Fail> {
-    let cases: [(&[u8], Status, &[u8]); 27] = [
+    let cases: [(&[u8], Status, &[u8]); 28] = [
         (FIRST, Status::Fine, b"ok 1\n= 5\n"),
         // Headers.
         (b"", Status::BadHeader, b""),
@@ -114,6 +114,12 @@ fn scripts_give_their_transcripts(rt: HostRuntime) -> Result<(), Fail> {
             b"store 1 2\ndo 0 counter:a dec 4294967295\ndo 0 counter:a dec 4294967295\ndo 0 counter:b inc 1\nask 0 counter:a\nask 0 counter:b\nask 0 counter:c\n",
             Status::Fine,
             b"ok 1\nok 2\nok 3\n= -8589934590\n= 1\n= 0\n",
+        ),
+        // A member comes, and can't go until its update is everywhere.
+        (
+            b"store 1 1\ndo 0 counter:a inc 5\nmembers 2\ndo 1 counter:a inc 1\nmembers 1\nsettle\nmembers 1\nask 0 counter:a\nask 1 counter:a\n",
+            Status::Fine,
+            b"ok 1\nepoch 1\nok 1\nunsettled\nsettled\nepoch 2\n= 6\nbad 4\n",
         ),
         // What is no command, by its fault, and a command of another kind.
         (
