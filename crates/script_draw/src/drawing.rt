@@ -3,11 +3,13 @@
 ghost use Rattle.std.specs.Prelude.{◌≡◌, true, false, Err, IsOk};
 ghost use Rattle.script_draw.specs.Opening.{has_header};
 
-use crate::event::{Event, Heading, Labels, Level, Mark};
+use crate::event::{Event, Heading, Labels, Level, Mark, Stretch};
 use crate::plan::{LEFT, MOST_MARKS, Plan};
 use crate::play::play;
 use crate::script::DrawFault;
-use crate::shapes::{Shape, Style, put_arrow, put_band, put_opening, put_shape, put_text};
+use crate::shapes::{
+    Shape, Style, put_arrow, put_band, put_opening, put_rule, put_shape, put_text,
+};
 use op_base::NoMemory;
 use std::alloc::Global;
 
@@ -18,7 +20,7 @@ const LEAST_WIDTH: u32 = 720;
 const BAND: u32 = 18;
 
 /// What explains the shapes, in their order.
-const EXPLAINED: [(Shape, &str); 9] = [
+const EXPLAINED: [(Shape, &str); 11] = [
     (Shape::Mark(Mark::Operation), "sends an operation"),
     (Shape::Mark(Mark::NoOp), "sends a no-op"),
     (Shape::Mark(Mark::Delivered), "delivers a message"),
@@ -28,6 +30,8 @@ const EXPLAINED: [(Shape, &str); 9] = [
     (Shape::Raw, "delivers what raw bytes say"),
     (Shape::Mark(Mark::Answer), "answers"),
     (Shape::Mark(Mark::Refusal), "refuses, or has nothing to do"),
+    (Shape::Epoch, "the next epoch begins"),
+    (Shape::Leaving, "is no member any more"),
 ];
 
 /// The height of the first replica's line.
@@ -61,14 +65,15 @@ fn end_of(plan: &Plan) -> u32 {
 
 /// Puts a picture.
 fn put_picture(alloc: Global, plan: &Plan, out: &mut String) -> Result<(), NoMemory> {
-    let below = y(plan.n).saturating_sub(18);
+    let below = y(plan.most).saturating_sub(18);
     let end = end_of(plan);
     let explained = explained_of(alloc, plan)?;
     let width = end.saturating_add(16).max(LEAST_WIDTH);
     let (_, last) = place_of(explained.len().min(20) as u32 + 2, below);
     put_opening(width, last.saturating_add(38), out)?;
     put_bands(&plan.levels, end, out)?;
-    put_lines(plan.n, end, out)?;
+    put_rules(&plan.rules, below.saturating_sub(22), out)?;
+    put_stretches(&plan.stretches, end, out)?;
     put_waits(&plan.events, out)?;
     put_arrows(&plan.events, out)?;
     for event in plan.events.iter() {
@@ -85,14 +90,27 @@ fn put_picture(alloc: Global, plan: &Plan, out: &mut String) -> Result<(), NoMem
     Ok(())
 }
 
-/// Puts a replica's name and its line, for each.
-fn put_lines(n: u8, end: u32, out: &mut String) -> Result<(), NoMemory> {
-    for r in 0..n {
-        let height = y(r);
+/// Puts a rule where an epoch begins, for each but the first.
+fn put_rules(rules: &[u32], bottom: u32, out: &mut String) -> Result<(), NoMemory> {
+    for x in rules {
+        put_rule(*x, 50, bottom, out)?;
+    }
+    Ok(())
+}
+
+/// Puts a replica's name and its line, and a mark at its end where it leaves, for each stretch.
+fn put_stretches(stretches: &[Stretch], end: u32, out: &mut String) -> Result<(), NoMemory> {
+    for stretch in stretches {
+        let (r, x) = (stretch.from.replica, stretch.from.x);
+        let (height, name) = (y(r), x.saturating_sub(LEFT - 6));
+        let to = stretch.to.unwrap_or(end);
         write!(
             out,
-            "<path d=\"M{LEFT},{height}H{end}\" stroke=\"#999\"/>\n<text x=\"6\" y=\"{height}\" dy=\"4\" class=\"l\">replica {r}</text>\n"
+            "<path d=\"M{x},{height}H{to}\" stroke=\"#999\"/>\n<text x=\"{name}\" y=\"{height}\" dy=\"4\" class=\"l\">replica {r}</text>\n"
         )?;
+        if stretch.to.is_some() {
+            put_shape(to, height, Shape::Leaving, out)?;
+        }
     }
     Ok(())
 }
@@ -198,13 +216,13 @@ fn put_two(
     put_text(x, y.saturating_add(lower), style, &labels.lower, out)
 }
 
-/// The style of labels above the lines: of a line that is no command, and of settling that left replicas apart, as of what
-/// is refused.
+/// The style of labels above the lines: of a line that is no command, of settling that left replicas apart, and of members
+/// that didn't change, as of what is refused.
 fn style_above(labels: &Labels) -> Style {
-    if labels.lower.starts_with("bad") || labels.lower.as_str() == "unsettled" {
-        Style::Refusal
-    } else {
-        Style::Plain
+    match labels.lower.as_str() {
+        "unsettled" | "last" => Style::Refusal,
+        lower if lower.starts_with("bad") => Style::Refusal,
+        _ => Style::Plain,
     }
 }
 
@@ -217,11 +235,20 @@ fn put_heading(heading: &Heading, out: &mut String) -> Result<(), NoMemory> {
     put_two(x, 30, style_above(&heading.labels), &heading.labels, out)
 }
 
+/// Whether a picture has a shape.
+fn has_shape(plan: &Plan, shape: Shape) -> bool {
+    match shape {
+        Shape::Epoch => !plan.rules.is_empty(),
+        Shape::Leaving => plan.stretches.iter().any(|stretch| stretch.to.is_some()),
+        _ => plan.events.iter().any(|event| shape_of(event) == shape),
+    }
+}
+
 /// What explains the shapes that are there.
 fn explained_of(alloc: Global, plan: &Plan) -> Result<Vec<(Shape, &'static str)>, NoMemory> {
     let mut found = Vec::new(alloc);
     for (shape, text) in EXPLAINED {
-        if plan.events.iter().any(|event| shape_of(event) == shape) {
+        if has_shape(plan, shape) {
             found.push((shape, text))?;
         }
     }

@@ -70,6 +70,13 @@ pub struct Level {
     pub stable: usize,
 }
 
+/// A stretch of a replica's line: from where it is a member to where it leaves, if it does.
+#[derive(Clone, Copy, Debug, PartialEq, Eq)]
+pub struct Stretch {
+    pub from: Spot,
+    pub to: Option<u32>,
+}
+
 impl Labels {
     /// No labels.
     pub fn none(alloc: Global) -> Labels {

@@ -6,7 +6,7 @@ ghost use Rattle.script_draw.specs.Opening.{has_header};
 use crate::event::{Event, Labels, Mark, Spot};
 use crate::label::{label_of, label_of_words};
 use crate::plan::Plan;
-use crate::replies::{Told, first_word, is_word, numbers_in, read_step};
+use crate::replies::{Told, first_word, is_word, members_by, numbers_in, read_step};
 use crate::script::{DrawFault, Opened, open, reply_to};
 use op_base::{MessageId, NoMemory};
 use script_lang::{is_passed_over, read_number, split};
@@ -27,7 +27,7 @@ pub fn play(alloc: Global, script: &[u8]) -> Result<Plan, DrawFault>
         passed,
         lines,
     } = open(alloc, script)?;
-    let mut plan = Plan::new(alloc, n);
+    let mut plan = Plan::new(alloc, n)?;
     let mut number = passed;
     for line in lines.iter() {
         number = number.saturating_add(1);
@@ -57,7 +57,10 @@ fn play_line(
     let reply = reply_to(alloc, runner, line)?;
     let (first, rest) = first_word(&reply);
     if is_word(first, b"bad") && !rest.starts_with(b"frame") {
-        return plan.add_heading(Some(number), labels_of(alloc, b"", &reply)?);
+        return plan.add_line(number, labels_of(alloc, b"", &reply)?);
+    }
+    if let [b"members", ..] = words {
+        return note_members(alloc, words, &reply, number, plan);
     }
     let before = plan.events.len();
     note_reply(alloc, words, &reply, plan)?;
@@ -65,6 +68,24 @@ fn play_line(
     match words {
         [_, r, ..] => note_level(alloc, runner, replica_of(r), plan),
         _ => Ok(()),
+    }
+}
+
+/// Notes that an epoch begins by a change of members, or that none does.
+fn note_members(
+    alloc: Global,
+    words: &[&[u8]],
+    reply: &[u8],
+    number: usize,
+    plan: &mut Plan,
+) -> Result<(), NoMemory> {
+    let labels = Labels {
+        upper: label_of_words(alloc, words)?,
+        lower: label_of(alloc, reply)?,
+    };
+    match members_by(words, reply) {
+        Some(n) => plan.begin_epoch(number, labels, n),
+        None => plan.add_line(number, labels),
     }
 }
 

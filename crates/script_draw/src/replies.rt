@@ -52,6 +52,17 @@ pub fn read_step(word: &[u8]) -> Option<Told> {
     }
 }
 
+/// How many members there are from now on, where a reply to a line's words says that an epoch begins.
+pub fn members_by(words: &[&[u8]], reply: &[u8]) -> Option<u8> {
+    let (first, _) = first_word(reply);
+    match words {
+        [b"members", count] if is_word(first, b"epoch") => {
+            Some(read_number(count)?.min(16) as u8)
+        }
+        _ => None,
+    }
+}
+
 /// The numbers in a text, whatever else is in it.
 pub fn numbers_in(alloc: Global, text: &[u8]) -> Result<Vec<u32>, NoMemory> {
     let mut numbers = Vec::new(alloc);

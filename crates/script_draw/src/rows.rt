@@ -4,7 +4,7 @@ ghost use Rattle.std.specs.Prelude.{◌≡◌, ◌≤◌, true, false, Err, IsOk
 ghost use Rattle.script_draw.specs.Opening.{has_header};
 
 use crate::label::cut;
-use crate::replies::first_word;
+use crate::replies::{first_word, members_by};
 use crate::script::{DrawFault, Opened, open, reply_to};
 use op_base::NoMemory;
 use script_lang::{is_passed_over, split};
@@ -28,7 +28,7 @@ pub fn table(alloc: Global, script: &[u8]) -> Result<String, DrawFault>
     ensures opens { IsOk result → has_header script.now ≡ true }
 {
     let Opened {
-        n,
+        mut n,
         mut runner,
         passed: _,
         lines,
@@ -48,7 +48,12 @@ pub fn table(alloc: Global, script: &[u8]) -> Result<String, DrawFault>
             break;
         }
         rows += 1;
-        put_row(alloc, &mut runner, n, line, &mut out)?;
+        let reply = reply_to(alloc, &mut runner, line)?;
+        if let Some(members) = members_by(split(line).as_slice(), &reply) {
+            n = members;
+            put_head(alloc, n, &mut out)?;
+        }
+        put_row(alloc, &mut runner, n, line, &reply, &mut out)?;
     }
     Ok(out)
 }
@@ -98,18 +103,18 @@ fn put_last(text: &str, r: u8, n: u8, out: &mut String) -> Result<(), NoMemory>
     Ok(())
 }
 
-/// Runs a line, and puts its row.
+/// Puts the row of a line that was run, with what each replica answers behind it.
 fn put_row(
     alloc: Global,
     runner: &mut Runner,
     n: u8,
     line: &[u8],
+    reply: &[u8],
     out: &mut String,
 ) -> Result<(), NoMemory> {
-    let reply = reply_to(alloc, runner, line)?;
     let shown = shown_line(alloc, line)?;
     put_cell(alloc, &shown, LINE_WIDTH, out)?;
-    put_cell(alloc, &reply, REPLY_WIDTH, out)?;
+    put_cell(alloc, reply, REPLY_WIDTH, out)?;
     for r in 0..n {
         let seen = numbers_of(alloc, runner, "seen", r)?;
         put_padded(&seen, width_of(n), out)?;

@@ -31,11 +31,14 @@ fn class_of(style: Style) -> &'static str {
     }
 }
 
-/// The shapes of a picture: its marks, and a message of bytes that nobody sent.
+/// The shapes of a picture: its marks, a message of bytes that nobody sent, where an epoch begins, and where a replica
+/// leaves.
 #[derive(Clone, Copy, Debug, PartialEq, Eq)]
 pub enum Shape {
     Mark(Mark),
     Raw,
+    Epoch,
+    Leaving,
 }
 
 /// Puts the opening of a picture, its styles and the heads of its arrows.
@@ -127,7 +130,18 @@ pub fn put_shape(x: u32, y: u32, shape: Shape, out: &mut String) -> Result<(), N
             out,
             "<path d=\"M{x},{y}m-6,0l6,-6l6,6l-6,6z\" fill=\"#8040a0\"/>\n"
         )?,
+        Shape::Epoch => put_rule(x, y.saturating_sub(7), y.saturating_add(7), out)?,
+        Shape::Leaving => write!(
+            out,
+            "<path d=\"M{x},{y}m-9,0h9m0,-5v10\" stroke=\"#678\" stroke-width=\"1.5\" fill=\"none\"/>\n"
+        )?,
     }
+    Ok(())
+}
+
+/// Puts a rule where an epoch begins.
+pub fn put_rule(x: u32, top: u32, bottom: u32, out: &mut String) -> Result<(), NoMemory> {
+    write!(out, "<path d=\"M{x},{top}V{bottom}\" stroke=\"#88a\"/>\n")?;
     Ok(())
 }
 

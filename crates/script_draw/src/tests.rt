@@ -53,6 +53,40 @@ fn early_repeated_dropped_and_raw_messages_differ(rt: HostRuntime) -> Result<(),
 }
 
 #[test]
+fn lines_begin_and_end_with_epochs(rt: HostRuntime) -> Result<(), Fail> {
+    shows(
+        &rt,
+        "store 2 4\ndo 0 counter:c inc 1\nmembers 3\nsettle\nmembers 3\nraw 2 0200030f0000000100000001000000000000000000016300000001\n",
+        &[
+            "class=\"r\">members 3</text>",
+            "class=\"r\">unsettled</text>",
+            "class=\"p\">epoch 1</text>",
+            "class=\"l\">replica 2</text>",
+            // Message 1 of member 0 in the epoch before is another.
+            "class=\"p\">raw</text>",
+            "the next epoch begins",
+        ],
+    )?;
+    shows(
+        &rt,
+        "store 2 4\nmembers 1\n",
+        &["class=\"p\">members 1</text>", "is no member any more"],
+    )
+}
+
+#[test]
+fn a_wait_is_of_its_epoch(rt: HostRuntime) -> Result<(), Fail> {
+    let script =
+        b"store 3 4\ndo 0 mvreg:r write a\ngive 1 0 1\ndo 1 mvreg:r write b\ngive 2 1 1\nsettle\nmembers 2\nmembers 3\ndo 1 mvreg:r write c\ngive 2 1 1\n";
+    let picture = picture(rt.alloc(), script).map_err(|_| Fail::from("no picture"))?;
+    assert!(rt; picture.contains("class=\"p\">epoch 2</text>"));
+    assert!(rt; picture.contains("#f0b850"));
+    assert_eq!(rt; picture.find("#f0b850"), picture.rfind("#f0b850"));
+    assert!(rt; picture.find(">replica 2<") != picture.rfind(">replica 2<"));
+    Ok(())
+}
+
+#[test]
 fn a_long_run_says_that_it_goes_on(rt: HostRuntime) -> Result<(), Fail> {
     let mut script = "store 1 1\n".to_string(rt.alloc())?;
     for _ in 0..MOST_MARKS {
@@ -76,6 +110,18 @@ fn a_table_has_the_numbers_after_each_line(rt: HostRuntime) -> Result<(), Fail> 
 line                                  reply                     seen 0     stable 0   seen 1     stable 1
 do 0 counter:c inc 1                  ok 1                      1 0        0 0        0 0        0 0
 give 1 0 1                            took 0:1                  1 0        0 0        1 0        1 0
+";
+    assert_eq!(rt; shown.as_str(), wanted);
+    Ok(())
+}
+
+#[test]
+fn a_table_has_columns_for_the_members_of_an_epoch(rt: HostRuntime) -> Result<(), Fail> {
+    let shown = table(rt.alloc(), b"store 1 4\nmembers 2\n").map_err(|_| Fail::from("no table"))?;
+    let wanted = "\
+line                                  reply                     seen 0     stable 0
+line                                  reply                     seen 0     stable 0   seen 1     stable 1
+members 2                             epoch 1                   0 0        0 0        0 0        0 0
 ";
     assert_eq!(rt; shown.as_str(), wanted);
     Ok(())
