@@ -55,18 +55,19 @@ impl<N: Num> Message<N> {
         (names.value(o, self.value.bytes(), self.value_hash ^ o.wrapping_mul(0x9e37_79b1)), obj)
     }
     #[inline(always)]
-    fn frame(&self, n: usize) -> Vec<u8> {
+    fn frame(&self, n: usize, epoch: u32) -> Vec<u8> {
         let named = match self.code {
             0 => 0,
             _ => 2 + self.key_len as usize + match self.argument() { Arg::Nil => 0, Arg::Amt => 4, Arg::Val => 2 + self.value.bytes().len() },
         };
         let mut frame = Vec::with_capacity(8 + 4 * n + named);
-        self.encode(&mut frame, n);
+        self.encode(&mut frame, n, epoch);
         frame
     }
     #[inline(always)]
-    fn encode(&self, out: &mut Vec<u8>, n: usize) {
-        out.extend_from_slice(&[2, self.origin, n as u8, self.code, 0, 0, 0, 0]);
+    fn encode(&self, out: &mut Vec<u8>, n: usize, epoch: u32) {
+        let [a, b, c, d] = epoch.to_be_bytes();
+        out.extend_from_slice(&[2, self.origin, n as u8, self.code, a, b, c, d]);
         for i in 0..n { out.extend_from_slice(&self.tag.at(i).to_be_bytes()); }
         if self.code == 0 { return; }
         out.extend_from_slice(&(self.key_len as u16).to_be_bytes());
@@ -84,10 +85,11 @@ impl<N: Num> Message<N> {
 }
 
 // ---------------------------------------------------------------- one replica
-/// A note of a journal, which is only written: a message that was sent, one that was accepted, and a step that took one, or
-/// found that it can't be true.
+/// A note of a journal, which is only written and copied: a message that was sent, one that was accepted, a step that took one,
+/// or found that it can't be true, and an epoch that began, with its members and which of them this is.
 #[allow(dead_code)]
-enum Note<N> { Sent(Message<N>), Kept(Message<N>), Took(u8, u32), Crook(u8, u32) }
+#[derive(Clone)]
+enum Note<N> { Sent(Message<N>), Kept(Message<N>), Took(u8, u32), Crook(u8, u32), Regroup(u32, u8, u8) }
 struct Member<N> {
     state: Replica<N>, names: Names, early: Vec<Option<Message<N>>>, outbox: VecDeque<Message<N>>, journal: Vec<Note<N>>,
 }
@@ -100,11 +102,15 @@ impl<N: Num> Member<N> {
     }
     fn send(&mut self, op: &RawOp, frames: &mut Vec<Vec<u8>>) -> u32 {
         let m = Message::of(self.state.me as u8, self.state.next_tag(), op);
-        frames.push(m.frame(self.state.n));
+        frames.push(m.frame(self.state.n, self.state.epoch));
         self.journal.push(Note::Sent(m.clone()));
         self.outbox.push_back(m.clone());
         self.deliver(&m);
         m.seq()
+    }
+    fn note_epoch(&mut self) {
+        let state = &self.state;
+        self.journal.push(Note::Regroup(state.epoch, state.n as u8, state.me as u8));
     }
     fn take(&mut self, m: &Message<N>, steps: &mut Steps) {
         let ok = self.state.sound(m.origin, &m.tag, m.code);
@@ -147,7 +153,7 @@ impl<N: Num> script::World for World<N> {
     fn give(&mut self, r: usize, k: usize, number: usize) -> Option<Got> {
         let frame = self.sent[k].get(number.wrapping_sub(1))?;
         if r == k || number <= self.members[r].state.counts.at(k) as usize { return Some(Got::Old); }
-        let (origin, tag, op) = decode::<N>(frame, self.members.len(), self.limit).ok().unwrap();
+        let (origin, tag, op) = decode::<N>(frame, self.members.len(), self.limit, self.members[r].state.epoch).ok().unwrap();
         Some(self.members[r].receive(&Message::of(origin, tag, &op), &mut self.steps))
     }
     /// What `r` has counted already would be refused as old, so it is passed over.
@@ -169,6 +175,22 @@ impl<N: Num> script::World for World<N> {
         let member = &mut self.members[r];
         let o = member.names.find(kind as u32, key, Names::hash(kind as u32, key)).ok();
         member.state.answer(o, kind, &member.names, out);
+    }
+    /// The journal of who is new is a copy of member 0's, and its own note.
+    fn regroup(&mut self, n: usize) {
+        self.members.truncate(n);
+        for member in &mut self.members {
+            member.state.regroup(n);
+            member.early.clear();
+            member.outbox.clear();
+        }
+        for me in self.members.len()..n {
+            let first = &self.members[0];
+            let (state, names, journal) = (first.state.newcomer(me), first.names.clone(), first.journal.clone());
+            self.members.push(Member { state, names, early: Vec::new(), outbox: VecDeque::new(), journal });
+        }
+        for member in &mut self.members { member.note_epoch(); }
+        self.sent = (0..n).map(|_| Vec::new()).collect();
     }
 }
 

@@ -77,6 +77,18 @@ impl<N: Num> script::World for World<N> {
         let o = self.names.find(kind as u32, key, Names::hash(kind as u32, key)).ok();
         self.members[r].state.answer(o, kind, &self.names, out);
     }
+    fn regroup(&mut self, n: usize) {
+        self.members.truncate(n);
+        for member in &mut self.members {
+            member.state.regroup(n);
+            member.early.clear();
+        }
+        for me in self.members.len()..n {
+            let state = self.members[0].state.newcomer(me);
+            self.members.push(Member { state, early: Vec::new() });
+        }
+        self.sent = (0..n).map(|_| Vec::new()).collect();
+    }
 }
 
 fn main() { script::main::<World<u16>, World<u32>>() }

@@ -130,6 +130,29 @@ def long_members():  # many messages of one member beyond 65535
     return ['store 2 64 1000000'] + [l for i in range(24000) for l in ([f'do 0 counter:k{i % 100} inc {i % 1000}'] * 4 + ['resend 1 0', 'beat 1', 'resend 0 1'])]
 
 
+def many_epochs(changes=2000):  # an epoch after each few operations; a fourth member comes now and then, and leaves again
+    R = random.Random(13)
+    s, n = ['store 3 4'], 3
+    for i in range(changes):
+        s += [f'do {R.randrange(n)} awset:s add v{R.randrange(16)}', f'do {R.randrange(n)} awset:s rmv v{R.randrange(16)}',
+              f'do {R.randrange(n)} counter:c inc {R.randrange(100)}', 'settle']
+        n = 4 if i % 250 == 249 else 3  # who comes gets a copy of a journal, which grows with what was done
+        s += [f'members {n}', f'ask {n - 1} awset:s']
+    return s + ['size 0', 'ask 0 counter:c']
+
+
+def change_with_items(values=60000, changes=10):  # two members settle many values of one set, and then their members change
+    s = ['store 2 64 65535']
+    for i in range(values):
+        s.append(f'do 0 awset:big add value-{i * 7919 % values:05d}')
+        if i % 64 == 63: s += ['resend 1 0', 'beat 1', 'resend 0 1']
+    s.append('settle')
+    for i in range(changes):
+        n = 3 - i % 2
+        s += [f'members {n}', f'size {n - 1}', f'do {n - 1} awset:big rmv value-{i:05d}', f'do 0 awset:big add new-{i}', f'do 1 counter:c inc {i}', 'settle']
+    return s + ['size 0', 'size 1', 'ask 1 counter:c']
+
+
 def comment(): return ['# ' + 'x' * 4000000, 'store 1 1']
 
 
@@ -155,4 +178,6 @@ WORKLOADS = {
     "j": ("one line of 4 MB", comment),
     "k": ("values of 4096 bytes, 4 MB", long_values),
     "l": ("96000 inc, limit 1000000", long_members),
+    "m1": ("2000 epochs of 3 members", many_epochs),
+    "m2": ("10 changes, 60000 settled values", change_with_items),
 }

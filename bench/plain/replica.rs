@@ -74,7 +74,7 @@ impl<N: Num> Msg<N> { #[inline(always)] pub fn seq(&self) -> u32 { self.tag.at(s
 #[derive(Clone, Copy, Default)]
 struct Slot { head: u32, ups: u16, downs: u16, on: bool, off: bool, listed: bool } // head is index + 1 of the log's chain
 impl Slot { #[inline(always)] fn idle(&self) -> bool { !self.on && !self.off && self.ups == 0 && self.downs == 0 } }
-#[derive(Default)]
+#[derive(Clone, Default)]
 struct Object { sum: i64, logged: i64, live: Vec<u32>, sorted: usize, dead: usize }
 #[derive(Clone, Copy)]
 struct Entry<N> { prev: u32, next: u32, up: u32, down: u32, item: u32, obj: u32, amount: u32, seq: N, origin: u8, code: u8 }
@@ -90,7 +90,7 @@ pub type Steps = Vec<(u8, u32, bool)>;
 /// The state of a replica. The messages themselves stay with each program: an early one stands in its pool, at a place that
 /// is known here.
 pub struct Replica<N> {
-    pub me: usize, pub n: usize, w: u32, z: u32, limit: u32,
+    pub me: usize, pub n: usize, pub epoch: u32, w: u32, z: u32, limit: u32,
     pub counts: Tag<N>, rows: [Tag<N>; 16], pub stable: Tag<N>, due: bool,
     window: Vec<std::collections::VecDeque<Unstable<N>>>, ops: [u32; 16], noops: [u32; 16],
     early: Vec<Early>, places: u32, free_places: Vec<u32>, heads: u16,
@@ -100,12 +100,26 @@ pub struct Replica<N> {
 impl<N: Num> Replica<N> {
     pub fn new(me: usize, n: usize, w: u32, limit: u32) -> Self {
         Replica {
-            me, n, w, z: 2 * (n as u32 - 1) * w + 1, limit, counts: Tag::zero(), rows: [Tag::zero(); 16], stable: Tag::zero(), due: false,
+            me, n, epoch: 0, w, z: 2 * (n as u32 - 1) * w + 1, limit, counts: Tag::zero(), rows: [Tag::zero(); 16], stable: Tag::zero(), due: false,
             window: (0..n).map(|_| Default::default()).collect(), ops: [0; 16], noops: [0; 16],
             early: (0..n).map(|_| Default::default()).collect(), places: 0, free_places: Vec::new(), heads: 0,
             log: Vec::new(), free_log: Vec::new(), first: NONE, last: NONE, logged: 0,
             slots: Vec::new(), objects: Vec::new(), items: 0, touched: Vec::new(),
         }
+    }
+
+    // --- epochs
+    /// Whether each operation is stable: then nothing is logged.
+    pub fn is_at_rest(&self) -> bool { self.ops.iter().all(|unstable| *unstable == 0) }
+    /// Begins the next epoch, of `n` members, with the items and nothing else of what it has.
+    pub fn regroup(&mut self, n: usize) {
+        let (slots, objects) = (std::mem::take(&mut self.slots), std::mem::take(&mut self.objects));
+        *self = Replica { epoch: self.epoch + 1, slots, objects, items: self.items, ..Replica::new(self.me, n, self.w, self.limit) };
+    }
+    /// A replica that begins as another member, with a copy of the items.
+    pub fn newcomer(&self, me: usize) -> Self {
+        let (slots, objects) = (self.slots.clone(), self.objects.clone());
+        Replica { epoch: self.epoch, slots, objects, items: self.items, ..Replica::new(me, self.n, self.w, self.limit) }
     }
 
     // --- the log and the settled items

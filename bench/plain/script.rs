@@ -9,6 +9,8 @@ use std::os::fd::AsFd;
 /// The bytes of the longest script, and of a piece of it that is read at once.
 const CAP: usize = 4_194_304;
 const BUF: usize = 65_536;
+/// The last epoch.
+const LAST: u32 = 65_535;
 
 // ---------------------------------------------------------------- the world of a script
 /// The members of a store and the messages that they sent.
@@ -27,6 +29,8 @@ pub trait World {
     /// Offers to `r` a message that came as a frame.
     fn receive(&mut self, r: usize, origin: u8, tag: Tag<Self::N>, op: &RawOp) -> Got;
     fn answer(&mut self, r: usize, kind: Kind, key: &[u8], out: &mut Vec<u8>);
+    /// Begins the next epoch, of `n` members, in which nothing was sent: who is new begins with a copy of what member 0 has.
+    fn regroup(&mut self, n: usize);
 }
 
 /// A world whose script runs.
@@ -57,11 +61,16 @@ impl<W: World> Stage<W> {
         if line.len() > LINE { return Err(1); }
         let (lo, hi) = match w[0] {
             b"do" => (4, 5), b"ask" | b"resend" | b"raw" => (3, 3), b"give" => (4, 4),
-            b"beat" | b"log" | b"size" | b"stable" | b"seen" | b"noops" | b"lags" => (2, 2), b"settle" => (1, 1), _ => return Err(2),
+            b"beat" | b"log" | b"size" | b"stable" | b"seen" | b"noops" | b"lags" => (2, 2), b"members" => (2, 2), b"settle" => (1, 1), _ => return Err(2),
         };
         if w.len() < lo || w.len() > hi { return Err(3); }
         if w[0] == b"settle" {
             out.extend_from_slice(if self.settle() { b"settled\n" } else { b"unsettled\n" });
+            return Ok(());
+        }
+        if w[0] == b"members" {
+            let n = number(w[1]).filter(|n| (1..=16).contains(n)).ok_or(8u8)?;
+            self.regroup(n as usize, out);
             return Ok(());
         }
         let n = self.n;
@@ -124,7 +133,7 @@ impl<W: World> Stage<W> {
     #[inline(always)]
     fn raw(&mut self, r: usize, digits: &[u8], bytes: &mut Vec<u8>, out: &mut Vec<u8>) -> Result<(), u8> {
         if !unhex(digits, bytes) { return Err(7); }
-        match decode::<W::N>(bytes, self.n, self.limit) {
+        match decode::<W::N>(bytes, self.n, self.limit, self.world.replica(0).epoch) {
             Err(f) => { out.extend_from_slice(b"bad frame "); put(out, f as u64); out.push(b'\n') }
             Ok((origin, tag, op)) => {
                 let g = match self.world.replica(r).refuse(origin, &tag) {
@@ -154,8 +163,23 @@ impl<W: World> Stage<W> {
             }
             if !moved { break; }
         }
+        self.is_settled()
+    }
+    /// Whether all replicas have delivered as many messages of each member.
+    fn is_settled(&self) -> bool {
+        let (w, n) = (&self.world, self.n);
         let first = w.replica(0).counts;
         (1..n).all(|r| w.replica(r).counts.0[..n] == first.0[..n])
+    }
+    fn regroup(&mut self, n: usize, out: &mut Vec<u8>) {
+        let epoch = self.world.replica(0).epoch;
+        if epoch == LAST { return out.extend_from_slice(b"last\n"); }
+        if !self.is_settled() || !(0..self.n).all(|r| self.world.replica(r).is_at_rest()) { return out.extend_from_slice(b"unsettled\n"); }
+        self.world.regroup(n);
+        self.n = n;
+        out.extend_from_slice(b"epoch ");
+        put(out, epoch as u64 + 1);
+        out.push(b'\n');
     }
     fn put_took(&mut self, out: &mut Vec<u8>) {
         out.extend_from_slice(b"took");

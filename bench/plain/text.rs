@@ -25,7 +25,9 @@ pub const CODES: [(Kind, &str, Arg); 19] = [
 
 // ---------------------------------------------------------------- names
 /// Objects and their values are interned once; items are found by the id.
+#[derive(Clone)]
 struct Name { prefix: u64, off: u32, hash: u32, parent: u32, obj: u32, len: u16 }
+#[derive(Clone)]
 pub struct Names { bytes: Vec<u8>, names: Vec<Name>, table: Vec<u32>, objects: u32 }
 impl Names {
     pub fn new() -> Names { Names { bytes: Vec::new(), names: Vec::new(), table: vec![NONE; 1024], objects: 0 } }
@@ -164,13 +166,13 @@ pub fn operation<'a>(w: &[&'a [u8]]) -> Result<RawOp<'a>, u8> {
     }
     Ok(op)
 }
-/// Frames of both versions, for the only epoch, 0.
-pub fn decode<'a, N: Num>(b: &'a [u8], n: usize, limit: u32) -> Result<(u8, Tag<N>, RawOp<'a>), u8> {
+/// Frames of both versions. Version 1 is of epoch 0 alone.
+pub fn decode<'a, N: Num>(b: &'a [u8], n: usize, limit: u32, epoch: u32) -> Result<(u8, Tag<N>, RawOp<'a>), u8> {
     let wide = b.first() == Some(&2);
     let head = if wide { 8 } else { 4 };
     if b.len() < head + 4 * n { return Err(1); }
-    if b[0] != 1 && !wide { return Err(2); }
-    if wide && b[4..8] != [0; 4] { return Err(10); }
+    if !wide && (b[0] != 1 || epoch != 0) { return Err(2); }
+    if wide && b[4..8] != epoch.to_be_bytes() { return Err(10); }
     if b[2] as usize != n { return Err(3); }
     if b[1] as usize >= n { return Err(4); }
     if b[3] > 19 { return Err(5); }
