@@ -1,0 +1,15 @@
+pub mod Rolls
+pub mod Closing
+pub mod Ended
+pub mod Meetings
+pub mod Settled
+pub mod ClosingAll
+pub mod Fronts
+pub mod Clients
+pub mod Making
+pub mod Placing
+pub mod Texting
+pub mod Posts
+pub mod Joins
+pub mod OwnNotes
+pub mod Couriers

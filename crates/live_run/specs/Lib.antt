@@ -1,0 +1,15 @@
+pub mod Limits
+pub mod Inputs
+pub mod Texts
+pub mod Told
+pub mod Runs
+pub mod Mails
+pub mod Workers
+pub mod Made
+pub mod Worked
+pub mod Jobs
+pub mod Posting
+pub mod Couriers
+pub mod Joining
+pub mod Ended
+pub mod Meeting
