@@ -108,7 +108,7 @@ abbrev pub SettledLogsAreEmpty : Type 0
 SettledLogsAreEmpty = (world : PlainWorld) (r : ℕ) → IsHonest world → AreBelowLimit (world_settled world) → r < size_of world
     → IsTrue (is_all_stable (history_of (world_settled world) r).present) × (log_of (history_of (world_settled world) r) ≡ [])
 
--- so its members can then change
+-- so the store is then at rest, and its members can change but in the last epoch
 abbrev pub RegroupingIsPossible : Type 0
 RegroupingIsPossible = (world : PlainWorld) → IsHonest world → AreBelowLimit (world_settled world) → is_at_rest (world_settled world) ≡ true
 

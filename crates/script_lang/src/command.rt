@@ -29,7 +29,7 @@ pub enum Command {
     Raw { r: u8, bytes: ByteList },
     /// All members exchange what they have until nothing moves.
     Settle,
-    /// The members are changed to 0 to `n - 1`, where the store has settled: the next epoch begins.
+    /// The members are changed to 0 to `n - 1`, where the store is at rest: the next epoch begins.
     Members { n: u8 },
     /// The ids of member `r`'s log.
     Log { r: u8 },

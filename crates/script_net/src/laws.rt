@@ -3,8 +3,8 @@
 ghost use Rattle.script_net.specs.Laws.{CommandsAreRepliedTo, ScriptsKeepWorlds, MembersAreAsked, MembersStay, LogsAreBounded, BusyIsExact, EqualEventsAnswerAlike, OneLineMoreReplies, OneLineMoreLeaves, RefusedBytesChangeNothing, RefusedBytesGo};
 ghost use Rattle.script_net.specs.HonestLaws.{ScriptsAreHonest, TranscriptsAreFair};
 
-/// Behind a header each line of a script leaves a world of the header's store, whose logs are bounded. Its members are those
-/// that the last change of members asked for.
+/// Behind a header each line of a script leaves a world of the header's store, whose logs are bounded. A change of
+/// members that is replied to by an epoch leaves as many as it asks for, in that epoch; a line that asks for none leaves them.
 pub fn scripts_keep_worlds()
     ensures worlds { ScriptsKeepWorlds }
     ensures asked { MembersAreAsked }

@@ -1,4 +1,4 @@
--- What settling notes: messages that were offered, and steps; and no-ops.
+-- What offering notes: messages that were offered, and their steps.
 use Rattle.std.specs.Prelude.{◌≡◌, List, ◌++◌, map, All, Contains}
 use Rattle.op_base.specs.declared.message.Message.{Message}
 use Rattle.causal_model.specs.declared.note.Note.{Note}

@@ -34,7 +34,7 @@ impl World {
 
     /// Changes the members to the first `n`, 1 to 16, where the store is at rest: the next epoch begins. Each goes on where it
     /// was a member, and begins with what member 0 has else. Of what was sent before, nothing can be given any more. It costs
-    /// copies of what is settled, and for each new member one of member 0's journal. After `NoMemory` the world is as it was.
+    /// copies of what is settled, and for each new member one of member 0's journal. After `NoMemory` it shows what it showed.
     pub fn regroup(&mut self, alloc: Global, n: u8) -> Regroup
         requires some { 1 ≤ n }
         requires few { n ≤ 16 }

@@ -57,7 +57,7 @@ sends_update (Sent m) = carries_operation m.op
 sends_update note = false
 
 -- A member's journal has more notes behind its former ones: none ends an epoch or sends an update, and what they keep was sent.
--- Where it was sent isn't told.
+-- At which place it was sent isn't told.
 pub record HasMore (old new : List (List Note)) (r : ℕ) : Type 0 where
   pub more : List Note
   pub grows : journal_of new r ≡ journal_of old r ++ more

@@ -74,8 +74,7 @@ RawingKeepsWorld = (world : PlainWorld) (r : ℕ) (bytes : List ℕ) → IsWorld
 abbrev pub SettlingKeepsWorld : Type 0
 SettlingKeepsWorld = (world : PlainWorld) → IsWorld world → KeepsWorld world (world_settled world)
 
--- A change of members leaves a world of the same store: of so many members in the next epoch where it ends one, and as it is
--- else.
+-- a change of members leaves a world of the same store; where an epoch begins, it is the next, of so many members
 abbrev pub RegroupingKeepsStore : Type 0
 RegroupingKeepsStore = (world : PlainWorld) (n : ℕ) → IsWorld world → 1 ≤ n → n ≤ 16 → KeepsStore world (regroup_at n world).1
 
