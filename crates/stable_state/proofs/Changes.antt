@@ -1,10 +1,10 @@
 -- Items with one more, with another cell at a place, or without an item: their cells, order and marks.
-use Rattle.std.proofs.Common.{◌≡◌, ℕ, ◌+◌, ◌<◌, Bool, true, false, not, ◌||◌, IsTrue, List, [], ◌∷◌, ◌++◌, length, take, drop, get_or, set, pos, refl, sym, ap, subst, ◌∙◌, inl, inr, Option, Some, arith, add-one, if◌then◌else◌}
+use Rattle.std.proofs.Common.{◌≡◌, ℕ, ◌+◌, ◌<◌, Bool, true, false, not, ◌||◌, IsTrue, List, [], ◌∷◌, ◌++◌, length, take, drop, get_or, set, pos, refl, sym, ap, subst, ◌∙◌, inl, inr, Option, Some, add-one, if◌then◌else◌}
 use Rattle.std.specs.List.{HoldsAt, slice_get}
 use Rattle.std.specs.Ordering.{int_eq}
 use Rattle.std.proofs.lemmas.Bool.{cases_Bool, cond-true, cond-false, cond_both, or_parts, not-false}
 use Rattle.std.proofs.lemmas.Bool.Decides.{Decides-int_eq}
-use Rattle.std.proofs.lemmas.List.{drop_all, drop_more, get_or_default, length-take, set_split, take-append-drop, take-take, take_more}
+use Rattle.std.proofs.lemmas.List.{drop_more, get_or_default, set_split, take-append-drop}
 use Rattle.std.proofs.lemmas.Option.{get_or_from_slice_get, slice_get_within}
 use Rattle.std.proofs.lemmas.List.Elements.{All-append, All-cons, All-drop, All-nil, All-take}
 use Rattle.op_base.specs.declared.name.ObjectId.{ObjectId}
@@ -67,12 +67,6 @@ pub filled_put : (items : List Item) (place : ℕ) (item : Item) → AreFilled i
 filled_put items place item each = cond_both (is_filled item.cell) (put_at place item items) items AreFilled
     (λ t. All-append Filled (take place items) (item ∷ drop place items) (All-take Filled place items each) (All-cons Filled item (drop place items) t (All-drop Filled place items each)))
     (λ _. each)
-
--- items in front, and the next one put behind them
-pub put_next : (items : List Item) (place : ℕ) (item : Item) → place < length items → get_or items place item ≡ item → put_at place item (take place items) ≡ take (place + 1) items
-put_next items place item within at =
-    (λ i. take-take place place items (omega arith) i ++ item ∷ drop_all place (take place items) (omega (arith, length-take place items)) i)
-    ∙ ap (λ (x : Item). take place items ++ x ∷ []) (sym at) ∙ sym (take_more items place item within)
 
 -- ---- another cell at a place
 

@@ -2,7 +2,7 @@
 use Rattle.std.proofs.Common.{◌≡◌, ℕ, zero, suc, ◌+◌, ◌-◌, ◌<◌, ◌≤◌, List, [], ◌∷◌, ◌++◌, length, get_or, take, drop, set, All, refl, ap, sym, ◌∙◌, subst, arith, add-one, append_assoc, length-drop, length-take-le, length-set}
 use Rattle.std.specs.List.{concat, insert, remove, remove_range}
 use Rattle.std.proofs.Math.Seq.{take-append-add, drop-append-add}
-use Rattle.std.proofs.lemmas.List.{set_split, set-get_or, drop-append-le, take-append-le, take-append-drop, take-set, drop-set-lt, get_or-set_same}
+use Rattle.std.proofs.lemmas.List.{set_split, set-get_or, drop-append-le, take-append-le, take-append-drop, take_all, take-set, drop-set-lt, get_or-set_same}
 use Rattle.std.proofs.lemmas.List.Edits.{length-insert, insert-append_left, insert-append_right}
 use Rattle.std.proofs.lemmas.List.Folds.{concat-append}
 use Rattle.std.proofs.lemmas.List.Elements.{All-append, All-cons, All-nil, All-take, All-drop}
@@ -91,6 +91,24 @@ module _ (parts : List (List ℕ)) (k : ℕ) (l : k < length parts) where
       ∙ sym (append_assoc before (take from part) (drop to part ++ behind))
       ∙ sym (ap (λ xs. xs ++ drop (start + to) (before ++ (part ++ behind))) front ∙ ap (λ xs. (before ++ take from part) ++ xs) back)
       ∙ ap (λ xs. remove_range xs (start + from) (start + to)) (sym concat_is)
+
+  pub slots_run : (first : ℕ) → first ≤ length (get_or parts k [])
+      → take (length (concat (take k parts)) + length (get_or parts k [])) (concat parts) ≡ take (length (concat (take k parts)) + first) (concat parts) ++ drop first (get_or parts k [])
+  slots_run first within =
+      front (length part) (omega arith)
+      ∙ ap (λ xs. before ++ xs) (take_all (length part) part (omega arith) ∙ sym (take-append-drop first part))
+      ∙ sym (append_assoc before (take first part) (drop first part)) ∙ ap (λ xs. xs ++ drop first part) (sym (front first within)) where
+        before : List ℕ
+        before = concat (take k parts)
+
+        part : List ℕ
+        part = get_or parts k []
+
+        behind : List ℕ
+        behind = concat (drop (suc k) parts)
+
+        front : (n : ℕ) → n ≤ length part → take (length before + n) (concat parts) ≡ before ++ take n part
+        front n le = ap (take (length before + n)) concat_is ∙ take-append-add before (part ++ behind) n ∙ ap (λ xs. before ++ xs) (take-append-le n part behind le)
 
   pub slots_split : (n : ℕ) → concat (take k parts ++ take n (get_or parts k []) ∷ drop n (get_or parts k []) ∷ drop (k + 1) parts) ≡ concat parts
   slots_split n =

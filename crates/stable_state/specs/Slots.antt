@@ -24,3 +24,9 @@ pub record IsOrdered (slots : Slab Item) (order : List ℕ) : Type 0 where
   pub fits : slab_len slots ≤ slots.capacity
   pub rise : Rise (items_in slots order)
   pub filled : All (λ item. IsTrue (is_filled item.cell)) (items_in slots order)
+
+-- the items in the slots of an order stand in all slots of another, in the same order
+pub record AreCopied (from : Slab Item) (order : List ℕ) (into : Slab Item) (copied : List ℕ) : Type 0 where
+  pub items : items_in into copied ≡ items_in from order
+  pub held : All (λ slot. ContainsKey into slot) copied
+  pub counted : slab_len into ≡ length copied

@@ -200,15 +200,19 @@ impl Chunks {
         put_in(&mut self.lists, chunk + 1, upper);
     }
 
-    /// Takes a free chunk into use where none is.
-    pub fn open(&mut self)
-        requires none { self.old.parts ≡ [] }
+    /// Takes a free chunk into use behind the others, with these slots.
+    pub fn append(&mut self, slots: &[usize])
         requires free { 1 ≤ self.old.free }
-        ensures parts { self.new.parts ≡ [] ∷ [] }
+        requires short { length slots.now ≤ 512 }
+        ensures parts { self.new.parts ≡ self.old.parts ++ slots.now ∷ [] }
         ensures free { self.new.free + 1 ≡ self.old.free }
+        ensures few { length self.new.parts + self.new.free ≤ 2 ^ 40 }
     {
-        self.lists.push_reserved(self.free.take_last());
-        self.ends.push_reserved(0);
+        let end = self.len() + slots.len();
+        let mut list = self.free.take_last();
+        fill(&mut list, slots);
+        self.lists.push_reserved(list);
+        self.ends.push_reserved(end);
     }
 
     /// Frees a chunk that is empty.
@@ -263,6 +267,18 @@ fn halve(list: &mut Vec<usize>, upper: &mut Vec<usize>) -> usize
     };
     list.truncate(HALF);
     moved
+}
+
+/// Puts slots into an empty list that has room for them.
+fn fill(list: &mut Vec<usize>, slots: &[usize])
+    requires empty { list.old.items ≡ [] }
+    requires room { length slots.now ≤ vec_capacity list.old }
+    ensures items { list.new.items ≡ slots.now }
+    ensures capacity { vec_capacity list.old ≤ vec_capacity list.new }
+{
+    let Ok(()) = list.extend_from_slice(slots) else {
+        unreachable!()
+    };
 }
 
 /// Raises each end from a place on by one.

@@ -122,12 +122,8 @@ impl Items {
     pub fn copy(&self, alloc: Global) -> Result<Items, NoMemory>
         ensures { IfOk result (λ copy. (shown copy).items ≡ (shown self.now).items) }
     {
-        let mut copy = Items::new(alloc);
-        copy.reserve(self.shelf.len())?;
-        for place in 0..self.shelf.len() {
-            copy.put(place, copy_of(self.shelf.at(place), alloc)?);
-        }
-        Ok(copy)
+        let shelf = self.shelf.copy(alloc)?;
+        Ok(Items { shelf })
     }
 
     /// Absorbs an entry that goes from the log: its mark is set, or its amount added. Where the cell has an off mark then, it
@@ -308,21 +304,6 @@ fn is_set(kind: Kind) -> bool
     ensures { result ≡ is_set kind }
 {
     matches!(kind, Kind::AwSet | Kind::RwSet)
-}
-
-/// An equal item. `NoMemory` leaves nothing behind.
-fn copy_of(item: &Item, alloc: Global) -> Result<Item, NoMemory>
-    ensures { IfOk result (λ copy. copy ≡ item.now) }
-{
-    let value = match &item.value {
-        Some(value) => Some(value.copy(alloc)?),
-        None => None,
-    };
-    Ok(Item {
-        object: item.object.copy(alloc)?,
-        value,
-        cell: item.cell,
-    })
 }
 
 /// Whether a remove wins in a kind.

@@ -1,6 +1,6 @@
 //! A list of slots in chunks, so that putting one in or taking some out moves no more than a chunk.
 
-ghost use Rattle.std.specs.Prelude.{◌≡◌, ℕ, ◌+◌, ◌-◌, ◌^◌, ◌<◌, ◌≤◌, Bool, true, false, [], length, IsOk, OnOk, take, slice_set, slice_index_or, All};
+ghost use Rattle.std.specs.Prelude.{◌≡◌, ℕ, ◌+◌, ◌-◌, ◌++◌, ◌^◌, ◌<◌, ◌≤◌, Bool, true, false, [], length, IsOk, OnOk, take, slice_set, slice_index_or, All};
 ghost use Rattle.std.specs.List.{concat, insert, remove_range};
 ghost use Rattle.std.specs.List.Sorted.{IsPartitionPoint, IsPartitionedBy};
 ghost use Rattle.std.specs.Fn.{ComputesKey};
@@ -121,6 +121,31 @@ impl Order {
         }
     }
 
+    /// The slots from a place to the end of its chunk.
+    pub fn run(&self, place: usize) -> &[usize]
+        requires { place < length self.now.items }
+        ensures some { 0 < length result.now }
+        ensures short { length result.now < 512 }
+        ensures within { place + length result.now ≤ length self.now.items }
+        ensures run { take (place + length result.now) self.now.items ≡ take place self.now.items ++ result.now }
+    {
+        prove!(place < self.len());
+        let chunk = self.chunks.chunk_to(place + 1);
+        let part = self.chunks.part(chunk);
+        &part[place - self.chunks.start(chunk)..]
+    }
+
+    /// Puts slots behind the others, in a chunk of their own. It takes no memory.
+    pub fn append(&mut self, slots: &[usize])
+        requires spare { 512 ≤ self.old.spare }
+        requires some { 0 < length slots.now }
+        requires short { length slots.now < 512 }
+        ensures { self.new.items ≡ self.old.items ++ slots.now }
+    {
+        self.chunks.append(slots);
+        self.excess += slots.len().saturating_sub(HALF);
+    }
+
     /// Takes out the slots that stand at places from the first up to, and not with, the second.
     pub fn remove_range(&mut self, from: usize, to: usize)
         requires ordered { from ≤ to }
@@ -164,7 +189,7 @@ fn open_first(chunks: &mut Chunks)
     ensures free { chunks.new.free + (1 - length chunks.old.parts) ≡ chunks.old.free }
 {
     if chunks.count() == 0 {
-        chunks.open();
+        chunks.append(&[]);
     }
 }
 

@@ -2,18 +2,19 @@
 //!
 //! An index in order over records that stay where they are is a textbook rule.
 
-ghost use Rattle.std.specs.Prelude.{◌≡◌, ◌≢◌, ◌⊎◌, ℕ, ◌+◌, ◌-◌, ◌^◌, ◌<◌, ◌≤◌, true, false, [], ◌∷◌, ◌++◌, length, take, insert, slice_get};
+ghost use Rattle.std.specs.Prelude.{◌≡◌, ◌≢◌, ◌⊎◌, ℕ, ◌+◌, ◌-◌, ◌^◌, ◌<◌, ◌≤◌, true, false, [], ◌∷◌, ◌++◌, List, length, take, insert, slice_get};
 ghost use Rattle.std.specs.Prelude.{Some, IsTrue, IfOk, OnOk, OnSome, IfErr, IsOk, All, AllPairs, Contains, HoldsAt, option_copied};
 ghost use Rattle.std.specs.Prelude.{vec_len, vec_capacity};
 ghost use Rattle.std.specs.List.{between};
 ghost use Rattle.causal_model.specs.Items.{is_at, is_filled, Rise};
 ghost use Rattle.op_base.specs.declared.outcome.Item.{Item};
-ghost use Rattle.slab.specs.Slab.{get, ContainsKey, slab_len, with_value};
+ghost use Rattle.slab.specs.Slab.{get, ContainsKey, HasRoomFor, slab_len, with_value};
 ghost use Rattle.stable_state.specs.Places.{is_before, is_up_to, with_cell, RisesWithOneAt, IsGapFor, IsSpan, IsParted};
 ghost use Rattle.stable_state.specs.Shelf.{put_at, without_span};
-ghost use Rattle.stable_state.specs.Slots.{items_in};
+ghost use Rattle.stable_state.specs.Slots.{items_in, AreCopied};
 ghost use Rattle.stable_state.specs.Touched.{is_touched, StayTouched, KeepTouched, IsLast};
 
+use crate::chunks::CHUNK;
 use crate::order::Order;
 use op_base::{Cell, Item, NoMemory, ObjectId, Value, item_order};
 use slab::Slab;
@@ -22,7 +23,7 @@ use std::marker::Model;
 
 /// Settled items in their one order. Each stands in a slot that doesn't move, and a list of slots has the order.
 /// Contracts see the items, which of them were touched, and how many more can be put among them without memory. `reserve`
-/// alone takes memory.
+/// and `copy` alone take memory.
 #[derive(Drop)]
 pub struct Shelf {
     slots: Slab<Item>,
@@ -72,6 +73,20 @@ impl Shelf {
         self.order.reserve(k)?;
         self.touched.reserve(k)?;
         Ok(())
+    }
+
+    /// A shelf with equal items, none of them touched. `NoMemory` leaves nothing behind.
+    pub fn copy(&self, alloc: Global) -> Result<Shelf, NoMemory>
+        ensures { IfOk result (λ copy. copy.items ≡ self.now.items) }
+    {
+        let mut slots = Slab::with_capacity(alloc, self.order.len())?;
+        let order = copy_order(alloc, &self.slots, &self.order, &mut slots)?;
+        Ok(Shelf {
+            slots,
+            order,
+            touched: Vec::new(alloc),
+            hint: 0,
+        })
     }
 
     /// How many items there are.
@@ -293,6 +308,67 @@ fn place_behind(slots: &Slab<Item>, order: &Order, object: &ObjectId) -> usize
     order.partition_point(|slot| match slots.get(*slot) {
         Some(item) => item.object <= *object,
         None => false,
+    })
+}
+
+/// Copies the items in the slots of an order into slots that have none, and gives the order of these.
+fn copy_order(
+    alloc: Global,
+    from: &Slab<Item>,
+    order: &Order,
+    into: &mut Slab<Item>,
+) -> Result<Order, NoMemory>
+    requires held { All (ContainsKey from.now) order.now.items }
+    requires none { slab_len into.old ≡ 0 }
+    requires room { length order.now.items ≤ into.old.capacity }
+    ensures copied { IfOk result (λ copied. AreCopied from.now order.now.items into.new copied.items) }
+    ensures capacity { into.new.capacity ≡ into.old.capacity }
+{
+    let mut copied = Order::new(alloc);
+    let mut place = 0;
+    while place < order.len() {
+        let run = order.run(place);
+        let slots = copy_run(alloc, from, run, into)?;
+        copied.reserve(CHUNK)?;
+        copied.append(&slots);
+        place += run.len();
+    }
+    Ok(copied)
+}
+
+/// Copies the items in slots into other slots, and gives these in the same order.
+fn copy_run(
+    alloc: Global,
+    from: &Slab<Item>,
+    run: &[usize],
+    into: &mut Slab<Item>,
+) -> Result<Vec<usize>, NoMemory>
+    requires held { All (ContainsKey from.now) run.now }
+    requires room { HasRoomFor into.old (length run.now) }
+    ensures copied { IfOk result (λ slots. (order copied : List ℕ) → AreCopied from.now order into.old copied → AreCopied from.now (order ++ run.now) into.new (copied ++ slots.items)) }
+    ensures len { IfOk result (λ slots. length slots.items ≡ length run.now) }
+    ensures capacity { into.new.capacity ≡ into.old.capacity }
+{
+    let mut slots = Vec::with_capacity(alloc, run.len())?;
+    for slot in run {
+        let item = copy_of(&from[*slot], alloc)?;
+        slots.push_reserved(into.insert_reserved(item));
+    }
+    Ok(slots)
+}
+
+/// An equal item. `NoMemory` leaves nothing behind.
+fn copy_of(item: &Item, alloc: Global) -> Result<Item, NoMemory>
+    ensures { IfOk result (λ copy. copy ≡ item.now) }
+{
+    let value = match &item.value {
+        Some(value) => Some(value.copy(alloc)?),
+        None => None,
+    };
+    Ok(Item {
+        object: item.object.copy(alloc)?,
+        value,
+        cell: item.cell,
     })
 }
 
