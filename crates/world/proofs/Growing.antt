@@ -1,7 +1,8 @@
 -- Journals of a world's nodes grow by offers and no-ops.
-use Rattle.std.proofs.Common.{◌≡◌, ◌≢◌, ℕ, zero, suc, take, drop, take-append-drop, ◌<◌, ◌==◌, All, Contains, Bool, true, false, not, if◌then◌else◌, List, [], ◌∷◌, ◌++◌, length, map, slice_index_or, slice_set, inl, inr, Result, refl, sym, ap, subst, ◌∙◌, append_assoc, append-nil, arith}
+use Rattle.std.proofs.Common.{◌≡◌, ◌≢◌, ℕ, zero, suc, take, drop, take-append-drop, ◌<◌, ◌==◌, All, Contains, Bool, true, false, not, if◌then◌else◌, List, [], ◌∷◌, ◌++◌, length, map, slice_index_or, slice_set, inl, inr, Result, Ok, Err, refl, sym, ap, subst, ◌∙◌, append_assoc, append-nil, arith}
 use Rattle.std.specs.List.{filter}
 use Rattle.std.proofs.Math.Logic.{∥∥₁_map}
+use Rattle.std.proofs.Math.Seq.{map-set_same}
 use Rattle.std.proofs.lemmas.Bool.{cases_eq, eqb-true}
 use Rattle.std.proofs.lemmas.List.{length-map, length-set, get_or-map, map-set, get_or-set_same, get_or-set_other}
 use Rattle.std.proofs.lemmas.List.Elements.{All-contains, All-nil, All-cons, All-filter, All-append, All-weaker, Contains-append_right, filter_passes}
@@ -22,10 +23,10 @@ use Rattle.causal_model.specs.declared.note.Note.TheVariants.{Sent, Kept, Took, 
 use Rattle.world_model.specs.Journals.{journal_of, ends_epoch}
 use Rattle.world_model.specs.Journals.{KeepsSent, sends_update, HasMore, HaveGrown}
 use Rattle.world_model.proofs.Growing.{keeps_sent-longer, growing_goes_on}
-use Rattle.world.specs.Growing.{journals_of, IsOfOffer, NotesOffers}
+use Rattle.world.specs.Growing.{journals_of, settings_of, IsOfOffer, NotesOffers}
 use Rattle.world.specs.Answers.{HasGrown}
 use Rattle.world.specs.Shows.{NotedNode, state_of}
-use Rattle.world.specs.Steps.{OffersBetween, CanBeOffered}
+use Rattle.world.specs.Steps.{OffersBetween, OffersTo, CanBeOffered, SameNode}
 use Rattle.world.specs.declared.offering.Offers.{Offers}
 use Rattle.world.specs.declared.world.World.{World}
 use Rattle.world.proofs.Nodes.{StandsAt}
@@ -223,10 +224,37 @@ outbox_grows nodes left r k result low under can between =
       sends_none ms (Sent m) has = absurd has
       sends_none ms (Regroup epoch n me) has = refl
 
+-- ---- nodes
+
+pub same_settings : (node new : NotedNode) → SameNode node new → settings_of new ≡ settings_of node
+same_settings node new same = λ i. (same.w i, same.limit i)
+
+-- what one node has as the node before it, all have as before
+module _ {X : Type 0} (f : NotedNode → X) (alike : (node new : NotedNode) → SameNode node new → f new ≡ f node) where
+  pub node_keeps : (nodes : List NotedNode) (r : ℕ) (node left : NotedNode) → StandsAt nodes r node → SameNode node left → map f (slice_set nodes r left) ≡ map f nodes
+  node_keeps nodes r node left stands same = map-set_same f nodes r left node (alike node left same ∙ ap f stands.at)
+
+  pub outbox_keeps : (nodes left : List NotedNode) (r k : ℕ) (result : Result Offers NoMemory) → r < length nodes → k < length nodes → OffersBetween nodes r k result left → map f left ≡ map f nodes
+  outbox_keeps nodes left r k result low under between =
+      elim (slice_get_cases nodes r).1 [
+        | inl here ↦ elim (slice_get_cases nodes k).1 [
+          | inl there ↦ ap (map f) between.are ∙ node_keeps nodes r here.0 between.new (record { low = low; at = sym here.3 }) (same here.0 between.new there.0.inner.outbox.messages result (between.each here.0 there.0 here.2 there.2))
+          | inr past ↦ absurd (omega (arith, past.0, under))
+        ]
+        | inr past ↦ absurd (omega (arith, past.0, low))
+      ] where
+        same : (node new : NotedNode) (ms : List Message) (result : Result Offers NoMemory) → OffersTo node ms result new → SameNode node new
+        same node new ms (Ok made) offers = offers.0
+        same node new ms (Err e) offers = offers.0
+
 -- ---- worlds
 
 pub has_grown_none : (world : World) → HasGrown world world
-has_grown_none world = none_has_grown (journals_of world.nodes.items)
+has_grown_none world = record { journals = none_has_grown (journals_of world.nodes.items); firsts = refl; settings = refl }
 
 pub has_grown_twice : (a b c : World) → HasGrown a b → HasGrown b c → HasGrown a c
-has_grown_twice a b c first later = growing_goes_on (journals_of a.nodes.items) (journals_of b.nodes.items) (journals_of c.nodes.items) first later
+has_grown_twice a b c first later = record {
+  journals = growing_goes_on (journals_of a.nodes.items) (journals_of b.nodes.items) (journals_of c.nodes.items) first.journals later.journals;
+  firsts = later.firsts ∙ first.firsts;
+  settings = later.settings ∙ first.settings;
+}

@@ -1,5 +1,5 @@
 -- What offering notes: messages that were offered, and their steps.
-use Rattle.std.specs.Prelude.{◌≡◌, List, ◌++◌, map, All, Contains}
+use Rattle.std.specs.Prelude.{◌≡◌, ℕ, List, ◌++◌, map, All, Contains}
 use Rattle.op_base.specs.declared.message.Message.{Message}
 use Rattle.causal_model.specs.declared.note.Note.{Note}
 use Rattle.causal_model.specs.declared.note.Note.TheVariants.{Sent, Kept, Took, Crook, Regroup}
@@ -8,6 +8,10 @@ use Rattle.world.specs.Shows.{NotedNode}
 -- the journals of nodes, in their order
 abbrev pub journals_of : List NotedNode → List (List Note)
 journals_of nodes = map (λ node. node.journal.notes) nodes
+
+-- the window and the limit of a node's store
+abbrev pub settings_of : NotedNode → ℕ × ℕ
+settings_of node = (node.inner.w, node.inner.limit)
 
 -- a note keeps one of messages, or is of a step
 abbrev pub IsOfOffer : List Message → Note → Type 0

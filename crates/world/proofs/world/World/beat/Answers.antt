@@ -9,11 +9,12 @@ use Rattle.world_model.specs.World.{beat_at}
 use Rattle.honest_worlds.proofs.Beats.{no_beat_is_held}
 use Rattle.honest_worlds.proofs.Commands.{commands_keep_honest}
 use Rattle.world.specs.Answers.{ShowsPlain}
+use Rattle.world.specs.Growing.{settings_of}
 use Rattle.world.proofs.Changes.{rows_within}
 use Rattle.world.proofs.Follow.{some_is_left, follows_keeps, follows_answers}
-use Rattle.world.proofs.Nodes.{member_shown}
+use Rattle.world.proofs.Nodes.{StandsAt, member_shown}
 use Rattle.world.proofs.Replies.{replies_beat}
-use Rattle.world.proofs.Growing.{beating_grows}
+use Rattle.world.proofs.Growing.{beating_grows, node_keeps, same_settings}
 use Rattle.world.proofs.world.World.beat.Goals as goal
 
 pub index_mut-frames-requires : goal.index_mut-frames-requires
@@ -47,4 +48,13 @@ returns-clause-free c =
 
 pub returns-clause-grown : goal.returns-clause-grown
 returns-clause-grown c =
-    beating_grows c.args.self.now.nodes.items c.args.r c.index_mut-node.result.now (record { low = c.requires; at = c.index_mut-node.ensures.value }) c.send_noop.new.node c.send_noop.result c.send_noop.ensures.answer
+    let nodes = c.args.self.now.nodes.items in
+    let node = c.index_mut-node.result.now in
+    let left = c.send_noop.new.node in
+    let same = c.send_noop.ensures.same in
+    let stands : StandsAt nodes c.args.r node = record { low = c.requires; at = c.index_mut-node.ensures.value } in
+    record {
+      journals = beating_grows nodes c.args.r node stands left c.send_noop.result c.send_noop.ensures.answer;
+      firsts = node_keeps (λ x. x.first) (λ a b e. e.first) nodes c.args.r node left stands same;
+      settings = node_keeps settings_of same_settings nodes c.args.r node left stands same;
+    }

@@ -3,10 +3,11 @@ use Rattle.std.specs.Vec.{with_items}
 use Rattle.std.proofs.lemmas.List.{with_items_is}
 use Rattle.std.proofs.Math.Logic.{∥∥₁_map}
 use Rattle.world_model.specs.Offering.{Offered}
+use Rattle.world.specs.Growing.{settings_of}
 use Rattle.world.specs.Shows.{NotedNode, Shows}
 use Rattle.world.specs.Steps.{OffersBetween, CanBeOffered}
 use Rattle.world.proofs.Outboxes.{can_be_offered, own_outbox, own_resent, outbox_offers, offers_made, offers_world, offers_some, offers_leave}
-use Rattle.world.proofs.Growing.{outbox_grows}
+use Rattle.world.proofs.Growing.{outbox_grows, outbox_keeps, same_settings}
 use Rattle.world.proofs.world.World.offer_outbox.Goals as goal
 
 pub returns-then-r-k-clause-made : goal.returns-then-r-k-clause-made
@@ -49,8 +50,16 @@ returns-clause-some c plain shows =
 
 pub returns-clause-grown : goal.returns-clause-grown
 returns-clause-grown c =
-    let nodes = c.args.self.now.nodes.items in
-    let between = subst (λ (l : List NotedNode). OffersBetween l c.args.r c.args.k c.offer_between.result c.offer_between.new.nodes) c.deref_mut.ensures.value c.offer_between.ensures.offered in
-    outbox_grows nodes (with_items c.args.self.now.nodes c.offer_between.new.nodes).items c.args.r c.args.k c.offer_between.result c.requires.to c.requires.of
-    (∥∥₁_map c.args.self.now.shows (λ x. can_be_offered nodes (map (λ row. row.items) c.args.self.now.sent.items) x.0 x.1 c.args.r c.args.k c.requires.to c.requires.of))
-    (subst (λ (l : List NotedNode). OffersBetween nodes c.args.r c.args.k c.offer_between.result l) (sym (with_items_is c.args.self.now.nodes c.offer_between.new.nodes (c.offer_between.auto.nodes ∙ c.deref_mut.ensures.len))) between)
+    let world = c.args.self.now in
+    let nodes = world.nodes.items in
+    let r = c.args.r in
+    let k = c.args.k in
+    let result = c.offer_between.result in
+    let left = (with_items world.nodes c.offer_between.new.nodes).items in
+    let there = subst (λ (l : List NotedNode). OffersBetween l r k result c.offer_between.new.nodes) c.deref_mut.ensures.value c.offer_between.ensures.offered in
+    let between = subst (λ (l : List NotedNode). OffersBetween nodes r k result l) (sym (with_items_is world.nodes c.offer_between.new.nodes (c.offer_between.auto.nodes ∙ c.deref_mut.ensures.len))) there in
+    record {
+      journals = outbox_grows nodes left r k result c.requires.to c.requires.of (∥∥₁_map world.shows (λ x. can_be_offered nodes (map (λ row. row.items) world.sent.items) x.0 x.1 r k c.requires.to c.requires.of)) between;
+      firsts = outbox_keeps (λ x. x.first) (λ a b e. e.first) nodes left r k result c.requires.to c.requires.of between;
+      settings = outbox_keeps settings_of same_settings nodes left r k result c.requires.to c.requires.of between;
+    }
