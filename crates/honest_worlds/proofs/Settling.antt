@@ -1,7 +1,7 @@
 -- Settling brings every message of an honest world everywhere.
 use Rattle.std.proofs.Common.{◌≡◌, ℕ, zero, suc, ◌+◌, ◌<◌, ◌≤◌, Bool, true, false, not, Contains, get_or, refl, sym, ap, subst, ◌∙◌, if◌then◌else◌, arith}
 use Rattle.std.specs.List.{filter}
-use Rattle.std.proofs.lemmas.Bool.{and_from, both_ways, not-true, not_from_false, false_from_ne_true}
+use Rattle.std.proofs.lemmas.Bool.{and_from, both_ways, not-true, not_from_false, false_from_ne_true, false≢true}
 use Rattle.std.proofs.lemmas.Grind.{same_number_lists}
 use Rattle.std.proofs.lemmas.List.Elements.{All-from_get_or, All-contains, All-contains_itself, All-filter, filter_passes}
 use Rattle.std.proofs.lemmas.List.Sums.{list_all-from_AllPass}
@@ -14,10 +14,12 @@ use Rattle.causal_model.specs.Stability.{stable_vector, is_stable, carries_opera
 use Rattle.causal_model.proofs.Counts.{length-counts, entry-counts}
 use Rattle.causal_model.proofs.Limits.{numbers_are_counted}
 use Rattle.causal_model.proofs.Regrouping.{regroup_keeps_items}
+use Rattle.world_model.specs.Regrouping.{is_at_rest}
 use Rattle.world_model.specs.Settling.{round_of, rounds_within, most_rounds, world_settled, is_quiescent}
 use Rattle.world_model.specs.World.{PlainWorld, size_of, replica_of}
 use Rattle.world_model.specs.Worlds.{KeepsWorld}
 use Rattle.world_model.specs.Honest.{delivered_by, history_of, IsHonest, KeepsHonest}
+use Rattle.world_model.proofs.Regrouping.{changes_are_refused}
 use Rattle.world_model.proofs.Rounds.{total, most_delivered, total_is_bounded, less_is_left}
 use Rattle.world_model.proofs.Shown.{settled_is_equal_counts}
 use Rattle.world_model.proofs.Worlds.{world_keeps_itself, kept_twice}
@@ -128,12 +130,17 @@ settled_is_honest world honest =
 
 -- ---- the end of an epoch
 
-pub regrouping_is_possible : RegroupingIsPossible
-regrouping_is_possible world honest below =
+pub settled_is_at_rest : (world : PlainWorld) → IsHonest world → AreBelowLimit (world_settled world) → is_at_rest (world_settled world) ≡ true
+settled_is_at_rest world honest below =
     let after = world_settled world in
     let s = settles world honest in
     let kept = settled_is_honest world honest in
     and_from (is_quiescent after) _ (settling_settles world honest).1 (list_all-from_AllPass (λ g. is_all_stable g.history.present) after.replicas (All-from_get_or (λ g. is_all_stable g.history.present ≡ true) after.replicas (start 0 0) (λ r l. settled_is_stable world r honest below (omega (arith, l, kept.1.size)))))
+
+pub regrouping_is_possible : RegroupingIsPossible
+regrouping_is_possible world n honest below unsettled =
+    let refused = (changes_are_refused (world_settled world) n).1.0 unsettled in
+    false≢true (sym refused.1 ∙ settled_is_at_rest world honest below)
 
 -- ---- equal counts
 

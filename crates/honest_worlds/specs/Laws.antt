@@ -20,10 +20,11 @@ use Rattle.world_model.specs.EventOrder.{IsEvent, IsSentEvent, EventOrder}
 use Rattle.world_model.specs.Honest.{IsSentMessage, history_of, delivered_by, IsHonest, KeepsHonest}
 use Rattle.world_model.specs.Journals.{journal_of, world_of_journals, ends_epoch, is_crook, sent_in, AreJournals}
 use Rattle.world_model.specs.Offering.{offered_between}
-use Rattle.world_model.specs.Regrouping.{is_at_rest, regroup_at}
+use Rattle.world_model.specs.Regrouping.{regroup_at}
 use Rattle.world_model.specs.Settling.{is_delivery, round_of, world_settled, is_quiescent}
 use Rattle.world_model.specs.World.{PlainWorld, size_of, opening, beat_at, offer_at}
 use Rattle.world_model.specs.Worlds.{IsWorld, KeepsStore, own_of}
+use Rattle.world_model.specs.declared.outcome.Regroup.TheVariants as regroup
 
 -- ---- worlds stay honest
 
@@ -108,9 +109,9 @@ abbrev pub SettledLogsAreEmpty : Type 0
 SettledLogsAreEmpty = (world : PlainWorld) (r : ℕ) → IsHonest world → AreBelowLimit (world_settled world) → r < size_of world
     → IsTrue (is_all_stable (history_of (world_settled world) r).present) × (log_of (history_of (world_settled world) r) ≡ [])
 
--- so the store is then at rest, and its members can change but in the last epoch
+-- so a change of its members, however many they are to be, is then not refused as unsettled
 abbrev pub RegroupingIsPossible : Type 0
-RegroupingIsPossible = (world : PlainWorld) → IsHonest world → AreBelowLimit (world_settled world) → is_at_rest (world_settled world) ≡ true
+RegroupingIsPossible = (world : PlainWorld) (n : ℕ) → IsHonest world → AreBelowLimit (world_settled world) → (regroup_at n (world_settled world)).0 ≢ regroup.Unsettled
 
 -- a change of members keeps a world honest
 abbrev pub RegroupingKeepsHonest : Type 0

@@ -1,6 +1,6 @@
 -- A change of members: it leaves the world as it is, or a world of the next epoch, in which each replica shows what it had.
-use Rattle.std.proofs.Common.{◌≡◌, ◌≢◌, ℕ, ◌+◌, ◌<◌, ◌≤◌, Bool, true, false, not, ◌==◌, nat_lt, [], map, length, refl, sym, ap, subst, ◌∙◌, inl, inr, if◌then◌else◌, arith}
-use Rattle.std.proofs.lemmas.Bool.{and_parts, cases_lt, cond-true, cond-false, lt-ltb, le-ltb, eqb-false, false≢true}
+use Rattle.std.proofs.Common.{◌≡◌, ◌≢◌, ◌↔◌, ℕ, ◌+◌, ◌<◌, ◌≤◌, Bool, true, false, not, ◌==◌, nat_lt, [], map, length, refl, sym, ap, subst, ◌∙◌, inl, inr, if◌then◌else◌, arith}
+use Rattle.std.proofs.lemmas.Bool.{and_parts, cases_lt, cond-true, cond-false, lt-ltb, le-ltb, eqb-true, eqb-false, false≢true}
 use Rattle.std.proofs.lemmas.List.{length_push}
 use Rattle.std.proofs.lemmas.List.FromFn.{length-map-range_with_len, get_or-map-range_with_len}
 use Rattle.std.proofs.lemmas.List.Sums.{AllPass-from_list_all}
@@ -14,7 +14,7 @@ use Rattle.causal_model.specs.State.{State, start}
 use Rattle.causal_model.proofs.Histories.{IsLimited-from_test}
 use Rattle.causal_model.proofs.Regrouping.{regroup_keeps_events, regroup_keeps_items}
 use Rattle.causal_model.proofs.States.{regroup_keeps_state}
-use Rattle.world_model.specs.Laws.{RegroupingKeepsStore, NextEpochBegins, NextEpochShowsTheSame}
+use Rattle.world_model.specs.Laws.{RegroupingKeepsStore, NextEpochBegins, NextEpochShowsTheSame, RefusedChangesNothing, ChangesAreRefused}
 use Rattle.world_model.specs.Regrouping.{last_epoch, is_at_rest, next_replica, next_world, regroup_at, is_regrouped}
 use Rattle.world_model.specs.Settling.{is_quiescent}
 use Rattle.world_model.specs.Showing.{answer_at, items_at, log_at}
@@ -134,3 +134,17 @@ next_epoch_shows_the_same world n epoch r object is some few l = stays_or_begins
     → (answer_at made.1 r object ≡ answer_at world (comes_from world r) object) × (items_at made.1 r ≡ items_at world (comes_from world r)) × (log_at made.1 r ≡ []))
     (λ answer none e. absurd (none_begins epoch answer none e))
     (λ more rests e. next_shows n world is few more rests r l object)
+
+pub refused_changes_nothing : RefusedChangesNothing
+refused_changes_nothing world n = stays_or_begins n world (λ made. is_regrouped made.0 ≡ false → made.1 ≡ world) (λ answer none e. refl) (λ more rests e. absurd (false≢true (sym e)))
+
+pub changes_are_refused : ChangesAreRefused
+changes_are_refused world n = by (epoch_in world == last_epoch) (is_at_rest world) refl refl where
+  Refused : Regroup × PlainWorld → Type 0
+  Refused made = ((made.0 ≡ regroup.Last) ↔ (epoch_in world ≡ last_epoch)) × ((made.0 ≡ regroup.Unsettled) ↔ ((epoch_in world ≢ last_epoch) × (is_at_rest world ≡ false)))
+
+  by : (last rests : Bool) → (epoch_in world == last_epoch) ≡ last → is_at_rest world ≡ rests
+      → Refused (if last then (regroup.Last, world) else if not rests then (regroup.Unsettled, world) else (regroup.Regrouped (epoch_in world + 1), next_world n world))
+  by true rests e f = let is = eqb-true (epoch_in world) last_epoch e in ((λ _. is, λ _. refl), (λ x. cc, λ both. absurd (both.0 is)))
+  by false true e f = let isnt = eqb-false (epoch_in world) last_epoch e in ((λ x. cc, λ is. absurd (isnt is)), (λ x. cc, λ both. absurd (false≢true (sym both.1 ∙ f))))
+  by false false e f = let isnt = eqb-false (epoch_in world) last_epoch e in ((λ x. cc, λ is. absurd (isnt is)), (λ _. (isnt, f), λ _. refl))

@@ -13,7 +13,7 @@ use Rattle.world_model.specs.Journals.{journal_of, AreJournals, HaveGrown}
 use Rattle.world_model.specs.World.{PlainWorld, size_of, epoch_in, opening, replica_of, sent_by, local_at, beat_at, offer_at, sent_message, give_at}
 use Rattle.world_model.specs.Offering.{outbox_in, resend_at}
 use Rattle.world_model.specs.Raw.{raw_at}
-use Rattle.world_model.specs.Regrouping.{regroup_at}
+use Rattle.world_model.specs.Regrouping.{last_epoch, is_at_rest, regroup_at, is_regrouped}
 use Rattle.world_model.specs.Settling.{round_of, rounds_within, most_rounds, world_settled, is_quiescent}
 use Rattle.world_model.specs.Showing.{answer_at, log_at, items_at, seen_at, lags_at}
 use Rattle.world_model.specs.declared.outcome.Regroup.TheVariants as regroup
@@ -81,6 +81,15 @@ RegroupingKeepsStore = (world : PlainWorld) (n : ℕ) → IsWorld world → 1 �
 abbrev pub NextEpochBegins : Type 0
 NextEpochBegins = (world : PlainWorld) (n epoch : ℕ) → IsWorld world → 1 ≤ n → n ≤ 16 → (regroup_at n world).0 ≡ regroup.Regrouped epoch
     → (epoch ≡ epoch_in world + 1) × (size_of (regroup_at n world).1 ≡ n) × (epoch_in (regroup_at n world).1 ≡ epoch)
+
+-- where no epoch begins, the world stays
+abbrev pub RefusedChangesNothing : Type 0
+RefusedChangesNothing = (world : PlainWorld) (n : ℕ) → is_regrouped (regroup_at n world).0 ≡ false → (regroup_at n world).1 ≡ world
+
+-- none begins exactly in the last epoch, and where the store isn't at rest in any other
+abbrev pub ChangesAreRefused : Type 0
+ChangesAreRefused = (world : PlainWorld) (n : ℕ) → (((regroup_at n world).0 ≡ regroup.Last) ↔ (epoch_in world ≡ last_epoch))
+    × (((regroup_at n world).0 ≡ regroup.Unsettled) ↔ ((epoch_in world ≢ last_epoch) × (is_at_rest world ≡ false)))
 
 -- A replica that goes on answers each object as it did, and shows as many settled items; one that begins as replica 0 did. No
 -- log has an entry.

@@ -1,6 +1,6 @@
 //! Laws of the plain world. Each is the contract of a function that does nothing.
 
-ghost use Rattle.world_model.specs.Laws.{OpeningIsWorld, OpeningHasSize, SentAreOwn, SentIsNumbered, SendingKeepsWorld, BeatingKeepsWorld, OfferingKeepsWorld, GivingKeepsWorld, ResendingKeepsWorld, RawingKeepsWorld, RegroupingKeepsStore, NextEpochBegins, NextEpochShowsTheSame, SettlingKeepsWorld, SettlingEnds, MoreRoundsAreNone, SettledIsStill, SettledIsEqualCounts, SameEventsAnswerAlike, NoneLagsIsAllStable, LaggingIsAnother, GrowingGoesOn, GrownAreJournals};
+ghost use Rattle.world_model.specs.Laws.{OpeningIsWorld, OpeningHasSize, SentAreOwn, SentIsNumbered, SendingKeepsWorld, BeatingKeepsWorld, OfferingKeepsWorld, GivingKeepsWorld, ResendingKeepsWorld, RawingKeepsWorld, RegroupingKeepsStore, NextEpochBegins, NextEpochShowsTheSame, RefusedChangesNothing, ChangesAreRefused, SettlingKeepsWorld, SettlingEnds, MoreRoundsAreNone, SettledIsStill, SettledIsEqualCounts, SameEventsAnswerAlike, NoneLagsIsAllStable, LaggingIsAnother, GrowingGoesOn, GrownAreJournals};
 
 /// A store begins in a world of its members.
 pub fn an_opening_is_a_world()
@@ -31,6 +31,13 @@ pub fn members_change_at_rest()
     ensures store { RegroupingKeepsStore }
     ensures begins { NextEpochBegins }
     ensures shows { NextEpochShowsTheSame }
+{}
+
+/// A change of members that is refused leaves the world as it is. It is refused in the last epoch, in any other where the store
+/// isn't at rest, and nowhere else.
+pub fn refused_changes_leave_the_world()
+    ensures stays { RefusedChangesNothing }
+    ensures causes { ChangesAreRefused }
 {}
 
 /// Settling ends in a world of the same store, after a round that moves nothing, and more rounds would not be made. Where

@@ -5,13 +5,13 @@ use Rattle.world_model.specs.Honest.{IsHonest}
 use Rattle.world_model.specs.Regrouping.{next_world}
 use Rattle.world_model.specs.Settling.{world_settled}
 use Rattle.honest_worlds.proofs.Commands.{commands_keep_honest}
-use Rattle.honest_worlds.proofs.Settling.{regrouping_is_possible}
+use Rattle.honest_worlds.proofs.Settling.{settled_is_at_rest}
 use Rattle.world.proofs.Regroups.{epoch_can_end, rest_begins}
 use Rattle.world.proofs.world.World.regroup.Goals as goal
 
 pub returns-then-not-is_at_rest-clause-possible : goal.returns-then-not-is_at_rest-clause-possible
 returns-then-not-is_at_rest-clause-possible c plain honest shows below _ =
-    false≢true (sym c.if-not-is_at_rest.true ∙ c.is_at_rest.ensures.rests (world_settled plain) shows ∙ regrouping_is_possible plain honest below)
+    false≢true (sym c.if-not-is_at_rest.true ∙ c.is_at_rest.ensures.rests (world_settled plain) shows ∙ settled_is_at_rest plain honest below)
 
 pub begin_next-requires-clause-early : goal.begin_next-requires-clause-early
 begin_next-requires-clause-early c plain shows = epoch_can_end c.args.self.now plain shows c.index.result.now c.index.ensures c.if-epoch-eq65535.false
