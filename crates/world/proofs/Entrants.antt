@@ -1,8 +1,9 @@
 -- Members that enter the next epoch.
 use Rattle.std.proofs.Common.{◌≡◌, ◌≢◌, ℕ, ◌+◌, ◌-◌, ◌<◌, ◌≤◌, ◌⊎◌, nat_lt, min, ◌++◌, ◌∷◌, [], All, List, length, take, slice_index_or, slice_set, inl, inr, refl, sym, ap, subst, ◌∙◌, get_or-set_same, get_or-set_other, length-set, if◌then◌else◌, arith}
-use Rattle.std.proofs.lemmas.Bool.{cases_eq, cases_lt, cond-true, cond-false, lt-ltb, ltb-true, false_from_ne_true}
+use Rattle.std.proofs.lemmas.Bool.{cases_eq, cases_lt, cond-true, cond-false, lt-ltb, le-ltb, ltb-true, false_from_ne_true}
 use Rattle.std.proofs.lemmas.List.{get_or_default, get_or_push, get_or_append_left, get_or-take, length_push, length-take}
 use Rattle.std.proofs.lemmas.List.Sums.{fold-append}
+use Rattle.causal_model.specs.History.{History}
 use Rattle.causal_model.specs.Journal.{state_noted, regrouped}
 use Rattle.causal_model.specs.State.{start}
 use Rattle.causal_model.specs.declared.note.Note.TheVariants.{Regroup}
@@ -14,6 +15,13 @@ use Rattle.world.specs.Entrants.{IsReady, IsAsBefore, AreAsBefore, IsNextNode, I
 use Rattle.world.specs.declared.regrouping.Entrant.{Entrant}
 use Rattle.world.specs.declared.regrouping.Entrant.TheVariants as entrant
 
+-- where there are some nodes, each member begins with that of one of them
+pub place_is_within : (size q : ℕ) → 1 ≤ size → place_for size q < size
+place_is_within size q some = elim (cases_lt q size) [
+  | inl l ↦ omega (arith, cond-true (nat_lt q size) q 0 (lt-ltb q size l), l)
+  | inr past ↦ omega (arith, cond-false (nat_lt q size) q 0 (le-ltb q size past), some)
+]
+
 -- a node that notes a change, and goes on with a replica that can, is the next epoch's
 pub noted_is_next : (node next : NotedNode) (replica : Replica) → IsNextOf node.first node.inner.w node.inner.limit node.journal.notes replica → next.inner ≡ replica → next.first ≡ node.first
     → next.journal.notes ≡ node.journal.notes ++ Regroup replica.epoch replica.n replica.me ∷ [] → IsNextNode replica.n replica.me node next
@@ -22,7 +30,13 @@ noted_is_next node next replica can inner first noted = record {
       ∙ fold-append state_noted (start node.first.1 node.first.0) node.journal.notes (Regroup replica.epoch replica.n replica.me ∷ []);
   w = ap (λ (r : Replica). r.w) inner ∙ can.w;
   limit = ap (λ (r : Replica). r.limit) inner ∙ can.limit;
-}
+  noted = noted ∙ ap (λ epoch. node.journal.notes ++ Regroup epoch replica.n replica.me ∷ []) epoch;
+} where
+  h : History
+  h = (state_of node).history
+
+  epoch : replica.epoch ≡ node.inner.epoch + 1
+  epoch = omega (arith, can.stands.in_epoch, node.stands.in_epoch, length_push h.past h.present)
 
 -- it stands where the node stood
 pub stands_there : (nodes : List NotedNode) (q n me : ℕ) (node next d e : NotedNode) → q < length nodes → node ≡ slice_index_or nodes q node → IsNextNode n me node next
@@ -180,6 +194,7 @@ next_as_before n q a b next same is = record {
   state = is.state ∙ ap (regrouped n q) (same_state a b same);
   w = is.w ∙ ap (λ (r : Replica). r.w) same.inner;
   limit = is.limit ∙ ap (λ (r : Replica). r.limit) same.inner;
+  noted = is.noted ∙ ap (λ notes. notes ++ Regroup (b.inner.epoch + 1) n q ∷ []) same.notes ∙ ap (λ (r : Replica). a.journal.notes ++ Regroup (r.epoch + 1) n q ∷ []) same.inner;
 }
 
 can_as_before : (a b : NotedNode) (next : Replica) → IsAsBefore a b → IsNextOf a.first a.inner.w a.inner.limit a.journal.notes next → IsNextOf b.first b.inner.w b.inner.limit b.journal.notes next

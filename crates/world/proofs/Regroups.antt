@@ -1,14 +1,17 @@
 -- The nodes of the next epoch, and the world that they show.
 use Rattle.std.proofs.Common.{◌≡◌, ◌≢◌, ℕ, ◌+◌, ◌<◌, ◌≤◌, ◌==◌, nat_lt, Bool, true, false, not, All, List, [], ◌∷◌, ◌++◌, if◌then◌else◌, length, map, take, get_or, slice_index_or, zero, suc, refl, sym, ap, subst, ◌∙◌, arith}
 use Rattle.std.specs.List.{list_all}
+use Rattle.std.proofs.Math.Logic.{∥∥₁_elim}
+use Rattle.std.proofs.Props.{props}
 use Rattle.std.proofs.lemmas.Bool.{and_from, eqb-true, cond-false, false_from_ne_true}
-use Rattle.std.proofs.lemmas.List.{get_or_default, take_more, take_all}
+use Rattle.std.proofs.lemmas.List.{get_or_default, get_or-map, length-map, take_more, take_all}
 use Rattle.std.proofs.lemmas.List.Elements.{All-nil, All-push}
 use Rattle.std.proofs.lemmas.List.Folds.{list_all-map, list_all_more, list_all_at}
 use Rattle.causal_model.specs.Counts.{members}
 use Rattle.causal_model.specs.History.{is_all_stable}
 use Rattle.causal_model.specs.Journal.{regrouped}
 use Rattle.causal_model.specs.State.{State}
+use Rattle.causal_model.specs.declared.note.Note.TheVariants as note
 use Rattle.frame_codec.specs.Grammar.{frame_of}
 use Rattle.frame_codec.specs.declared.version.Version.TheVariants.{Two}
 use Rattle.replica_core.specs.Rules.{StandsFor}
@@ -18,13 +21,15 @@ use Rattle.world_model.specs.World.{PlainWorld, size_of, replica_of, epoch_in}
 use Rattle.world_model.specs.declared.outcome.Regroup.{Regroup}
 use Rattle.world_model.specs.declared.outcome.Regroup.TheVariants as regroup
 use Rattle.world_model.proofs.Regrouping.{comes_from, comes_from_member, next_is_world}
+use Rattle.world_model.specs.Journals.{journal_of}
 use Rattle.world.specs.Answers.{ShowsPlain}
+use Rattle.world.specs.Growing.{journals_of}
 use Rattle.world.specs.Shows.{NotedNode, state_of, Shows}
-use Rattle.world.specs.Entrants.{IsSettled, IsEarly, AreAsBefore, AreNext, place_for}
+use Rattle.world.specs.Entrants.{IsSettled, IsEarly, AreAsBefore, AreNext, HaveRegrouped, place_for}
 use Rattle.world.specs.Steps.{AreNodesOf, are_empty}
 use Rattle.world.specs.declared.world.World.{World}
 use Rattle.world.proofs.Nodes.{StandsAt, size_shown, state_shown, w_shown, limit_shown, epoch_shown, epoch_is_low}
-use Rattle.world.proofs.Entrants.{same_state}
+use Rattle.world.proofs.Entrants.{same_state, place_is_within}
 use Rattle.world.proofs.Openings.{no_nodes, one_node_more, no_frames}
 use Rattle.world.proofs.Settles.{some_members}
 
@@ -158,3 +163,34 @@ pub each_is_early : (nodes : List NotedNode) (rows : List (List (List ℕ))) (pl
 each_is_early nodes rows plain shows more k d l =
     let node : NotedNode = get_or nodes k d in
     omega (arith, epoch_is_low node, epoch_shown nodes rows plain shows k node (record { low = l; at = get_or_default nodes k d node l }), more)
+
+-- ---- the journals have changed
+
+-- nodes that are as before have their journals
+pub as_before_journals : (nodes now : List NotedNode) → AreAsBefore nodes now → journals_of now ≡ journals_of nodes
+as_before_journals nodes now same = same_map (λ (node : NotedNode). node.journal.notes) nodes now same.count (λ i d l. (same.each i d l).notes)
+
+-- the nodes of a world are in one epoch
+pub epochs_alike : (world : World) (q r : ℕ) (node other : NotedNode) → StandsAt world.nodes.items q node → StandsAt world.nodes.items r other → node.inner.epoch ≡ other.inner.epoch
+epochs_alike world q r node other here there = ∥∥₁_elim world.shows (search props) (λ x.
+    let epoch_of = epoch_shown world.nodes.items (map (λ row. row.items) world.sent.items) x.0 x.1 in
+    epoch_of q node here ∙ sym (epoch_of r other there))
+
+-- those of the next epoch note that it began
+pub next_journals : (world : World) (n : ℕ) (next : List NotedNode) (first : NotedNode) → StandsAt world.nodes.items 0 first → AreNext n world.nodes.items next
+    → HaveRegrouped n (first.inner.epoch + 1) (journals_of world.nodes.items) (journals_of next)
+next_journals world n next first stands are =
+    let nodes = world.nodes.items in
+    let notes_of = λ (node : NotedNode). node.journal.notes in
+    record {
+      count = length-map next notes_of ∙ are.count;
+      each = λ q l.
+          let base = place_for (length nodes) q in
+          let low = place_is_within (length nodes) q (omega (arith, stands.low)) in
+          let node : NotedNode = get_or nodes base first in
+          let here : StandsAt nodes base node = record { low = low; at = get_or_default nodes base first node low } in
+          get_or-map notes_of next q first [] (omega (arith, l, are.count)) ∙ (are.each q first first l).noted
+          ∙ ap (λ epoch. node.journal.notes ++ note.Regroup (epoch + 1) n q ∷ []) (epochs_alike world base 0 node first here stands)
+          ∙ ap (λ notes. notes ++ note.Regroup (first.inner.epoch + 1) n q ∷ []) (sym (get_or-map notes_of nodes base first [] low))
+          ∙ ap (λ size. journal_of (journals_of nodes) (place_for size q) ++ note.Regroup (first.inner.epoch + 1) n q ∷ []) (sym (length-map nodes notes_of));
+    }

@@ -1,12 +1,17 @@
 -- How members begin the next epoch, and what of nodes it needs.
-use Rattle.std.specs.Prelude.{◌≡◌, ℕ, ◌+◌, ◌-◌, ◌<◌, ◌≤◌, ◌^◌, nat_lt, List, IsTrue, length, if◌then◌else◌}
+use Rattle.std.specs.Prelude.{◌≡◌, ℕ, ◌+◌, ◌-◌, ◌<◌, ◌≤◌, ◌^◌, nat_lt, List, [], ◌∷◌, ◌++◌, IsTrue, length, if◌then◌else◌}
 use Rattle.std.specs.List.{slice_index_or}
 use Rattle.causal_model.specs.History.{is_all_stable}
 use Rattle.causal_model.specs.Journal.{regrouped}
 use Rattle.causal_model.specs.State.{State}
+use Rattle.causal_model.specs.declared.note.Note.{Note}
+use Rattle.causal_model.specs.declared.note.Note.TheVariants as note
 use Rattle.replica_core.specs.Rules.{StandsFor}
 use Rattle.replica_core.specs.declared.replica.Replica.{Replica}
 use Rattle.replica_node.specs.Epochs.{IsNextOf}
+use Rattle.world_model.specs.Journals.{journal_of}
+use Rattle.world_model.specs.declared.outcome.Regroup.{Regroup}
+use Rattle.world_model.specs.declared.outcome.Regroup.TheVariants as regroup
 use Rattle.world.specs.Shows.{NotedNode, state_of}
 use Rattle.world.specs.declared.regrouping.Entrant.{Entrant}
 use Rattle.world.specs.declared.regrouping.Entrant.TheVariants as entrant
@@ -33,11 +38,13 @@ pub record AreAsBefore (before after : List NotedNode) : Type 0 where
   pub count : length after ≡ length before
   pub each : (q : ℕ) (d : NotedNode) → q < length before → IsAsBefore (slice_index_or before q d) (slice_index_or after q d)
 
--- a node is the next epoch's of member q of n: it has what the end of the epoch makes of a node's state
+-- a node is the next epoch's of member q of n: it has what the end of the epoch makes of a node's state, and notes it behind what
+-- that node noted
 pub record IsNextNode (n q : ℕ) (node next : NotedNode) : Type 0 where
   pub state : state_of next ≡ regrouped n q (state_of node)
   pub w : next.inner.w ≡ node.inner.w
   pub limit : next.inner.limit ≡ node.inner.limit
+  pub noted : next.journal.notes ≡ node.journal.notes ++ note.Regroup (node.inner.epoch + 1) n q ∷ []
 
 -- the node at place q can go on with a replica, as member q of n
 pub record CanGoOn (n q : ℕ) (nodes : List NotedNode) (replica : Replica) : Type 0 where
@@ -68,6 +75,16 @@ HaveEntered n before count after = (q : ℕ) (d e : NotedNode) → q < count →
 pub record AreNext (n : ℕ) (before after : List NotedNode) : Type 0 where
   pub count : length after ≡ n
   pub each : HaveEntered n before n after
+
+-- the journals of n members that began an epoch: each is that of its node, a new member's that of member 0's, with one note more
+pub record HaveRegrouped (n epoch : ℕ) (old new : List (List Note)) : Type 0 where
+  pub count : length new ≡ n
+  pub each : (q : ℕ) → q < n → journal_of new q ≡ journal_of old (place_for (length old) q) ++ note.Regroup epoch n q ∷ []
+
+-- what a change to n members leaves of journals: they tell the epoch that began, or are as they were
+abbrev pub RegroupsJournals : ℕ → List (List Note) → Regroup → List (List Note) → Type 0
+RegroupsJournals n old (regroup.Regrouped epoch) new = HaveRegrouped n epoch old new
+RegroupsJournals n old answer new = new ≡ old
 
 -- a member can enter at a place: its node has room there, and can go on; or a node comes behind the others
 abbrev pub CanEnter : List NotedNode → ℕ → Entrant → Type 0

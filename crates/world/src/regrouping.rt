@@ -9,7 +9,8 @@ ghost use Rattle.world_model.specs.Honest.{IsHonest};
 ghost use Rattle.world_model.specs.Regrouping.{last_epoch, is_at_rest, next_world, regroup_at, is_regrouped};
 ghost use Rattle.world_model.specs.Settling.{world_settled};
 ghost use Rattle.world_model.specs.World.{PlainWorld, epoch_in};
-ghost use Rattle.world.specs.Entrants.{IsEarly, IsSettled, IsReady, AreAsBefore, IsNextNode, IsEntrant, AreEntrants, AreNext, CanEnter, EntersAs, count_with};
+ghost use Rattle.world.specs.Entrants.{IsEarly, IsSettled, IsReady, AreAsBefore, IsNextNode, IsEntrant, AreEntrants, AreNext, RegroupsJournals, CanEnter, EntersAs, count_with};
+ghost use Rattle.world.specs.Growing.{journals_of};
 ghost use Rattle.world.specs.Shows.{NotedNode, state_of};
 
 use crate::world::{FrameTable, NodeList, World, empty_rows};
@@ -42,6 +43,7 @@ impl World {
         ensures honest { ShowsHonest self.old → ShowsHonest self.new }
         ensures possible { (plain : PlainWorld) → IsHonest plain → ShowsPlain self.old (world_settled plain) → AreBelowLimit (world_settled plain) → result ≢ Regroup.Unsettled }
         ensures members { length self.new.nodes.items ≡ (if is_regrouped result then n else length self.old.nodes.items) }
+        ensures journals { RegroupsJournals n (journals_of self.old.nodes.items) result (journals_of self.new.nodes.items) }
     {
         let epoch = self.nodes[0].inner.epoch;
         if epoch == 65535 {
@@ -73,8 +75,8 @@ impl World {
         requires settled { All IsSettled self.old.nodes.items }
         ensures begins { (plain : PlainWorld) → ShowsPlain self.old plain → OnOk result (ShowsPlain self.new (next_world n plain)) }
         ensures stays { (plain : PlainWorld) → ShowsPlain self.old plain → OnErr result (ShowsPlain self.new plain) }
-        ensures members { OnOk result (length self.new.nodes.items ≡ n) }
-        ensures same { OnErr result (length self.new.nodes.items ≡ length self.old.nodes.items) }
+        ensures next { OnOk result (AreNext n self.old.nodes.items self.new.nodes.items) }
+        ensures same { OnErr result (AreAsBefore self.old.nodes.items self.new.nodes.items) }
     {
         let sent = empty_rows(alloc, n)?;
         let entrants = next_entrants(alloc, &self.nodes, n)?;
@@ -155,7 +157,7 @@ fn change_nodes(
     ensures next { OnOk result (AreNext n nodes.old.items nodes.new.items) }
     ensures stays { OnErr result (AreAsBefore nodes.old.items nodes.new.items) }
 {
-    nodes.reserve(n as usize)?;
+    nodes.reserve((n as usize).saturating_sub(nodes.len()))?;
     ready_all(alloc, nodes)?;
     nodes.truncate(n as usize);
     enter_all(nodes, n, entrants);
@@ -183,9 +185,7 @@ fn enter_all(nodes: &mut NodeList, n: u8, mut entrants: Vec<Entrant>)
     ensures { AreNext n nodes.old.items nodes.new.items }
 {
     for q in 0..n {
-        if let Some(entrant) = entrants.pop() {
-            enter(nodes, q as usize, entrant);
-        }
+        enter(nodes, q as usize, entrants.take_last());
     }
 }
 

@@ -1,4 +1,4 @@
-use Rattle.std.proofs.Common.{refl, sym, subst, ◌∙◌}
+use Rattle.std.proofs.Common.{refl, arith, sym, subst, ◌∙◌}
 use Rattle.std.proofs.lemmas.Bool.{false≢true}
 use Rattle.world_model.specs.Commands as world_command
 use Rattle.world_model.specs.Honest.{IsHonest}
@@ -6,7 +6,8 @@ use Rattle.world_model.specs.Regrouping.{next_world}
 use Rattle.world_model.specs.Settling.{world_settled}
 use Rattle.honest_worlds.proofs.Commands.{commands_keep_honest}
 use Rattle.honest_worlds.proofs.Settling.{settled_is_at_rest}
-use Rattle.world.proofs.Regroups.{epoch_can_end, rest_begins}
+use Rattle.world.proofs.Regroups.{epoch_can_end, rest_begins, as_before_journals, next_journals}
+use Rattle.world.proofs.Settles.{some_members}
 use Rattle.world.proofs.world.World.regroup.Goals as goal
 
 pub returns-then-not-is_at_rest-clause-possible : goal.returns-then-not-is_at_rest-clause-possible
@@ -26,3 +27,11 @@ returns-in-Ok-clause-honest c old =
     let more = epoch_can_end c.args.self.now plain old.1 c.index.result.now c.index.ensures c.if-epoch-eq65535.false in
     let begins = rest_begins c.args.n plain more (sym (c.is_at_rest.ensures.rests plain old.1) ∙ c.if-not-is_at_rest.false) in
     (next_world c.args.n plain, c.in-Ok.ensures.begins plain old.1, subst (λ made. IsHonest made.1) begins kept)
+
+pub returns-in-Err-clause-journals : goal.returns-in-Err-clause-journals
+returns-in-Err-clause-journals c = as_before_journals c.args.self.now.nodes.items c.begin_next.new.self.nodes.items c.in-Err.ensures.same
+
+pub returns-in-Ok-clause-journals : goal.returns-in-Ok-clause-journals
+returns-in-Ok-clause-journals c =
+    let world = c.args.self.now in
+    next_journals world c.args.n c.begin_next.new.self.nodes.items c.index.result.now (record { low = omega (arith, some_members world); at = c.index.ensures }) c.in-Ok.ensures.next
