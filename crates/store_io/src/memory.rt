@@ -11,7 +11,7 @@ use std::alloc::Global;
 use std::marker::Model;
 
 /// Whether the call of this number is one of those that are to fail.
-fn is_listed(failing: &[u32], number: u64) -> bool
+pub(crate) fn is_listed(failing: &[u32], number: u64) -> bool
     ensures listed { result ≡ is_failing failing.now number }
     ensures small { IsTrue result → number < 2 ^ 32 }
 {
