@@ -67,7 +67,7 @@ none_of_it : {A : Type 0} {xs : List A} (here : Bool) → xs ≡ [] → (if here
 none_of_it true none = none
 none_of_it false none = refl
 
-none_in : {X : Type 0} (xs : List X) (x : X) → length xs ≡ 0 → Contains xs x → ⊥
+pub none_in : {X : Type 0} (xs : List X) (x : X) → length xs ≡ 0 → Contains xs x → ⊥
 none_in xs x none has = omega (arith, none, has.1)
 
 -- what is so of all that notes sent is so of each that stands as sent
@@ -83,7 +83,7 @@ each_sent P (note.Took id ∷ notes) all = All-cons (IsOfSent P) (note.Took id) 
 each_sent P (note.Crook id ∷ notes) all = All-cons (IsOfSent P) (note.Crook id) notes tt (each_sent P notes all)
 each_sent P (note.Regroup epoch n me ∷ notes) all = All-cons (IsOfSent P) (note.Regroup epoch n me) notes tt (each_sent P notes all)
 
-sent_has : (P : Message → Type 0) (notes : List Note) (m : Message) → All P (sent_in notes) → Contains notes (note.Sent m) → P m
+pub sent_has : (P : Message → Type 0) (notes : List Note) (m : Message) → All P (sent_in notes) → Contains notes (note.Sent m) → P m
 sent_has P notes m all has = All-contains (IsOfSent P) notes (note.Sent m) (each_sent P notes all) has
 
 -- ---- own turns at a node

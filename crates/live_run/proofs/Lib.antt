@@ -13,3 +13,11 @@ pub mod Posts
 pub mod Joins
 pub mod OwnNotes
 pub mod Couriers
+pub mod Places
+pub mod Opened
+pub mod Returns
+pub mod Running
+pub mod Mailing
+pub mod Lines
+pub mod Settles
+pub mod Working

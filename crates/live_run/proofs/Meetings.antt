@@ -78,7 +78,7 @@ what_was_met_was_sent journals mailboxes x rows first inside met mails k d l =
     let same : j ≡ 0 + j = omega arith in
     (mail.one_line ∙ ap (λ (i : ℕ). (i + 1) ∷ []) same, subst (λ i. SentOf (journals i) (seen (get_or (get_or rows j row) x first)).roll) same mail.was_sent) in
     let all_numbers : numbers (seen first).roll ≡ range_with_len 0 (suc (length rows)) = ap numbers met.roll ∙ ap (λ (ns : List ℕ). 0 ∷ ns) (numbers_of journals x first 0 rows each) in
-    let knows : (j : ℕ) → j ≤ (seen first).forks → Contains (numbers (seen first).roll) j = λ j few. subst (λ ns. Contains ns j) (sym all_numbers) (in_range 0 (suc (length rows)) j (omega arith) (omega (arith, few, met.forks))) in
+    let knows : (j : ℕ) → j ≤ (seen first).forks → Contains (numbers (seen first).roll) j = λ j few. subst (λ ns. Contains ns j) (sym all_numbers) (in_range 0 (suc (length rows)) j (omega arith) (omega (arith, few, met.forks_are))) in
     let none : All (SentBy journals 0) [] = All-nil (SentBy journals 0) in
     let sent : RollWasSent journals (seen first).roll = subst (RollWasSent journals) (sym met.roll)
     (All-cons (λ (y : Line Letter). All (SentBy journals y.by) y.items) (line 0 []) (rolls journals x first rows) none (rolls_were_sent journals x first 0 rows each)) in

@@ -78,3 +78,40 @@ SettledIsRun = (n w clients : ℕ) (commands : List LiveCommand) (told : List (L
     → HasRun n w clients commands told old → HaveGrown old new → ((r : ℕ) → r < n → ∥ IsLegal n w live_limit r (journal_of new r) ∥₁)
     → (round_of (world_of_journals n w live_limit new)).moved ≡ false → is_quiescent (world_of_journals n w live_limit new) ≡ true
     → IsRun n w clients commands told new
+
+-- ---- nodes
+
+-- a node is that of member r of n, in a live run
+pub record IsMember (n w r : ℕ) (node : NotedNode) : Type 0 where
+  pub first : node.first ≡ (r, n)
+  pub window : node.inner.w ≡ w
+  pub limit : node.inner.limit ≡ live_limit
+
+-- nodes are those of the members of one store, in their order
+pub record AreMembers (n w : ℕ) (nodes : List NotedNode) : Type 0 where
+  pub of_each : length nodes ≡ n
+  pub each : (r : ℕ) (f : NotedNode) → r < n → IsMember n w r (slice_index_or nodes r f)
+
+-- what came of a run of workers: what was told and noted, by nodes of the members
+pub record HasEnded (n w clients : ℕ) (commands : List LiveCommand) (told : List (List Told)) (nodes : List NotedNode) : Type 0 where
+  pub run : HasRun n w clients commands told (notes_of_each nodes)
+  pub members : AreMembers n w nodes
+
+-- nodes are those of members, and what one kept another sent
+pub record AreApartIn (n w : ℕ) (nodes : List NotedNode) : Type 0 where
+  pub some : 1 ≤ n
+  pub few : n ≤ 16
+  pub wide : 1 ≤ w
+  pub members : AreMembers n w nodes
+  pub journals : ∥ AreJournals n w live_limit (notes_of_each nodes) ∥₁
+
+-- a run that has settled, by nodes of the members
+pub record IsRunOf (n w clients : ℕ) (commands : List LiveCommand) (told : List (List Told)) (nodes : List NotedNode) : Type 0 where
+  pub run : IsRun n w clients commands told (notes_of_each nodes)
+  pub members : AreMembers n w nodes
+
+-- nodes have settled: one more round delivers nothing and sends nothing, and all have delivered as many messages of each member
+pub record HaveSettled (n w : ℕ) (nodes : List NotedNode) : Type 0 where
+  pub members : AreMembers n w nodes
+  pub still : (round_of (world_of_journals n w live_limit (notes_of_each nodes))).moved ≡ false
+  pub settled : is_quiescent (world_of_journals n w live_limit (notes_of_each nodes)) ≡ true

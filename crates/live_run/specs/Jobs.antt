@@ -26,7 +26,7 @@ module _ (nodes : List (LockState Settings)) where
 
   -- a client at the node at a place made its commands, or gives its pass back
   abbrev pub IsClientsDone : List NumberedLine → ℕ → ℕ → Done → Type 0
-  IsClientsDone lines number at (done.Client back) = (d : LockState Settings) → IsClientDone (slice_index_or nodes at d) (commands_of number (commands_in lines)) back
+  IsClientsDone lines number at (done.Client place back) = (place ≡ at) × (at < length nodes) × ((d : LockState Settings) → IsClientDone (slice_index_or nodes at d) (commands_of number (commands_in lines)) back)
   IsClientsDone lines number at (done.Stopped pass) = (d : LockState Settings) → pass.lock ≡ slice_index_or nodes at d
   IsClientsDone lines number at other = ⊥
 
@@ -39,7 +39,7 @@ module _ (nodes : List (LockState Settings)) where
 
     -- the courier of the node at a place made its turns, or gives its pass back
     abbrev pub IsCouriersDone : ℕ → Done → Type 0
-    IsCouriersDone me (done.Courier back) = (d : LockState Settings) → IsCourierDone (slice_index_or nodes me d) mailboxes back
+    IsCouriersDone me (done.Courier place back) = (place ≡ me) × (me < length nodes) × ((d : LockState Settings) → IsCourierDone (slice_index_or nodes me d) mailboxes back)
     IsCouriersDone me (done.Stopped pass) = (d : LockState Settings) → pass.lock ≡ slice_index_or nodes me d
     IsCouriersDone me other = ⊥
 

@@ -13,3 +13,5 @@ pub mod Couriers
 pub mod Joining
 pub mod Ended
 pub mod Meeting
+pub mod Opening
+pub mod Returned

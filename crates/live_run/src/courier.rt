@@ -66,16 +66,16 @@ pub fn carry_letters<R: Wait, G: Gate>(
         letter: 1,
     };
     for _ in 0..courier.turns {
-        match make_turn(rt, alloc, node, mailboxes, courier, &mut round) {
-            Ok(true) => {}
-            Ok(false) => thread::yield_now(),
-            Err(NoMemory) => return Err(round.done),
+        if make_turn(rt, alloc, node, mailboxes, courier, &mut round).is_err() {
+            return Err(round.done);
         }
+        // Else the turns of one are over before the threads of the others have begun.
+        thread::yield_now();
     }
     Ok(round.done)
 }
 
-/// Makes one turn. Whether it sent, took or beat anything.
+/// Makes one turn.
 fn make_turn<R: Wait, G: Gate>(
     rt: &R,
     alloc: Global,
@@ -83,18 +83,17 @@ fn make_turn<R: Wait, G: Gate>(
     mailboxes: &[Mailbox<Letter>],
     courier: &Courier<'_, G>,
     round: &mut Round,
-) -> Result<bool, NoMemory>
+) -> Result<(), NoMemory>
     requires of { IsCourierOf node.now.key mailboxes.now courier.now.me courier.now.n }
     requires done { IsCourierDone node.now mailboxes.now round.old.done }
     ensures done { IsCourierDone node.now mailboxes.now round.new.done }
 {
-    let sent = send_oldest(rt, alloc, node, mailboxes, courier, round)?;
-    let took = take_letters(rt, alloc, node, mailboxes, courier, round)?;
-    let beaten = beat(rt, alloc, node, mailboxes, courier, round)?;
-    Ok(sent || took || beaten)
+    send_oldest(rt, alloc, node, mailboxes, courier, round)?;
+    take_letters(rt, alloc, node, mailboxes, courier, round)?;
+    beat(rt, alloc, node, mailboxes, courier, round)
 }
 
-/// Sends the oldest messages of the outbox to every other member. Whether there were any.
+/// Sends the oldest messages of the outbox to every other member.
 fn send_oldest<R: Wait, G: Gate>(
     rt: &R,
     alloc: Global,
@@ -102,7 +101,7 @@ fn send_oldest<R: Wait, G: Gate>(
     mailboxes: &[Mailbox<Letter>],
     courier: &Courier<'_, G>,
     round: &mut Round,
-) -> Result<bool, NoMemory>
+) -> Result<(), NoMemory>
     requires of { IsCourierOf node.now.key mailboxes.now courier.now.me courier.now.n }
     requires done { IsCourierDone node.now mailboxes.now round.old.done }
     ensures done { IsCourierDone node.now mailboxes.now round.new.done }
@@ -111,7 +110,7 @@ fn send_oldest<R: Wait, G: Gate>(
     for message in oldest.as_slice() {
         send_message(rt, alloc, node, mailboxes, courier, round, message)?;
     }
-    Ok(!oldest.is_empty())
+    Ok(())
 }
 
 /// Copies of the oldest messages of the outbox.
@@ -194,7 +193,7 @@ fn is_lost(number: u32, loss: u32) -> bool {
     loss != 0 && number % loss == 0
 }
 
-/// Takes letters from the member's own mailbox and receives them. Whether there were any.
+/// Takes letters from the member's own mailbox and receives them.
 fn take_letters<R: Wait, G: Gate>(
     rt: &R,
     alloc: Global,
@@ -202,20 +201,18 @@ fn take_letters<R: Wait, G: Gate>(
     mailboxes: &[Mailbox<Letter>],
     courier: &Courier<'_, G>,
     round: &mut Round,
-) -> Result<bool, NoMemory>
+) -> Result<(), NoMemory>
     requires of { IsCourierOf node.now.key mailboxes.now courier.now.me courier.now.n }
     requires done { IsCourierDone node.now mailboxes.now round.old.done }
     ensures done { IsCourierDone node.now mailboxes.now round.new.done }
 {
-    let mut took = false;
     for _ in 0..LETTERS {
         let Some(letter) = take_own(rt, node, mailboxes, courier, round) else {
-            return Ok(took);
+            return Ok(());
         };
         receive(rt, alloc, node, mailboxes, courier, round, letter)?;
-        took = true;
     }
-    Ok(took)
+    Ok(())
 }
 
 /// Takes a letter from the member's own mailbox, where there is one.
@@ -261,7 +258,7 @@ fn receive<R: Wait, G: Gate>(
     }
 }
 
-/// Sends a no-op where one is due. Whether one was.
+/// Sends a no-op where one is due.
 fn beat<R: Wait, G: Gate>(
     rt: &R,
     alloc: Global,
@@ -269,7 +266,7 @@ fn beat<R: Wait, G: Gate>(
     mailboxes: &[Mailbox<Letter>],
     courier: &Courier<'_, G>,
     round: &mut Round,
-) -> Result<bool, NoMemory>
+) -> Result<(), NoMemory>
     requires of { IsCourierOf node.now.key mailboxes.now courier.now.me courier.now.n }
     requires done { IsCourierDone node.now mailboxes.now round.old.done }
     ensures done { IsCourierDone node.now mailboxes.now round.new.done }
@@ -278,8 +275,7 @@ fn beat<R: Wait, G: Gate>(
     let turn = node.beat(rt, alloc, &mut round.done.pass, &visit);
     match turn.answer {
         Beat::NoMemory => Err(NoMemory),
-        Beat::Sent(_) => Ok(true),
-        _ => Ok(false),
+        _ => Ok(()),
     }
 }
 

@@ -1,6 +1,6 @@
-//! What no clause says: that a client alone comes to its end, and the text of a run as it is read.
+//! What no clause says: that a client alone comes to its end, that runs do, and texts as they are read.
 
-use crate::{Client, NumberedLine, Told, make_commands, put_live_text};
+use crate::{Client, NumberedLine, Told, live, make_commands, put_live_text};
 use causal_model::Note;
 use op_base::{Answer, Text};
 use replica_lock::SharedNode;
@@ -82,5 +82,70 @@ fn a_text_is_put(rt: HostRuntime) -> Result<(), Fail> {
     let text =
         b"bad line 4 2\nreply 0 1 1 ok 1\nreply 0 2 1 busy\nsettled\njournal 0 0\nfinal 0 counter:a = 0\n";
     assert_eq!(rt; out.as_slice(), text.as_slice());
+    Ok(())
+}
+
+/// Two members, whose two clients each add to a counter that the other's replica hears of once the run has settled.
+fn lines_of_two(alloc: Global) -> Result<Vec<NumberedLine>, Fail> {
+    let mut lines = Vec::new(alloc);
+    let texts: [&[u8]; 3] = [
+        b"0: do counter:a inc 5",
+        b"1: do counter:a inc 7",
+        b"0: ask flag:a",
+    ];
+    for (number, text) in (2..).zip(texts) {
+        lines.push(NumberedLine {
+            number,
+            line: read_live_line(alloc, text, 2, 2),
+        })?;
+    }
+    Ok(lines)
+}
+
+#[test]
+fn a_run_of_one_member_has_its_text(rt: HostRuntime) -> Result<(), Fail> {
+    let alloc = rt.alloc();
+    let lines = lines(alloc)?;
+    let mut out = Text::new(alloc);
+    out.extend_from_slice(b"before\n")?;
+    live(
+        &rt,
+        alloc,
+        1,
+        1,
+        1,
+        3,
+        0,
+        lines.as_slice(),
+        &OpenGate,
+        &mut out,
+    )?;
+    let text =
+        b"before\nbad line 4 2\nreply 0 1 1 ok 1\nreply 0 2 1 = 5\nsettled\njournal 0 1\nsent 0200010f000000000000000100016100000005\nfinal 0 counter:a = 5\n";
+    assert_eq!(rt; out.as_slice(), text.as_slice());
+    Ok(())
+}
+
+#[test]
+fn a_run_of_two_members_settles_though_couriers_make_no_turn(rt: HostRuntime) -> Result<(), Fail> {
+    let alloc = rt.alloc();
+    let lines = lines_of_two(alloc)?;
+    let mut out = Text::new(alloc);
+    live(
+        &rt,
+        alloc,
+        2,
+        4,
+        2,
+        0,
+        0,
+        lines.as_slice(),
+        &OpenGate,
+        &mut out,
+    )?;
+    let head = b"bad line 4 5\nreply 0 1 1 ok 1\nreply 1 1 1 ok 1\nsettled\njournal 0 6\nsent ";
+    let finals = b"final 0 counter:a = 12\nfinal 1 counter:a = 12\n";
+    assert!(rt; out.as_slice().starts_with(head.as_slice()));
+    assert!(rt; out.as_slice().ends_with(finals.as_slice()));
     Ok(())
 }

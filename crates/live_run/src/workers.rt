@@ -29,10 +29,10 @@ pub enum Job {
 /// What it gives back.
 #[derive(Drop)]
 pub enum Done {
-    /// A client that made its commands.
-    Client(ClientDone),
+    /// A client that made its commands, at the node at a place.
+    Client { at: usize, done: ClientDone },
     /// A courier that made its turns.
-    Courier(CourierDone),
+    Courier { at: usize, done: CourierDone },
     /// The pass of a worker that wanted memory.
     Stopped(Pass),
 }
@@ -99,7 +99,10 @@ fn work_as_client<R: Wait, G: Gate>(
     ensures { IsClientsDone nodes.now lines.now client.now.number at result }
 {
     match make_commands(rt, alloc, &nodes[usize::from(at)], pass, client, lines) {
-        Ok(done) => Done::Client(done),
+        Ok(done) => Done::Client {
+            at: usize::from(at),
+            done,
+        },
         Err(stopped) => Done::Stopped(stopped.pass),
     }
 }
@@ -118,7 +121,10 @@ fn work_as_courier<R: Wait, G: Gate>(
 {
     let node = &nodes[usize::from(courier.me)];
     match carry_letters(rt, alloc, node, mailboxes, courier, fresh) {
-        Ok(done) => Done::Courier(done),
+        Ok(done) => Done::Courier {
+            at: usize::from(courier.me),
+            done,
+        },
         Err(stopped) => Done::Stopped(stopped.pass),
     }
 }
