@@ -6,6 +6,7 @@ use Rattle.std.proofs.Math.Seq.{take-append_seam}
 use Rattle.std.proofs.lemmas.Bool.{false≢true}
 use Rattle.std.specs.Str.Lines.{strip_carriage_return}
 use Rattle.store_io.specs.Bytes.{Gave, Ended, Took}
+use Rattle.script_lang.specs.declared.header.Header.{Header}
 use Rattle.script_net.specs.Honest.{is_unforged}
 use Rattle.script_net.proofs.Honest.{transcripts_are_fair}
 use Rattle.script_net.specs.Lines.{lines_of, ended_lines_of, whole_lines_of, from_command}
@@ -16,9 +17,9 @@ use Rattle.store_program.specs.declared.feed.Stage.TheVariants.{Opening, Running
 use Rattle.store_program.specs.declared.run.Status.{Status}
 use Rattle.store_program.specs.declared.run.Status.TheVariants as status
 use Rattle.store_program.specs.Feeding.{StandsAt, GoesOn, StopsAs, IsFed, Concludes, is_opening}
-use Rattle.store_program.specs.Run.{TookFair, EndsFine, most_input, lacks_header, is_headless, TookFront, Ends, AnswersInput, AnswersMade, made_summary}
+use Rattle.store_program.specs.Run.{TookFair, EndsFine, EndsHeadless, most_input, is_no_script, lacks_header, is_headless, TookFront, Ends, AnswersInput, AnswersMade, made_summary}
 use Rattle.store_program.specs.declared.words.Request.{Request}
-use Rattle.store_program.specs.declared.words.Request.TheVariants.{Script, Make}
+use Rattle.store_program.specs.declared.words.Request.TheVariants.{Script, Live, Make}
 use Rattle.store_program.proofs.Splits.{lines_part, ended_begin}
 use Rattle.store_program.proofs.Standing.{stands_well, behind_header}
 use Rattle.store_program.proofs.Transcripts.{IsFront, front_grows, transcript_grows, lacks_more, replies_have_header}
@@ -37,7 +38,7 @@ all_lines feed bytes out old new before after f =
 pub concludes_stopped : (s : Status) (bytes : List ℕ) (lines : List (List ℕ)) (old new : Option (List ℕ)) (before after : ℕ) → lines ≡ lines_of bytes → StopsAs s lines old new before after
     → Concludes s bytes old new before after
 concludes_stopped status.BadHeader bytes lines old new before after all h =
-    (ap (λ (ls : List (List ℕ)). lacks_header true (from_command ls)) (sym (append-nil lines ∙ all)) ∙ lacks_more true lines [] h.0, h.1)
+    (ap (λ (ls : List (List ℕ)). lacks_header is_no_script true (from_command ls)) (sym (append-nil lines ∙ all)) ∙ lacks_more is_no_script true lines [] h.0, h.1)
 concludes_stopped status.WriteFault bytes lines old new before after all h = subst (λ (ls : List (List ℕ)). StopsAs status.WriteFault ls old new before after) all h
 concludes_stopped status.NoMemory bytes lines old new before after all h = subst (λ (ls : List (List ℕ)). StopsAs status.NoMemory ls old new before after) all h
 concludes_stopped status.Fine bytes lines old new before after all h = absurd h
@@ -50,20 +51,20 @@ module _ (bytes : List ℕ) (lines : List (List ℕ)) (all : lines ≡ lines_of 
   pub concludes_opening : (stage : Stage) → GoesOn stage lines out old mid before between → is_opening stage ≡ true → Concludes status.BadHeader bytes old mid before between
   concludes_opening Opening g opening =
       let none : from_command (lines_of bytes) ≡ [] = ap from_command (sym all) ∙ g.stands in
-      (ap (lacks_header true) none, took_nothing old mid g.written (front_empty g.written out (g.text ∙ ap (λ (ls : List (List ℕ)). transcript_of ls) all ∙ silent none)) g.took)
+      (ap (lacks_header is_no_script true) none, took_nothing old mid g.written (front_empty g.written out (g.text ∙ ap (λ (ls : List (List ℕ)). transcript_of ls) all ∙ silent none)) g.took)
     where
       silent : from_command (lines_of bytes) ≡ [] → transcript_of (lines_of bytes) ≡ []
       silent none = rw none refl
   concludes_opening (Running runner) g opening = absurd (false≢true opening)
 
-  headed : (stage : Stage) → StandsAt stage lines → is_opening stage ≡ false → lacks_header true (from_command lines) ≡ false
+  headed : (stage : Stage) → StandsAt stage lines → is_opening stage ≡ false → lacks_header is_no_script true (from_command lines) ≡ false
   headed Opening stands opening = absurd (false≢true (sym opening))
   headed (Running runner) stands opening = behind_header true runner lines stands
 
   -- all was written
   pub concludes_fine : (stage : Stage) → (g : GoesOn stage lines out old mid before between) → is_opening stage ≡ false → Took old new (g.written ++ out) → Concludes status.Fine bytes old new before after
   concludes_fine stage g opening took = (
-    ap (λ (ls : List (List ℕ)). lacks_header true (from_command ls)) (sym all) ∙ headed stage g.stands opening,
+    ap (λ (ls : List (List ℕ)). lacks_header is_no_script true (from_command ls)) (sym all) ∙ headed stage g.stands opening,
     subst (λ (text : List ℕ). Took old new text) (g.text ∙ ap transcript_of all) took,
   )
 
@@ -99,8 +100,9 @@ fed_with feed bytes out old new before after empty f = subst (λ (out : List ℕ
 -- ---- answers
 
 -- of an input that isn't too long all counts
-headless_short : (ended : Bool) (given : List ℕ) → length given ≤ most_input → is_headless ended given ≡ lacks_header ended (from_command (whole_lines_of ended given))
-headless_short ended given short = ap (λ (bytes : List ℕ). lacks_header ended (from_command (whole_lines_of ended bytes))) (take_all most_input given short)
+pub headless_short : (is_none_of : Option Header → Bool) (ended : Bool) (given : List ℕ) → length given ≤ most_input
+    → is_headless is_none_of ended given ≡ lacks_header is_none_of ended (from_command (whole_lines_of ended given))
+headless_short is_none_of ended given short = ap (λ (bytes : List ℕ). lacks_header is_none_of ended (from_command (whole_lines_of ended bytes))) (take_all most_input given short)
 
 -- the replies to the lines that ended are a front of the transcript
 ended_front : (given : List ℕ) → IsFront (transcript_of (ended_lines_of given)) (transcript given)
@@ -110,12 +112,12 @@ ended_front given =
     (sym begins.is ∙ ap lines_of (append-nil given)) (transcript_grows (ended_lines_of given) begins.more)
 
 -- lines that ended lack no header where all lines don't
-no_lack : (given : List ℕ) (b : Bool) → lacks_header false (from_command (ended_lines_of given)) ≡ b → lacks_header true (from_command (lines_of given)) ≡ false → b ≡ false
+no_lack : (given : List ℕ) (b : Bool) → lacks_header is_no_script false (from_command (ended_lines_of given)) ≡ b → lacks_header is_no_script true (from_command (lines_of given)) ≡ false → b ≡ false
 no_lack given false e whole = refl
 no_lack given true e whole =
     let begins = ended_begin given [] in
-    absurd (false≢true (sym whole ∙ (ap (λ (lines : List (List ℕ)). lacks_header true (from_command lines)) (sym (ap lines_of (append-nil given)) ∙ begins.is)
-    ∙ lacks_more true (ended_lines_of given) begins.more e)))
+    absurd (false≢true (sym whole ∙ (ap (λ (lines : List (List ℕ)). lacks_header is_no_script true (from_command lines)) (sym (ap lines_of (append-nil given)) ∙ begins.is)
+    ∙ lacks_more is_no_script true (ended_lines_of given) begins.more e)))
 
 front_of_short : (given : List ℕ) (old new : Option (List ℕ)) → length given ≤ most_input → TookFront old new (transcript given) → TookFront old new (transcript (take most_input given))
 front_of_short given old new short front = subst (λ (bytes : List ℕ). TookFront old new (transcript bytes)) (sym (take_all most_input given short)) front
@@ -123,10 +125,10 @@ front_of_short given old new short front = subst (λ (bytes : List ℕ). TookFro
 module _ (given : List ℕ) (left : Option (List ℕ)) (reads_old reads_new writes_old writes_new : ℕ) (old new : Option (List ℕ)) (short : length given ≤ most_input) where
   -- the run of a piece stopped
   pub ends_stopped : (s : Status) → StopsAs s (ended_lines_of given) old new writes_old writes_new → Ends s given left reads_old reads_new writes_old writes_new old new
-  ends_stopped status.BadHeader h = record { lacks = inl (headless_short false given short ∙ h.0); wrote = h.1 }
+  ends_stopped status.BadHeader h = record { lacks = inl (headless_short is_no_script false given short ∙ h.0); wrote = h.1 }
   ends_stopped status.WriteFault h = record {
     fault = h.0;
-    header = headless_short false given short ∙ replies_have_header false (ended_lines_of given) h.1;
+    header = headless_short is_no_script false given short ∙ replies_have_header false (ended_lines_of given) h.1;
     wrote = front_of_short given old new short (front_grows old new _ _ (ended_front given) h.2);
   }
   ends_stopped status.NoMemory h = front_of_short given old new short (front_grows old new _ _ (ended_front given) h)
@@ -137,11 +139,11 @@ module _ (given : List ℕ) (left : Option (List ℕ)) (reads_old reads_new writ
 
   -- the input ended
   pub ends_concluded : (s : Status) → Ended left → Concludes s given old new writes_old writes_new → Ends s given left reads_old reads_new writes_old writes_new old new
-  ends_concluded status.Fine ended h = record { ended = ended; short = short; header = headless_short true given short ∙ h.0; wrote = h.1 }
-  ends_concluded status.BadHeader ended h = record { lacks = inr (ended, short, headless_short true given short ∙ h.0); wrote = h.1 }
+  ends_concluded status.Fine ended h = record { ended = ended; short = short; header = headless_short is_no_script true given short ∙ h.0; wrote = h.1 }
+  ends_concluded status.BadHeader ended h = record { lacks = inr (ended, short, headless_short is_no_script true given short ∙ h.0); wrote = h.1 }
   ends_concluded status.WriteFault ended h = record {
     fault = h.0;
-    header = headless_short false given short ∙ no_lack given _ refl (replies_have_header true (lines_of given) h.1);
+    header = headless_short is_no_script false given short ∙ no_lack given _ refl (replies_have_header true (lines_of given) h.1);
     wrote = front_of_short given old new short h.2;
   }
   ends_concluded status.NoMemory ended h = front_of_short given old new short h
@@ -154,7 +156,7 @@ module _ (given : List ℕ) (left : Option (List ℕ)) (reads_old reads_new writ
   ends_broken feed f fault = record {
     fault = fault;
     short = short;
-    header = headless_short false given short ∙ stands_well feed.stage (ended_lines_of given) f.goes.stands;
+    header = headless_short is_no_script false given short ∙ stands_well feed.stage (ended_lines_of given) f.goes.stands;
     wrote = subst (λ (text : List ℕ). Took old new text) (sym (append-nil f.goes.written) ∙ f.goes.text) f.goes.took;
   }
 
@@ -166,40 +168,45 @@ ends_too_long given more left reads_old reads_new writes_old writes_new old new 
     let head : take most_input (given ++ more) ≡ given = ap (λ (n : ℕ). take n (given ++ more)) (sym full) ∙ take-append_seam given more in
     record {
       long = omega (arith, length-append given more, full, one);
-      header = ap (λ (bytes : List ℕ). lacks_header false (from_command (ended_lines_of bytes))) head ∙ stands_well feed.stage (ended_lines_of given) f.goes.stands;
+      header = ap (λ (bytes : List ℕ). lacks_header is_no_script false (from_command (ended_lines_of bytes))) head ∙ stands_well feed.stage (ended_lines_of given) f.goes.stands;
       wrote = subst (λ (text : List ℕ). Took old new text) (sym (append-nil f.goes.written) ∙ (f.goes.text ∙ ap (λ (bytes : List ℕ). transcript_of (ended_lines_of bytes)) (sym head))) f.goes.took;
     }
 
 -- ---- a good script
 
 -- a source that told its bytes has some left
-split_left : (given input : List ℕ) (left : Option (List ℕ)) → Some input ≡ option_map (λ rest. given ++ rest) left → (rest : List ℕ) × (left ≡ Some rest) × (input ≡ given ++ rest)
+pub split_left : (given input : List ℕ) (left : Option (List ℕ)) → Some input ≡ option_map (λ rest. given ++ rest) left → (rest : List ℕ) × (left ≡ Some rest) × (input ≡ given ++ rest)
 split_left given input None e = absurd cc
 split_left given input (Some rest) e = (rest, refl, cc)
 
-all_given : (given rest input : List ℕ) (left : Option (List ℕ)) → left ≡ Some rest → input ≡ given ++ rest → Ended left → given ≡ input
+pub all_given : (given rest input : List ℕ) (left : Option (List ℕ)) → left ≡ Some rest → input ≡ given ++ rest → Ended left → given ≡ input
 all_given given rest input left is parts ended =
     let none : rest ≡ [] = subst (λ (l : Option (List ℕ)). Ended l) is ended in
     sym (parts ∙ (ap (λ (rest : List ℕ). given ++ rest) none ∙ append-nil given))
 
+-- where an input has a header, no part of it lacks one
+pub never_headless : (is_none_of : Option Header → Bool) (given rest input : List ℕ) (left old new : Option (List ℕ)) → left ≡ Some rest → input ≡ given ++ rest → length input ≤ most_input
+    → lacks_header is_none_of true (from_command (lines_of input)) ≡ false → EndsHeadless is_none_of given left old new → ⊥
+never_headless is_none_of given rest input left old new is parts short header h =
+    let few : length given ≤ most_input = omega (arith, short, ap length parts, length-append given rest) in
+    elim h.lacks [
+      | inl lacks ↦
+          let begins = ended_begin given rest in
+          false≢true (sym header ∙ (ap (λ (lines : List (List ℕ)). lacks_header is_none_of true (from_command lines)) (ap lines_of parts ∙ begins.is)
+          ∙ lacks_more is_none_of true (ended_lines_of given) begins.more (sym (headless_short is_none_of false given few) ∙ lacks)))
+      | inr all ↦
+          false≢true (sym header ∙ (ap (λ (bytes : List ℕ). lacks_header is_none_of true (from_command (lines_of bytes))) (sym (all_given given rest input left is parts all.0))
+          ∙ (sym (headless_short is_none_of true given few) ∙ all.2)))
+    ]
+
 module _ (left_old left_new : Option (List ℕ)) (reads_old reads_new writes_old writes_new : ℕ) (old new : Option (List ℕ)) (input : List ℕ)
-    (tells : left_old ≡ Some input) (short : length input ≤ most_input) (header : lacks_header true (from_command (lines_of input)) ≡ false)
+    (tells : left_old ≡ Some input) (short : length input ≤ most_input) (header : lacks_header is_no_script true (from_command (lines_of input)) ≡ false)
     (no_reads : reads_new ≡ reads_old) (no_writes : writes_new ≡ writes_old) where
   completes_given : (s : Status) (given rest : List ℕ) → left_new ≡ Some rest → input ≡ given ++ rest → Ends s given left_new reads_old reads_new writes_old writes_new old new
       → (s ≡ status.NoMemory) ⊎ ((s ≡ status.Fine) × Took old new (transcript input))
   completes_given status.Fine given rest left parts h =
       inr (refl, subst (λ (bytes : List ℕ). Took old new (transcript bytes)) (all_given given rest input left_new left parts h.ended) h.wrote)
-  completes_given status.BadHeader given rest left parts h =
-      let few : length given ≤ most_input = omega (arith, short, ap length parts, length-append given rest) in
-      elim h.lacks [
-        | inl lacks ↦
-            let begins = ended_begin given rest in
-            absurd (false≢true (sym header ∙ (ap (λ (lines : List (List ℕ)). lacks_header true (from_command lines)) (ap lines_of parts ∙ begins.is)
-            ∙ lacks_more true (ended_lines_of given) begins.more (sym (headless_short false given few) ∙ lacks))))
-        | inr all ↦
-            absurd (false≢true (sym header ∙ (ap (λ (bytes : List ℕ). lacks_header true (from_command (lines_of bytes))) (sym (all_given given rest input left_new left parts all.0))
-            ∙ (sym (headless_short true given few) ∙ all.2))))
-      ]
+  completes_given status.BadHeader given rest left parts h = absurd (never_headless is_no_script given rest input left_new old new left parts short header h)
   completes_given status.TooLong given rest left parts h = absurd (omega (arith, short, h.long, ap length parts, length-append given rest))
   completes_given status.ReadFault given rest left parts h = absurd (omega (arith, h.fault, no_reads))
   completes_given status.WriteFault given rest left parts h = absurd (omega (arith, h.fault, no_writes))
@@ -229,6 +236,7 @@ fine_is_fair s left_old left_new reads_old reads_new writes_old writes_new old n
 abbrev pub summary_for : Option Request → List ℕ
 summary_for (Some (Make seed count n w)) = made_summary seed count n w
 summary_for (Some Script) = []
+summary_for (Some Live) = []
 summary_for None = []
 
 -- where no write failed the summary was written, or there was no memory

@@ -13,7 +13,7 @@ use Rattle.store_program.specs.declared.feed.Stage.{Stage}
 use Rattle.store_program.specs.declared.run.Status.{Status}
 use Rattle.store_program.specs.declared.run.Status.TheVariants as status
 use Rattle.store_program.specs.Feeding.{IsDone, IsPart, GoesOn, StopsAs, IsFed}
-use Rattle.store_program.specs.Run.{lacks_header, TookFront}
+use Rattle.store_program.specs.Run.{is_no_script, lacks_header, TookFront}
 use Rattle.store_program.proofs.Splits.{done_more, done_line, ended_done, ended_part, part_more}
 use Rattle.store_program.proofs.Transcripts.{front_grows, transcript_grows, lacks_more, lacks_silent}
 
@@ -90,13 +90,13 @@ goes_without_memory stage done more out old mid new before between after s is g 
 
 -- the first command line is no header
 pub goes_headless : (stage : Stage) (done more : List (List ℕ)) (out : List ℕ) (old mid : Option (List ℕ)) (before between : ℕ)
-    → GoesOn stage done out old mid before between → lacks_header false (from_command (done ++ more)) ≡ true → StopsAs status.BadHeader (done ++ more) old mid before between
+    → GoesOn stage done out old mid before between → lacks_header is_no_script false (from_command (done ++ more)) ≡ true → StopsAs status.BadHeader (done ++ more) old mid before between
 goes_headless stage done more out old mid before between g lacks =
     (lacks, took_nothing old mid g.written (front_empty g.written out (g.text ∙ lacks_silent done more lacks)) g.took)
 
 -- why a run of lines stopped it stops with more lines too
 pub stops_more : (s : Status) (done more : List (List ℕ)) (old new : Option (List ℕ)) (before after : ℕ) → StopsAs s done old new before after → StopsAs s (done ++ more) old new before after
-stops_more status.BadHeader done more old new before after h = (lacks_more false done more h.0, h.1)
+stops_more status.BadHeader done more old new before after h = (lacks_more is_no_script false done more h.0, h.1)
 stops_more status.WriteFault done more old new before after h =
     let grows = transcript_grows done more in
     (h.0, λ none. h.1 (front_empty (transcript_of done) grows.behind (grows.parts ∙ none)), front_grows old new (transcript_of done) (transcript_of (done ++ more)) grows h.2)

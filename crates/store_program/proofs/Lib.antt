@@ -4,4 +4,6 @@ pub mod Standing
 pub mod Going
 pub mod Ending
 pub mod Whole
+pub mod LiveLines
+pub mod LiveEnding
 pub mod WordLemmas

@@ -12,7 +12,7 @@ use Rattle.script_net.specs.declared.runner.Runner.{Runner}
 use Rattle.store_program.specs.declared.feed.Stage.{Stage}
 use Rattle.store_program.specs.declared.feed.Stage.TheVariants.{Opening, Running}
 use Rattle.store_program.specs.Feeding.{StandsAt, StandsBehind}
-use Rattle.store_program.specs.Run.{lacks_header}
+use Rattle.store_program.specs.Run.{is_no_script, lacks_header}
 use Rattle.store_program.proofs.Transcripts.{from_command-none, from_command-more, from_command-passed, from_command-first, replies_more, world_more}
 
 -- ---- before the header
@@ -27,8 +27,8 @@ module _ (done : List (List ℕ)) (line : List ℕ) (none : from_command done �
   pub begins_here : is_passed_over line ≡ false → from_command (done ++ line ∷ []) ≡ line ∷ []
   begins_here command = from_command-none done (line ∷ []) none ∙ from_command-first line command
 
-  pub refused_here : is_passed_over line ≡ false → opened (header_of line) ≡ None → lacks_header false (from_command (done ++ line ∷ [])) ≡ true
-  refused_here command refused = ap (lacks_header false) (begins_here command) ∙ ap is_none refused
+  pub refused_here : is_passed_over line ≡ false → opened (header_of line) ≡ None → lacks_header is_no_script false (from_command (done ++ line ∷ [])) ≡ true
+  refused_here command refused = ap (lacks_header is_no_script false) (begins_here command) ∙ ap is_none refused
 
   pub opens_here : (runner : Runner) (plain : PlainWorld) → is_passed_over line ≡ false → opened (header_of line) ≡ Some plain → RunsIn runner plain → StandsBehind runner (done ++ line ∷ [])
   opens_here runner plain command opens runs = record { header = line; behind = []; plain = plain; begins = begins_here command; opens = opens; runs = runs }
@@ -67,10 +67,10 @@ module _ (done : List (List ℕ)) (line : List ℕ) (old : Runner) (stands : Sta
 
 -- ---- headers
 
-pub behind_header : (ended : Bool) (runner : Runner) (lines : List (List ℕ)) → StandsBehind runner lines → lacks_header ended (from_command lines) ≡ false
-behind_header ended runner lines s = ap (lacks_header ended) s.begins ∙ ap is_none s.opens
+pub behind_header : (ended : Bool) (runner : Runner) (lines : List (List ℕ)) → StandsBehind runner lines → lacks_header is_no_script ended (from_command lines) ≡ false
+behind_header ended runner lines s = ap (lacks_header is_no_script ended) s.begins ∙ ap is_none s.opens
 
 -- where a script stands no header is lacking so far
-pub stands_well : (stage : Stage) (lines : List (List ℕ)) → StandsAt stage lines → lacks_header false (from_command lines) ≡ false
-stands_well Opening lines s = ap (lacks_header false) s
+pub stands_well : (stage : Stage) (lines : List (List ℕ)) → StandsAt stage lines → lacks_header is_no_script false (from_command lines) ≡ false
+stands_well Opening lines s = ap (lacks_header is_no_script false) s
 stands_well (Running runner) lines s = behind_header false runner lines s

@@ -3,10 +3,11 @@ use Rattle.std.proofs.Common.{◌≡◌, ℕ, Bool, true, false, cond, Some, Non
 use Rattle.std.specs.Prelude.{is_none}
 use Rattle.script_lang.specs.Words.{is_passed_over}
 use Rattle.script_lang.specs.Headers.{header_of}
+use Rattle.script_lang.specs.declared.header.Header.{Header}
 use Rattle.world_model.specs.World.{PlainWorld}
 use Rattle.script_net.specs.Lines.{from_command}
 use Rattle.script_net.specs.Transcript.{opened, replies_to, replies_behind, world_after, world_of_line, text_of_line, transcript_from, transcript_of}
-use Rattle.store_program.specs.Run.{lacks_header, TookFront}
+use Rattle.store_program.specs.Run.{is_no_script, lacks_header, TookFront}
 
 -- where lines are all passed over, those behind them begin
 pub from_command-none : (done more : List (List ℕ)) → from_command done ≡ [] → from_command (done ++ more) ≡ from_command more
@@ -68,21 +69,23 @@ front_grows old new text longer f t = record {
 }
 
 -- lines that have no header have none with more lines behind them
-pub lacks_more : (ended : Bool) (done more : List (List ℕ)) → lacks_header false (from_command done) ≡ true → lacks_header ended (from_command (done ++ more)) ≡ true
-lacks_more ended [] more = λ e. absurd cc
-lacks_more ended (x ∷ xs) more = elim (is_passed_over x) as (λ v. lacks_header false (cond v (from_command xs) (x ∷ xs)) ≡ true → lacks_header ended (cond v (from_command (xs ++ more)) (x ∷ (xs ++ more))) ≡ true) [
-  | true ↦ lacks_more ended xs more
-  | false ↦ λ e. e
-]
+pub lacks_more : (is_none_of : Option Header → Bool) (ended : Bool) (done more : List (List ℕ)) → lacks_header is_none_of false (from_command done) ≡ true
+    → lacks_header is_none_of ended (from_command (done ++ more)) ≡ true
+lacks_more is_none_of ended [] more = λ e. absurd cc
+lacks_more is_none_of ended (x ∷ xs) more = elim (is_passed_over x) as (λ v. lacks_header is_none_of false (cond v (from_command xs) (x ∷ xs)) ≡ true
+    → lacks_header is_none_of ended (cond v (from_command (xs ++ more)) (x ∷ (xs ++ more))) ≡ true) [
+      | true ↦ lacks_more is_none_of ended xs more
+      | false ↦ λ e. e
+    ]
 
 no_replies : (o : Option PlainWorld) (lines : List (List ℕ)) → is_none o ≡ true → replies_behind o lines ≡ []
 no_replies None lines e = refl
 no_replies (Some world) lines e = absurd cc
 
 -- and no reply was made before they had none
-pub lacks_silent : (done more : List (List ℕ)) → lacks_header false (from_command (done ++ more)) ≡ true → transcript_of done ≡ []
+pub lacks_silent : (done more : List (List ℕ)) → lacks_header is_no_script false (from_command (done ++ more)) ≡ true → transcript_of done ≡ []
 lacks_silent [] more = λ e. refl
-lacks_silent (x ∷ xs) more = elim (is_passed_over x) as (λ v. lacks_header false (cond v (from_command (xs ++ more)) (x ∷ (xs ++ more))) ≡ true → transcript_from (cond v (from_command xs) (x ∷ xs)) ≡ []) [
+lacks_silent (x ∷ xs) more = elim (is_passed_over x) as (λ v. lacks_header is_no_script false (cond v (from_command (xs ++ more)) (x ∷ (xs ++ more))) ≡ true → transcript_from (cond v (from_command xs) (x ∷ xs)) ≡ []) [
   | true ↦ lacks_silent xs more
   | false ↦ λ e. no_replies (opened (header_of x)) xs e
 ]
@@ -92,9 +95,9 @@ header_behind None lines some = absurd (some refl)
 header_behind (Some world) lines some = refl
 
 -- lines with a reply have a header
-pub replies_have_header : (ended : Bool) (lines : List (List ℕ)) → (transcript_of lines ≡ [] → ⊥) → lacks_header ended (from_command lines) ≡ false
+pub replies_have_header : (ended : Bool) (lines : List (List ℕ)) → (transcript_of lines ≡ [] → ⊥) → lacks_header is_no_script ended (from_command lines) ≡ false
 replies_have_header ended [] = λ some. absurd (some refl)
-replies_have_header ended (x ∷ xs) = elim (is_passed_over x) as (λ v. (transcript_from (cond v (from_command xs) (x ∷ xs)) ≡ [] → ⊥) → lacks_header ended (cond v (from_command xs) (x ∷ xs)) ≡ false) [
+replies_have_header ended (x ∷ xs) = elim (is_passed_over x) as (λ v. (transcript_from (cond v (from_command xs) (x ∷ xs)) ≡ [] → ⊥) → lacks_header is_no_script ended (cond v (from_command xs) (x ∷ xs)) ≡ false) [
   | true ↦ replies_have_header ended xs
   | false ↦ λ some. header_behind (opened (header_of x)) xs some
 ]

@@ -6,7 +6,7 @@ use Rattle.std.proofs.lemmas.List.{append-nil}
 use Rattle.script_net.specs.Lines.{is_newline, lines_of, from_command}
 use Rattle.script_net.specs.Transcript.{transcript_of, transcript}
 use Rattle.store_program.specs.Feeding.{IsDone, IsPart}
-use Rattle.store_program.specs.Run.{lacks_header}
+use Rattle.store_program.specs.Run.{is_no_script, lacks_header}
 use Rattle.store_program.proofs.Splits.{done_line, lines_part}
 use Rattle.store_program.proofs.Transcripts.{lacks_more, lacks_silent}
 
@@ -25,9 +25,9 @@ module _ (script : List ℕ) (done : List (List ℕ)) (part rest : List ℕ) (no
 
 -- a script whose first lines lack a header has no replies, and they had none
 pub silent_script : (script : List ℕ) (done more : List (List ℕ)) (line : List ℕ) → (done ++ line ∷ []) ++ more ≡ lines_of script
-    → lacks_header false (from_command (done ++ line ∷ [])) ≡ true → transcript_of done ≡ transcript script
+    → lacks_header is_no_script false (from_command (done ++ line ∷ [])) ≡ true → transcript_of done ≡ transcript script
 silent_script script done more line are lacks =
     let lines : List (List ℕ) = (done ++ line ∷ []) ++ more in
     lacks_silent done (line ∷ []) lacks
     ∙ sym (ap transcript_of (sym are)
-    ∙ lacks_silent lines [] (ap (λ (ls : List (List ℕ)). lacks_header false (from_command ls)) (append-nil lines) ∙ lacks_more false (done ++ line ∷ []) more lacks))
+    ∙ lacks_silent lines [] (ap (λ (ls : List (List ℕ)). lacks_header is_no_script false (from_command ls)) (append-nil lines) ∙ lacks_more is_no_script false (done ++ line ∷ []) more lacks))

@@ -14,7 +14,7 @@ use Rattle.store_program.specs.declared.feed.Stage.{Stage}
 use Rattle.store_program.specs.declared.feed.Stage.TheVariants.{Opening, Running}
 use Rattle.store_program.specs.declared.run.Status.{Status}
 use Rattle.store_program.specs.declared.run.Status.TheVariants.{Fine, BadHeader, WriteFault, NoMemory}
-use Rattle.store_program.specs.Run.{lacks_header, TookFront}
+use Rattle.store_program.specs.Run.{lacks_header, is_no_script, TookFront}
 
 -- a run stands in the plain world after the lines behind the header
 pub record StandsBehind (runner : Runner) (lines : List (List ℕ)) : Type 0 where
@@ -51,7 +51,7 @@ pub record GoesOn (stage : Stage) (done : List (List ℕ)) (out : List ℕ) (old
 
 -- why the run of these lines stopped, and what the sink then took
 abbrev pub StopsAs : Status → List (List ℕ) → (old new : Option (List ℕ)) (before after : ℕ) → Type 0
-StopsAs BadHeader lines old new before after = (lacks_header false (from_command lines) ≡ true) × (new ≡ old)
+StopsAs BadHeader lines old new before after = (lacks_header is_no_script false (from_command lines) ≡ true) × (new ≡ old)
 StopsAs WriteFault lines old new before after =
     (before < after) × (transcript_of lines ≡ [] → ⊥) × TookFront old new (transcript_of lines)
 StopsAs NoMemory lines old new before after = TookFront old new (transcript_of lines)
@@ -66,8 +66,8 @@ pub record IsFed (feed : Feed) (bytes : List ℕ) (out : List ℕ) (old new : Op
 
 -- how a script whose bytes have all come ends
 abbrev pub Concludes : Status → List ℕ → (old new : Option (List ℕ)) (before after : ℕ) → Type 0
-Concludes Fine bytes old new before after = (lacks_header true (from_command (lines_of bytes)) ≡ false) × Took old new (transcript bytes)
-Concludes BadHeader bytes old new before after = (lacks_header true (from_command (lines_of bytes)) ≡ true) × (new ≡ old)
+Concludes Fine bytes old new before after = (lacks_header is_no_script true (from_command (lines_of bytes)) ≡ false) × Took old new (transcript bytes)
+Concludes BadHeader bytes old new before after = (lacks_header is_no_script true (from_command (lines_of bytes)) ≡ true) × (new ≡ old)
 Concludes WriteFault bytes old new before after =
     (before < after) × (transcript bytes ≡ [] → ⊥) × TookFront old new (transcript bytes)
 Concludes NoMemory bytes old new before after = TookFront old new (transcript bytes)

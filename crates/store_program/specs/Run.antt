@@ -1,7 +1,9 @@
 -- What a run of the program answers and writes.
-use Rattle.std.specs.Prelude.{◌≡◌, ◌⊎◌, ℕ, ◌+◌, ◌<◌, ◌≤◌, Some, Bool, true, false, List, [], ◌∷◌, ◌++◌, length, take, Option, is_none}
+use Rattle.std.specs.Prelude.{◌≡◌, ◌⊎◌, ℕ, ◌+◌, ◌<◌, ◌≤◌, Some, None, Bool, true, false, List, [], ◌∷◌, ◌++◌, length, take, Option, is_none}
 use Rattle.store_io.specs.Bytes.{Gave, Ended, Took}
 use Rattle.script_lang.specs.Headers.{header_of}
+use Rattle.script_lang.specs.declared.header.Header.{Header}
+use Rattle.script_lang.specs.declared.header.Header.TheVariants.{Store, Live}
 use Rattle.script_net.specs.Lines.{lines_of, ended_lines_of, whole_lines_of, from_command}
 use Rattle.script_net.specs.Honest.{IsFairText}
 use Rattle.script_net.specs.Transcript.{opened, transcript_of, transcript}
@@ -16,15 +18,24 @@ use Rattle.workload.specs.Summary.{summary}
 abbrev pub most_input : ℕ
 most_input = 4194304
 
--- whether lines have no header where a header must be: their first command line is no header of a script, or all lines
+-- whether a line's header is none of a script, and whether it is none of a live input
+abbrev pub is_no_script : Option Header → Bool
+is_no_script header = is_none (opened header)
+
+abbrev pub is_no_live : Option Header → Bool
+is_no_live (Some (Live n w clients turns loss)) = false
+is_no_live (Some (Store n w limit)) = true
+is_no_live None = true
+
+-- whether lines have no header of a mode where a header must be: their first command line is none of the mode, or all lines
 -- have come and there is no command line
-abbrev pub lacks_header : Bool → List (List ℕ) → Bool
-lacks_header all [] = all
-lacks_header all (first ∷ lines) = is_none (opened (header_of first))
+abbrev pub lacks_header : (Option Header → Bool) → Bool → List (List ℕ) → Bool
+lacks_header is_none_of all [] = all
+lacks_header is_none_of all (first ∷ lines) = is_none_of (header_of first)
 
 -- whether the bytes that a source gave lack a header, as far as the whole lines tell of the first that an input may have
-abbrev pub is_headless : Bool → List ℕ → Bool
-is_headless ended given = lacks_header ended (from_command (whole_lines_of ended (take most_input given)))
+abbrev pub is_headless : (Option Header → Bool) → Bool → List ℕ → Bool
+is_headless is_none_of ended given = lacks_header is_none_of ended (from_command (whole_lines_of ended (take most_input given)))
 
 -- the sink took a front of a text
 pub record TookFront (old new : Option (List ℕ)) (text : List ℕ) : Type 0 where
@@ -37,38 +48,38 @@ pub record TookFront (old new : Option (List ℕ)) (text : List ℕ) : Type 0 wh
 pub record EndsFine (given : List ℕ) (left : Option (List ℕ)) (old new : Option (List ℕ)) : Type 0 where
   pub ended : Ended left
   pub short : length given ≤ most_input
-  pub header : is_headless true given ≡ false
+  pub header : is_headless is_no_script true given ≡ false
   pub wrote : Took old new (transcript given)
 
 -- nothing was written: the lines that have ended lack a header, or all do and the input has ended
-pub record EndsHeadless (given : List ℕ) (left : Option (List ℕ)) (old new : Option (List ℕ)) : Type 0 where
-  pub lacks : (is_headless false given ≡ true) ⊎ (Ended left × (length given ≤ most_input) × (is_headless true given ≡ true))
+pub record EndsHeadless (is_none_of : Option Header → Bool) (given : List ℕ) (left : Option (List ℕ)) (old new : Option (List ℕ)) : Type 0 where
+  pub lacks : (is_headless is_none_of false given ≡ true) ⊎ (Ended left × (length given ≤ most_input) × (is_headless is_none_of true given ≡ true))
   pub wrote : new ≡ old
 
 -- one byte too many came, and the replies to the lines that ended before it were written
 pub record EndsTooLong (given : List ℕ) (old new : Option (List ℕ)) : Type 0 where
   pub long : length given ≡ most_input + 1
-  pub header : is_headless false given ≡ false
+  pub header : is_headless is_no_script false given ≡ false
   pub wrote : Took old new (transcript_of (ended_lines_of (take most_input given)))
 
 -- a read failed, and the replies to the lines that ended before it were written
 pub record EndsBroken (given : List ℕ) (faults_old faults_new : ℕ) (old new : Option (List ℕ)) : Type 0 where
   pub fault : faults_old < faults_new
   pub short : length given ≤ most_input
-  pub header : is_headless false given ≡ false
+  pub header : is_headless is_no_script false given ≡ false
   pub wrote : Took old new (transcript_of (ended_lines_of given))
 
 -- a write failed, and a front of the transcript was written
 pub record EndsUnwritten (given : List ℕ) (faults_old faults_new : ℕ) (old new : Option (List ℕ)) : Type 0 where
   pub fault : faults_old < faults_new
-  pub header : is_headless false given ≡ false
+  pub header : is_headless is_no_script false given ≡ false
   pub wrote : TookFront old new (transcript (take most_input given))
 
 -- what a status says of the bytes that the source gave and has left, and of what the sink held and holds
 abbrev pub Ends : Status → (given : List ℕ) (left : Option (List ℕ)) (reads_old reads_new writes_old writes_new : ℕ) (old new : Option (List ℕ)) → Type 0
 Ends Fine given left reads_old reads_new writes_old writes_new old new = EndsFine given left old new
 Ends BadWords given left reads_old reads_new writes_old writes_new old new = ⊥
-Ends BadHeader given left reads_old reads_new writes_old writes_new old new = EndsHeadless given left old new
+Ends BadHeader given left reads_old reads_new writes_old writes_new old new = EndsHeadless is_no_script given left old new
 Ends TooLong given left reads_old reads_new writes_old writes_new old new = EndsTooLong given old new
 Ends ReadFault given left reads_old reads_new writes_old writes_new old new = EndsBroken given reads_old reads_new old new
 Ends WriteFault given left reads_old reads_new writes_old writes_new old new = EndsUnwritten given writes_old writes_new old new
@@ -86,7 +97,7 @@ pub record AnswersInput (result : Status) (left_old left_new : Option (List ℕ)
 pub record IsGoodScript (words : List (List ℕ)) (input : List ℕ) : Type 0 where
   pub asked : request_of words ≡ Some Script
   pub short : length input ≤ most_input
-  pub header : lacks_header true (from_command (lines_of input)) ≡ false
+  pub header : lacks_header is_no_script true (from_command (lines_of input)) ≡ false
 
 -- the sink took the replies to the lines of a script, and each is fair
 pub record TookFair (script : List ℕ) (old new : Option (List ℕ)) : Type 0 where

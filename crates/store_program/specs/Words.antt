@@ -7,7 +7,7 @@ use Rattle.clap.specs.Faults.{fault_of}
 use Rattle.script_lang.specs.Headers.{◌>>=◌, is_from_to}
 use Rattle.script_lang.specs.Numbers.{number_of}
 use Rattle.store_program.specs.declared.words.Request.{Request}
-use Rattle.store_program.specs.declared.words.Request.TheVariants.{Script, Make}
+use Rattle.store_program.specs.declared.words.Request.TheVariants.{Script, Live, Make}
 
 -- the mode, which has to be there
 abbrev pub mode_rule : Rule
@@ -48,10 +48,11 @@ kept_from_to least most number = if is_from_to least most number then Some numbe
 abbrev pub number_from_to : ℕ → ℕ → Option Text → Option ℕ
 number_from_to least most text = text >>= λ text. number_of text >>= kept_from_to least most
 
--- the run that a mode asks for, where it is one that is built
+-- the run that a mode asks for, where there is one
 abbrev pub request_in : (seed count n w : ℕ) → Text → Option Request
 request_in seed count n w mode =
     if same_text mode (codes "script") then Some Script
+    else if same_text mode (codes "live") then Some Live
     else if same_text mode (codes "make") then Some (Make seed count n w)
     else None
 
@@ -71,4 +72,5 @@ request_of words = if are_taken words then asked_for (λ name. first_of name (ma
 -- a made script is that of a store with a member
 abbrev pub HasMembers : Request → Type 0
 HasMembers Script = Unit {0}
+HasMembers Live = Unit {0}
 HasMembers (Make seed count n w) = 1 ≤ n

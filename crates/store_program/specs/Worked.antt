@@ -4,15 +4,16 @@ use Rattle.std.specs.Prelude.{◌≡◌, List, [], ◌∷◌, Option, Some, None
 use Rattle.clap.specs.Walk.{Text}
 use Rattle.store_program.specs.Words.{request_of}
 use Rattle.store_program.specs.declared.words.Request.{Request}
-use Rattle.store_program.specs.declared.words.Request.TheVariants.{Script, Make}
+use Rattle.store_program.specs.declared.words.Request.TheVariants.{Script, Live, Make}
 
 -- what words behind the program's name ask for
 abbrev pub asked_by : List Text → Option Request
 asked_by words = request_of (codes "store_program" ∷ words)
 
--- a script is asked for by its word, and so is a made one, with the numbers that are said and the usual ones for the others
+-- a script and a live run are asked for by their words, and so is a made script, with the numbers that are said and the usual ones for the others
 pub record ModesAreAsked : Type 0 where
   pub script : asked_by (codes "script" ∷ []) ≡ Some Script
+  pub live : asked_by (codes "live" ∷ []) ≡ Some Live
   pub make : asked_by (codes "make" ∷ []) ≡ Some (Make 1 1000 3 4)
   pub with_all : asked_by (codes "make" ∷ codes "--seed" ∷ codes "7" ∷ codes "--count" ∷ codes "20000" ∷ codes "--members" ∷ codes "16" ∷ codes "--window" ∷ codes "64" ∷ [])
       ≡ Some (Make 7 20000 16 64)

@@ -8,7 +8,7 @@ ghost use Rattle.script_net.specs.Lines.{from_command};
 ghost use Rattle.script_net.specs.Runs.{RunsIn};
 ghost use Rattle.script_net.specs.Transcript.{opened, transcript_of};
 ghost use Rattle.store_program.specs.Feeding.{StandsAt, is_opening};
-ghost use Rattle.store_program.specs.Run.{lacks_header};
+ghost use Rattle.store_program.specs.Run.{lacks_header, is_no_script};
 
 use crate::line::without_return;
 use op_base::{ByteList, NoMemory, Text};
@@ -17,10 +17,10 @@ use script_lang::{Header, is_passed_over, read_header};
 use script_net::Runner;
 use std::alloc::Global;
 
-/// Why a line wasn't run.
+/// Why a line wasn't taken.
 #[derive(Clone, Copy, Debug, PartialEq, Eq)]
 pub enum Stop {
-    /// It is the first command line, and no header of a script.
+    /// It is the first command line, and no header of the mode.
     BadHeader,
     /// There was no memory.
     NoMemory,
@@ -59,7 +59,7 @@ impl Stage {
         ensures text { (done : List (List ℕ)) (written : List ℕ) → StandsAt self.old done → written ++ out.old ≡ transcript_of done
             → OnOk result (written ++ out.new ≡ transcript_of (done ++ line.now ∷ [])) }
         ensures bad_header { (done : List (List ℕ)) → StandsAt self.old done
-            → IfErr result (λ stop. stop ≡ Stop.BadHeader → lacks_header false (from_command (done ++ line.now ∷ [])) ≡ true) }
+            → IfErr result (λ stop. stop ≡ Stop.BadHeader → lacks_header is_no_script false (from_command (done ++ line.now ∷ [])) ≡ true) }
         ensures err { OnErr result (out.new ≡ out.old) }
     {
         match self {
@@ -114,7 +114,7 @@ impl Feed {
         ensures text { (done : List (List ℕ)) (written : List ℕ) → StandsAt self.old.stage done → written ++ out.old ≡ transcript_of done
             → OnOk result (written ++ out.new ≡ transcript_of (done ++ strip_carriage_return (self.old.part ++ bytes.now) ∷ [])) }
         ensures bad_header { (done : List (List ℕ)) → StandsAt self.old.stage done
-            → IfErr result (λ stop. stop ≡ Stop.BadHeader → lacks_header false (from_command (done ++ strip_carriage_return (self.old.part ++ bytes.now) ∷ [])) ≡ true) }
+            → IfErr result (λ stop. stop ≡ Stop.BadHeader → lacks_header is_no_script false (from_command (done ++ strip_carriage_return (self.old.part ++ bytes.now) ∷ [])) ≡ true) }
         ensures err { OnErr result (out.new ≡ out.old) }
     {
         if self.part.is_empty() {

@@ -1,9 +1,13 @@
-//! The store's program: it runs a script from standard input, line by line, and writes the transcript; or it makes a script,
-//! runs it, and writes a summary.
+//! The store's program: it runs a script from standard input, line by line, and writes the transcript; or it runs a live input
+//! from there, in threads, and writes what came of it; or it makes a script, runs it, and writes a summary.
 #![tactic(auto)]
 
 mod feed;
 mod line;
+mod live_feed;
+mod live_mode;
+#[cfg(test)]
+mod live_tests;
 mod made;
 mod run;
 #[cfg(test)]

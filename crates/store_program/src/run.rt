@@ -10,23 +10,27 @@ ghost use Rattle.script_net.specs.Lines.{ended_lines_of};
 ghost use Rattle.script_net.specs.Transcript.{transcript};
 ghost use Rattle.store_program.specs.Feeding.{GoesOn, StopsAs, IsFed, Concludes};
 ghost use Rattle.store_program.specs.Run.{AnswersInput, AnswersMade, IsGoodScript, TookFront, TookFair, made_summary};
+ghost use Rattle.store_program.specs.Live.{AnswersLive, IsGoodLive, TookLive};
 ghost use Rattle.store_program.specs.Statuses.{number_of_status};
 ghost use Rattle.store_program.specs.Words.{request_of};
 
 use crate::feed::{Feed, Stop};
 use crate::line::split_line;
+use crate::live_mode::run_live;
 use crate::made::run_made;
 use crate::words::{Request, request_of};
 use op_base::{NoMemory, Text};
 use std::alloc::Global;
 use std::process::ExitCode;
+use std::sync::Wait;
+use std::thread::Threads;
 use store_io::{Gate, Sink, Source, write_whole};
 
 /// An input has at most so many bytes.
 pub const MOST_INPUT: usize = 4194304;
 
 /// A read asks for at most so many bytes.
-const MOST_PIECE: usize = 65536;
+pub const MOST_PIECE: usize = 65536;
 
 /// Replies are written once there are so many bytes of them.
 const MOST_HELD: usize = 65536;
@@ -38,7 +42,7 @@ pub enum Status {
     Fine = 0,
     /// The words aren't those of a run.
     BadWords = 1,
-    /// The input doesn't begin with a header of a script.
+    /// The input doesn't begin with a header of the mode.
     BadHeader = 2,
     /// The input has more than 4194304 bytes.
     TooLong = 3,
@@ -187,25 +191,30 @@ fn run_input<S: Source, K: Sink>(alloc: Global, source: &mut S, sink: &mut K) ->
     }
 }
 
-/// Runs the program: reads its words, and either runs the script that the source has, line by line as it comes, or makes a
-/// script and runs that. Standard output gets the transcript, or the summary of the made one, and nothing else.
+/// Runs the program: reads its words, and runs the script that the source has, line by line as it comes; or runs the live
+/// input that it has, in threads; or makes a script and runs that. Standard output gets the transcript, the live text or the
+/// summary of the made script, and nothing else.
 ///
 /// Of a script that is read each line that has come whole is run, and its reply written, before more is read. So where the
-/// source fails, the input is too long or memory runs out, the replies to the lines before are written. The summary of a
-/// made script is whole before its first byte is written. `rt` and `gate` serve runs over several threads, which are not
-/// built yet.
-pub fn run<R, S: Source, K: Sink, G: Gate + Sync>(
-    _rt: &R,
+/// source fails, the input is too long or memory runs out, the replies to the lines before are written. A live text and the
+/// summary of a made script are whole before their first byte is written.
+///
+/// In mode `live` threads of `rt` wait for one another, and `gate` may hold them: what a clause says holds where the call
+/// returns, and no clause says that it does, that two threads ran at once, or that a letter came. The other modes neither
+/// wait nor start a thread.
+pub fn run<R: Threads + Wait + Sync, S: Source, K: Sink, G: Gate + Sync>(
+    rt: &R,
     alloc: Global,
     words: &[String],
     source: &mut S,
     sink: &mut K,
-    _gate: &G,
+    gate: &G,
 ) -> Status
-    // The words decide first: where they ask for no run, nothing is written, and only a script that they ask for is read.
+    // The words decide first: where they ask for no run, nothing is written, and only an input that they ask for is read.
     ensures bad_words { result ≡ Status.BadWords → request_of (map string_bytes words.now) ≡ None }
     ensures refused { request_of (map string_bytes words.now) ≡ None → (result ≡ Status.BadWords) ⊎ (result ≡ Status.NoMemory) }
-    ensures unread { (request_of (map string_bytes words.now) ≡ Some Request.Script → ⊥) → source.new ≡ source.old }
+    ensures unread { (request_of (map string_bytes words.now) ≡ Some Request.Script → ⊥) → (request_of (map string_bytes words.now) ≡ Some Request.Live → ⊥)
+        → source.new ≡ source.old }
     ensures unwritten { request_of (map string_bytes words.now) ≡ None → sink.new ≡ sink.old }
 
     // A script: what is read, answered and written, of the bytes that the source gave in the call.
@@ -216,6 +225,10 @@ pub fn run<R, S: Source, K: Sink, G: Gate + Sync>(
     // a change of members, of a store that didn't settle.
     ensures fair { (input : List ℕ) → S.left source.old ≡ Some input → request_of (map string_bytes words.now) ≡ Some Request.Script
         → is_unforged input ≡ true → result ≡ Status.Fine → TookFair input (K.held sink.old) (K.held sink.new) }
+
+    // A live input: the same, of a text that is right for it.
+    ensures answers_live { request_of (map string_bytes words.now) ≡ Some Request.Live
+        → AnswersLive result (S.left source.old) (S.left source.new) (S.faults source.old) (S.faults source.new) (K.faults sink.old) (K.faults sink.new) (K.held sink.old) (K.held sink.new) }
 
     // A made script: what is written is its summary.
     ensures makes { (seed count n w : ℕ) → request_of (map string_bytes words.now) ≡ Some (Request.Make seed count n w)
@@ -231,13 +244,20 @@ pub fn run<R, S: Source, K: Sink, G: Gate + Sync>(
         → S.faults source.new ≡ S.faults source.old → K.faults sink.new ≡ K.faults sink.old
         → (result ≡ Status.NoMemory) ⊎ ((result ≡ Status.Fine) × Took (K.held sink.old) (K.held sink.new) (transcript input)) }
 
-    // And so is a made one over a sink that does not fail.
+    // And so is a good live input, by a text that is right for it.
+    ensures complete_live { (input : List ℕ) → S.left source.old ≡ Some input
+        → IsGoodLive (map string_bytes words.now) input
+        → S.faults source.new ≡ S.faults source.old → K.faults sink.new ≡ K.faults sink.old
+        → (result ≡ Status.NoMemory) ⊎ ((result ≡ Status.Fine) × TookLive input (K.held sink.old) (K.held sink.new)) }
+
+    // And so is a made script over a sink that does not fail.
     ensures complete_made { (seed count n w : ℕ) → request_of (map string_bytes words.now) ≡ Some (Request.Make seed count n w)
         → K.faults sink.new ≡ K.faults sink.old
         → (result ≡ Status.NoMemory) ⊎ ((result ≡ Status.Fine) × Took (K.held sink.old) (K.held sink.new) (made_summary seed count n w)) }
 {
     match request_of(alloc, words) {
         Ok(Some(Request::Script)) => run_input(alloc, source, sink),
+        Ok(Some(Request::Live)) => run_live(rt, alloc, source, sink, gate),
         Ok(Some(Request::Make { seed, count, n, w })) => run_made(alloc, seed, count, n, w, sink),
         Ok(None) => Status::BadWords,
         Err(NoMemory) => Status::NoMemory,

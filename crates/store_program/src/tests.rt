@@ -5,23 +5,25 @@ ghost use Rattle.std.specs.Prelude.{◌≤◌};
 use crate::run::{MOST_INPUT, Status, run};
 use std::alloc::{AllocError, Global};
 use std::process::ExitCode;
+use std::sync::Wait;
 use std::test::Fail;
-use store_io::{MemorySink, MemorySource, OpenGate};
+use std::thread::Threads;
+use store_io::{Gate, MemorySink, MemorySource, OpenGate};
 
 const FIRST: &[u8] = b"store 1 1\ndo 0 counter:a inc 5\nask 0 counter:a\n";
 
 /// A source and a sink: how many bytes a call of each moves at most, and which calls of each fail.
 #[derive(Clone, Copy)]
-struct Streams<'a> {
-    read: usize,
-    failing_reads: &'a [u32],
-    write: usize,
-    failing_writes: &'a [u32],
+pub struct Streams<'a> {
+    pub read: usize,
+    pub failing_reads: &'a [u32],
+    pub write: usize,
+    pub failing_writes: &'a [u32],
     ghost read_some: { 1 ≤ read },
     ghost write_some: { 1 ≤ write },
 }
 
-const WHOLE: Streams<'static> = Streams {
+pub const WHOLE: Streams<'static> = Streams {
     read: 65536,
     failing_reads: &[],
     write: 65536,
@@ -29,11 +31,22 @@ const WHOLE: Streams<'static> = Streams {
 };
 
 /// Runs words over an input, and gives the status and what was written.
-fn outcome(
-    rt: &HostRuntime,
+fn outcome<R: Threads + Wait + Sync + AllocGlobal>(
+    rt: &R,
     words: &[&str],
     input: &[u8],
     streams: Streams<'_>,
+) -> Result<(Status, Vec<u8>), AllocError> {
+    outcome_at(rt, words, input, streams, &OpenGate)
+}
+
+/// The same with a gate.
+pub fn outcome_at<R: Threads + Wait + Sync + AllocGlobal, G: Gate + Sync>(
+    rt: &R,
+    words: &[&str],
+    input: &[u8],
+    streams: Streams<'_>,
+    gate: &G,
 ) -> Result<(Status, Vec<u8>), AllocError> {
     let alloc = rt.alloc();
     let mut texts = Vec::new(alloc);
@@ -53,19 +66,15 @@ fn outcome(
     ) else {
         return Err(AllocError);
     };
-    let status = run(
-        rt,
-        alloc,
-        texts.as_slice(),
-        &mut source,
-        &mut sink,
-        &OpenGate,
-    );
+    let status = run(rt, alloc, texts.as_slice(), &mut source, &mut sink, gate);
     Ok((status, Vec::from_slice(alloc, sink.bytes())?))
 }
 
 /// Runs a script, and gives the status and what was written.
-fn script(rt: &HostRuntime, input: &[u8]) -> Result<(Status, Vec<u8>), AllocError> {
+fn script<R: Threads + Wait + Sync + AllocGlobal>(
+    rt: &R,
+    input: &[u8],
+) -> Result<(Status, Vec<u8>), AllocError> {
     outcome(rt, &["store_program", "script"], input, WHOLE)
 }
 
@@ -168,12 +177,14 @@ fn only_the_words_of_a_run_are_taken(rt: HostRuntime) -> Result<(), Fail> {
         assert_eq!(rt; status, Status::Fine, "at {words:?}");
         assert_eq!(rt; written.as_slice(), b"ok 1\n= 5\n".as_slice());
     }
-    let bad: [&[&str]; 24] = [
+    let bad: [&[&str]; 26] = [
         &[],
         &["store"],
         &["store", "frob"],
         &["store", "scripts"],
-        &["store", "live"],
+        &["store", "lives"],
+        &["store", "live", "make"],
+        &["store", "live", "--count", "20001"],
         &["store", "maker"],
         &["store", ""],
         &["store", "script", "extra"],
@@ -418,7 +429,7 @@ fn each_piece_of_a_script_on_two_can_fail(rt: HostRuntime) -> Result<(), Fail> {
 }
 
 /// A header, newlines up to a length, and then more bytes.
-fn padded(alloc: Global, head: &[u8], len: usize, tail: &[u8]) -> Result<Vec<u8>, AllocError> {
+pub fn padded(alloc: Global, head: &[u8], len: usize, tail: &[u8]) -> Result<Vec<u8>, AllocError> {
     let mut bytes = Vec::with_capacity(alloc, len)?;
     bytes.extend_from_slice(head)?;
     for _ in head.len()..len {

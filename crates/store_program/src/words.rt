@@ -17,6 +17,8 @@ use std::alloc::{AllocError, Global};
 pub enum Request {
     /// The transcript of the script that the input is.
     Script,
+    /// The text of a run of the live input that the input is.
+    Live,
     /// The summary of a script that is made and of its transcript: of this seed, so many lines that are drawn, `n` members and
     /// a window of `w`.
     Make { seed: u32, count: u32, n: u8, w: u8 },
@@ -64,7 +66,7 @@ fn number_from_to(matches: &ArgMatches<'_>, name: &str, least: u32, most: u32) -
     }
 }
 
-/// The run that a mode asks for, where it is one that is built.
+/// The run that a mode asks for, where there is one.
 fn request_in(seed: u32, count: u32, n: u8, w: u8, mode: &str) -> Option<Request>
     requires { 1 ≤ n }
     ensures request { result ≡ request_in seed count n w mode.now }
@@ -72,6 +74,7 @@ fn request_in(seed: u32, count: u32, n: u8, w: u8, mode: &str) -> Option<Request
 {
     match mode {
         "script" => Some(Request::Script),
+        "live" => Some(Request::Live),
         "make" => Some(Request::Make { seed, count, n, w }),
         _ => None,
     }
@@ -89,7 +92,7 @@ fn asked_for(matches: &ArgMatches<'_>) -> Option<Request>
     request_in(seed, count, n, w, matches.get_str("mode")?)
 }
 
-/// The run that words ask for, the program's own name first: `script` or `make`, and `--seed`, `--count`, `--members` and
+/// The run that words ask for, the program's own name first: `script`, `live` or `make`, and `--seed`, `--count`, `--members` and
 /// `--window` with numbers in range, which `make` alone uses. `None` where they ask for none.
 pub fn request_of(alloc: Global, words: &[String]) -> Result<Option<Request>, NoMemory>
     ensures request { IfOk result (λ request. request ≡ request_of (map string_bytes words.now)) }

@@ -2,6 +2,7 @@ use Rattle.std.proofs.Common.{◌≡◌, ◌∙◌, Some, ap, sym}
 use Rattle.store_program.specs.declared.words.Request.{Request}
 use Rattle.store_program.specs.declared.words.Request.TheVariants.{Make}
 use Rattle.store_program.proofs.Ending.{completes, fine_is_fair, completes_asked}
+use Rattle.store_program.proofs.LiveEnding.{completes_live}
 use Rattle.store_program.proofs.run.run.Goals as goal
 
 pub returns-in-Ok-Some-Script-clause-complete : goal.returns-in-Ok-Some-Script-clause-complete
@@ -17,3 +18,7 @@ returns-in-Ok-Some-Make-clause-complete_made g c = λ seed count n w asked stead
     let is : made.field-0 ≡ Some (Make made.seed made.count made.n made.w) = made.field-0-is ∙ ap (λ (r : Request). Some r) made.field-0-0-is in
     completes_asked c.run_made.result (Some (Make seed count n w)) (Some (Make made.seed made.count made.n made.w)) (g.K.Sink.faults c.args.sink.now) (g.K.Sink.faults c.run_made.new.sink)
     (g.K.Sink.held c.args.sink.now) (g.K.Sink.held c.run_made.new.sink) (sym is ∙ (made.ensures.request ∙ asked)) c.run_made.ensures steady
+
+pub returns-in-Ok-Some-Live-clause-complete_live : goal.returns-in-Ok-Some-Live-clause-complete_live
+returns-in-Ok-Some-Live-clause-complete_live g c = λ input tells good no_reads no_writes.
+    completes_live _ _ _ _ _ _ _ _ input tells good.short good.header no_reads no_writes c.run_live.result c.run_live.ensures
