@@ -55,14 +55,14 @@ def drawn_operation(draw, keys):
     return words
 
 
-def drawn_input(seed, size):
+def drawn_input(seed, size, all_turns=(0, 1, 2, 3, 5, 10, 25, 60)):
     """A live input: of few members or many, small windows and large ones, with losses and bad lines. It has the fewer commands
     the more members it has: at most `size` commands of one."""
     draw = random.Random(seed)
     n = draw.choice([1, 2, 2, 3, 3, 4, 5, 6, 8, 11, 16])
     w = draw.choice([1, 1, 2, 3, 4, 8, 16, 31, 32, 33, 64])
     clients = draw.randint(1, 8)
-    turns = draw.choice([0, 1, 2, 3, 5, 10, 25, 60])
+    turns = draw.choice(all_turns)
     loss = draw.choice([0, 0, 0, 1, 2, 3, 5, 7, 50, 1000000])
     keys = draw.choice([[b"a"], [b"a", b"b"], [b"a", b"b", b"c", b"k.0_-"]])
     kinds = draw.choice([None, None, [draw.choice(KINDS)]])
