@@ -57,7 +57,7 @@ def drawn_operation(draw, keys):
 
 def drawn_input(seed, size, all_turns=(0, 1, 2, 3, 5, 10, 25, 60)):
     """A live input: of few members or many, small windows and large ones, with losses and bad lines. It has the fewer commands
-    the more members it has: at most `size` commands of one."""
+    the more members and turns it has, since each can be repeated as often: at most `size` commands of one member."""
     draw = random.Random(seed)
     n = draw.choice([1, 2, 2, 3, 3, 4, 5, 6, 8, 11, 16])
     w = draw.choice([1, 1, 2, 3, 4, 8, 16, 31, 32, 33, 64])
@@ -66,7 +66,7 @@ def drawn_input(seed, size, all_turns=(0, 1, 2, 3, 5, 10, 25, 60)):
     loss = draw.choice([0, 0, 0, 1, 2, 3, 5, 7, 50, 1000000])
     keys = draw.choice([[b"a"], [b"a", b"b"], [b"a", b"b", b"c", b"k.0_-"]])
     kinds = draw.choice([None, None, [draw.choice(KINDS)]])
-    count = draw.randint(0, max(8, size // n))
+    count = draw.randint(0, max(8, size // n // (1 + turns // 100)))
     lines = [draw.choice(SKIPPED) for _ in range(draw.randint(0, 2))]
     lines.append(draw.choice(HEADERS) % (n, w, clients, turns, loss))
     while count:
