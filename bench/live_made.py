@@ -20,8 +20,8 @@ VALUES = [b"a", b"b", b"c", b"milk", b"~", "\u00e9t\u00e9".encode(), "\U0001f34e
 BAD_LINES = [
     # too long, and no command
     b"0: ask counter:a" + b" " * 16384, b"x" * 16385,
-    b"frob", b":", b": ask counter:a", b"x: ask counter:a", b"0 : ask counter:a", b"0: frob", b"99: frob a b c d", b"0: client 0 0",
-    b"Client 0 0", b"live 1 1 1 0 0",
+    b"frob", b":", b": ask counter:a", b"x: ask counter:a", b"0 : ask counter:a", b"0: frob", b"99: frob a b c d",
+    b"0: client 0 0", b"Client 0 0", b"live 1 1 1 0 0",
     # words that lack, or are too many
     b"0:", b"99:", b"client", b"client 0", b"client 0 0 0", b"0: do", b"0: do counter:a", b"0: do awset:a add x y", b"0: ask",
     b"0: ask counter:a counter:a",
@@ -29,8 +29,8 @@ BAD_LINES = [
     b"8: ask counter:a", b"client 8 0", b"client 0 16", b"client x 0", b"client 0 0 \r", b"99999999999: ask counter:a",
     b"00000000000: do counter:a inc 1", b"4294967296: ask counter:",
     # no object, no act, no value, no amount
-    b"0: ask counter:", b"0: ask set:a", b"0: ask counter", b"0: do awset:A add x", b"0: ask mvreg:" + b"k" * 33, b"0: ask ewflag:a:b",
-    b"0: ask awset:a\r\r",
+    b"0: ask counter:", b"0: ask set:a", b"0: ask counter", b"0: do awset:A add x", b"0: ask mvreg:" + b"k" * 33,
+    b"0: ask ewflag:a:b", b"0: ask awset:a\r\r",
     b"0: do counter:a add x", b"0: do awset:a clear x", b"0: do awset:a add", b"0: do counter:a clear", b"0: do ewflag:a on",
     b"0: do mvreg:a rmv x",
     b"0: do awset:a add " + b"v" * 4097, b"0: do rwset:a rmv \xff", b"0: do mvreg:a write x\x01", b"0: do awset:a add \x7f",

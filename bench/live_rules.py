@@ -106,11 +106,11 @@ def message_of(data, n):
     at = 8 + 4 * n
     if len(data) < at or data[0] == 1:
         raise BadFrame(1 if len(data) < 4 + 4 * n or data[0] == 2 else 2)
-    faults = [(data[0] != 2, 2), (data[4:8] != bytes(4), 10), (data[2] != n, 3), (data[1] >= n, 4), (data[3] > len(OPERATIONS), 5)]
+    origin, code = data[1], data[3]
+    faults = [(data[0] != 2, 2), (data[4:8] != bytes(4), 10), (data[2] != n, 3), (origin >= n, 4), (code > len(OPERATIONS), 5)]
     for is_so, fault in faults:
         if is_so:
             raise BadFrame(fault)
-    origin, code = data[1], data[3]
     tag = tuple(int.from_bytes(data[8 + 4 * x:12 + 4 * x], "big") for x in range(n))
     if tag[origin] == 0 or max(tag) > LIMIT:
         raise BadFrame(6)

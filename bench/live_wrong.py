@@ -239,7 +239,8 @@ def _(draw, parts):
     late = {reply[1] for reply in parts.replies if int(reply[3]) > 0}
     first = {c: min(reply[0] for reply in parts.replies if reply[1] == c and int(reply[3]) > 0) for c in late}
     empty = [reply for reply in parts.told(b"=") if reply[4] in (b"=", b"= 0", b"= off")]
-    return of_one(draw, [reply for reply in empty if first.get(reply[1], reply[0]) < reply[0]], lambda reply: parts.with_place(reply, 0))
+    behind = [reply for reply in empty if first.get(reply[1], reply[0]) < reply[0]]
+    return of_one(draw, behind, lambda reply: parts.with_place(reply, 0))
 
 
 @change("equal operations of a client change their replies")

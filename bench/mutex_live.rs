@@ -17,7 +17,8 @@ use std::process::exit;
 use std::sync::Mutex;
 use std::thread;
 
-/// The bytes of the longest input, what a member may send, the letters of a mailbox, and what a courier posts and takes in a turn.
+/// The bytes of the longest input, what a member may send, the letters of a mailbox, and what a courier posts and takes in a
+/// turn.
 const CAP: u64 = 4_194_304;
 const LIMIT: u32 = 65_535;
 const MAILBOX: usize = 256;
@@ -27,14 +28,17 @@ const TAKEN: usize = 64;
 // ---------------------------------------------------------------- the input
 struct Header { n: usize, w: u32, clients: usize, turns: u32, loss: u32 }
 enum Command<'a> { Do(RawOp<'a>), Ask(Kind, &'a [u8]) }
-struct Input<'a> { header: Header, commands: Vec<Vec<Command<'a>>>, at: Vec<usize>, objects: BTreeMap<&'a [u8], (Kind, &'a [u8])>, text: Vec<u8> }
+/// Each client's commands and replica, the objects by their texts, and the text so far.
+struct Input<'a> {
+    header: Header, commands: Vec<Vec<Command<'a>>>, at: Vec<usize>, objects: BTreeMap<&'a [u8], (Kind, &'a [u8])>, text: Vec<u8>,
+}
 
 fn header(words: &[&[u8]]) -> Option<Header> {
     let [b"live", n, w, clients, turns, loss] = words else { return None };
     let within = |word: &[u8], low: u32, high: u32| number(word).filter(|x| (low..=high).contains(x));
     Some(Header {
-        n: within(n, 1, 16)? as usize, w: within(w, 1, 64)?, clients: within(clients, 1, 8)? as usize, turns: within(turns, 0, 10_000)?,
-        loss: within(loss, 0, 1_000_000)?,
+        n: within(n, 1, 16)? as usize, w: within(w, 1, 64)?, clients: within(clients, 1, 8)? as usize,
+        turns: within(turns, 0, 10_000)?, loss: within(loss, 0, 1_000_000)?,
     })
 }
 impl<'a> Input<'a> {
@@ -48,7 +52,8 @@ impl<'a> Input<'a> {
             let Some(input) = &mut input else {
                 let header = header(&words).filter(|_| line.len() <= LINE)?;
                 input = Some(Input {
-                    commands: (0..header.clients).map(|_| Vec::new()).collect(), at: (0..header.clients).map(|c| c % header.n).collect(),
+                    commands: (0..header.clients).map(|_| Vec::new()).collect(),
+                    at: (0..header.clients).map(|c| c % header.n).collect(),
                     objects: BTreeMap::new(), text: Vec::new(), header,
                 });
                 continue;
@@ -167,7 +172,8 @@ fn beat(member: &mut Member<u16>) -> bool {
 fn work(nodes: &[Node], input: &Input) -> Vec<Vec<Told>> {
     let Header { turns, loss, .. } = input.header;
     thread::scope(|scope| {
-        let clients: Vec<_> = input.commands.iter().zip(&input.at).map(|(commands, r)| scope.spawn(|| work_as_client(&nodes[*r], commands, turns))).collect();
+        let clients = input.commands.iter().zip(&input.at);
+        let clients: Vec<_> = clients.map(|(commands, r)| scope.spawn(|| work_as_client(&nodes[*r], commands, turns))).collect();
         for r in 0..nodes.len() { scope.spawn(move || work_as_courier(nodes, r, turns, loss)); }
         clients.into_iter().map(|client| client.join().unwrap()).collect()
     })
@@ -245,7 +251,8 @@ fn main() {
     let Some(mut input) = Input::read(&bytes[..bytes.len().min(CAP as usize)]) else { exit(2) };
     if bytes.len() > CAP as usize { exit(3) }
     let Header { n, w, .. } = input.header;
-    let nodes: Vec<Node> = (0..n).map(|r| Node { member: Mutex::new(Member::new(r, n, w, LIMIT)), mailbox: Mutex::new(VecDeque::new()) }).collect();
+    let open = |r| Node { member: Mutex::new(Member::new(r, n, w, LIMIT)), mailbox: Mutex::new(VecDeque::new()) };
+    let nodes: Vec<Node> = (0..n).map(open).collect();
     let told = work(&nodes, &input);
     let mut members: Vec<_> = nodes.into_iter().map(|node| node.member.into_inner().unwrap()).collect();
     settle(&mut members);

@@ -92,13 +92,13 @@ pub struct Member<N> {
 }
 impl<N: Num> Member<N> {
     pub fn new(me: usize, n: usize, w: u32, limit: u32) -> Self {
-        Member {
-            state: Replica::new(me, n, w, limit), names: Names::new(), early: Vec::new(), outbox: VecDeque::new(), journal: Vec::new(),
-        }
+        let state = Replica::new(me, n, w, limit);
+        Member { state, names: Names::new(), early: Vec::new(), outbox: VecDeque::new(), journal: Vec::new() }
     }
     /// A member that begins with what this has, and with its journal.
     pub fn newcomer(&self, me: usize) -> Self {
-        Member { names: self.names.clone(), journal: self.journal.clone(), state: self.state.newcomer(me), early: Vec::new(), outbox: VecDeque::new() }
+        let (state, names, journal) = (self.state.newcomer(me), self.names.clone(), self.journal.clone());
+        Member { state, names, early: Vec::new(), outbox: VecDeque::new(), journal }
     }
     fn deliver(&mut self, m: &Message<N>) {
         let (item, obj) = m.intern(&mut self.names);
