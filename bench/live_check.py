@@ -16,8 +16,9 @@ journal for each replica; and what each object is at each replica in the end. Th
 - In the end all replicas have delivered as many messages of each member, no beat would send, and the last answers are those
   of the whole journals.
 
-It works on the texts alone, and shares nothing with the program: `bench/live_rules.py` has the rules, over whole histories.
-The status is 0 where a text is right, else 1.
+It works on the texts alone, and shares nothing with the program: `bench/live_rules.py` has the rules, over whole histories. So a
+question takes with the square of what was done to its object, and a run with thousands of both takes minutes. The status is 0
+where a text is right, else 1.
 """
 
 import re
