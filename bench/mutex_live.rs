@@ -136,7 +136,7 @@ fn work_as_client(node: &Node, commands: &[Command], turns: u32) -> Vec<Told> {
         }
     }).collect()
 }
-/// A courier makes its turns. It yields after one in which it did nothing.
+/// A courier makes its turns, and yields after each.
 fn work_as_courier(nodes: &[Node], r: usize, turns: u32, loss: u32) {
     let (me, mut number, mut steps) = (&nodes[r], 0u32, Vec::new());
     for _ in 0..turns {
@@ -158,8 +158,8 @@ fn work_as_courier(nodes: &[Node], r: usize, turns: u32, loss: u32) {
             steps.clear();
             taken += 1;
         }
-        let beats = beat(&mut me.member.lock().unwrap());
-        if letters.is_empty() && taken == 0 && !beats { thread::yield_now(); }
+        beat(&mut me.member.lock().unwrap());
+        thread::yield_now();
     }
 }
 /// Whether a no-op was due, and was sent.
