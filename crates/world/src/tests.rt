@@ -1,10 +1,12 @@
 //! What no clause says: that calls answer where there is memory. A world has the fields that are named here and no others.
 
 ghost use Rattle.std.specs.Prelude.{◌≡◌, length, IfOk};
+ghost use Rattle.world.specs.Apart.{AreApart};
 
-use crate::{Given, RawGot, Regroup, Resent, Settle, World};
+use crate::{Given, NodeList, RawGot, Regroup, Resent, Settle, World};
 use op_base::{Act, Answer, ObjectId, Update};
 use replica_core::{Beat, CreateFault, Local, Receive};
+use replica_node::{Journal, Node};
 use std::alloc::Global;
 use std::test::Fail;
 
@@ -176,6 +178,42 @@ fn two_members_become_three_and_then_one(rt: HostRuntime) -> Result<(), Fail> {
     assert_eq!(rt; world.settle(alloc), Settle::Settled);
     assert_eq!(rt; world.regroup(alloc, 1), Regroup::Regrouped(2));
     assert_eq!(rt; world.answer(alloc, 0, &object)?, Answer::Sum(2));
+    Ok(())
+}
+
+/// Two nodes of one store that worked apart: the first added 1 to the counter, and the second received that.
+fn two_apart(alloc: Global) -> Result<NodeList, Fail>
+    ensures apart { IfOk result (λ nodes. ∥ AreApart 1 9 nodes.items ∥₁) }
+    ensures count { IfOk result (λ nodes. length nodes.items ≡ 2) }
+{
+    let mut first = Node::create(alloc, 0, 2, 1, 9, Journal::new(alloc))?;
+    let mut second = Node::create(alloc, 1, 2, 1, 9, Journal::new(alloc))?;
+    let Local::Sent(message) = first.local(alloc, &one_more(alloc)?) else {
+        return Err("nothing was sent".into());
+    };
+    if message.origin != 0 {
+        return Err("the message is another member's".into());
+    }
+    let Receive::Took(_) = second.receive(alloc, message) else {
+        return Err("nothing was received".into());
+    };
+    let mut nodes = Vec::with_capacity(alloc, 2)?;
+    nodes.push(first)?;
+    nodes.push(second)?;
+    Ok(nodes)
+}
+
+#[test]
+fn nodes_that_worked_apart_settle(rt: HostRuntime) -> Result<(), Fail> {
+    let alloc = rt.alloc();
+    let mut world = World::of_nodes(alloc, two_apart(alloc)?)?;
+    assert_eq!(rt; world.give(alloc, 1, 0, 1), Given::Got(Receive::Old));
+    assert_eq!(rt; world.give(alloc, 1, 0, 2), Given::Unsent);
+    assert_eq!(rt; world.settle(alloc), Settle::Settled);
+    let object = counter(alloc)?;
+    for r in 0..2 {
+        assert_eq!(rt; world.answer(alloc, r, &object)?, Answer::Sum(1));
+    }
     Ok(())
 }
 
