@@ -1,0 +1,53 @@
+use Rattle.std.proofs.Common.{sym, subst, ◌∙◌, IsTrue}
+use Rattle.causal_model.specs.Journal.{local_notes}
+use Rattle.causal_model.specs.Sending.{is_sent, local_rule}
+use Rattle.causal_model.specs.declared.outcome.Local.TheVariants as local
+use Rattle.replica_keeper.specs.Calls.{local_list}
+use Rattle.replica_keeper.specs.Durably.{numbers}
+use Rattle.replica_keeper.proofs.Durables.{moments, listed, answered}
+use Rattle.replica_keeper.proofs.durable.Durable.local.Goals as goal
+
+pub local-requires : goal.local-requires
+local-requires g c =
+    let it = c.args.self.now in
+    (it.kept c.in-Some.node (sym c.take.ensures.value ∙ c.in-Some.is)).opened
+
+pub returns-in-Ok-clause-answer : goal.returns-in-Ok-clause-answer
+returns-in-Ok-clause-answer g c =
+    let it = c.args.self.now in
+    let node = c.in-Some.node in
+    let of = numbers it.me it.n it.w it.limit in
+    let is_node = sym c.take.ensures.value ∙ c.in-Some.is in
+    let held = g.K.Keeper.held it.keeper in let synced = g.K.Keeper.synced it.keeper in
+    let k = it.kept node is_node in
+    answered of it.node node held synced is_node k local.NoMemory is_sent local_notes (λ o. local_rule o.w o.limit c.args.update.now) c.in-Ok.answer c.local.new.node.journal.notes c.in-Ok.ensures.answer
+
+pub returns-in-Ok-clause-list : goal.returns-in-Ok-clause-list
+returns-in-Ok-clause-list g c =
+    let it = c.args.self.now in
+    let node = c.in-Some.node in
+    let of = numbers it.me it.n it.w it.limit in
+    let is_node = sym c.take.ensures.value ∙ c.in-Some.is in
+    let held = g.K.Keeper.held it.keeper in let synced = g.K.Keeper.synced it.keeper in
+    let k = it.kept node is_node in
+    λ other. listed of it.node node held synced is_node k _ (λ o ns. local_list o ns c.args.update.now) (c.in-Ok.ensures.list other)
+
+pub returns-in-Ok-clause-any_moment : goal.returns-in-Ok-clause-any_moment
+returns-in-Ok-clause-any_moment g c =
+    let it = c.args.self.now in
+    let node = c.in-Some.node in
+    let of = numbers it.me it.n it.w it.limit in
+    let is_node = sym c.take.ensures.value ∙ c.in-Some.is in
+    let held = g.K.Keeper.held it.keeper in let synced = g.K.Keeper.synced it.keeper in
+    let k = it.kept node is_node in
+    λ _. moments of it.node node held synced is_node k g.K.Keeper.moment g.K.Keeper.left_since it.keeper c.local.new.keeper (λ o ns. local_list o ns c.args.update.now) c.local.ensures.any_moment
+
+pub returns-in-Err-clause-any_moment : goal.returns-in-Err-clause-any_moment
+returns-in-Err-clause-any_moment g c =
+    let it = c.args.self.now in
+    let node = c.in-Some.node in
+    let of = numbers it.me it.n it.w it.limit in
+    let is_node = sym c.take.ensures.value ∙ c.in-Some.is in
+    let held = g.K.Keeper.held it.keeper in let synced = g.K.Keeper.synced it.keeper in
+    let k = it.kept node is_node in
+    λ _. moments of it.node node held synced is_node k g.K.Keeper.moment g.K.Keeper.left_since it.keeper c.local.new.keeper (λ o ns. local_list o ns c.args.update.now) c.local.ensures.any_moment

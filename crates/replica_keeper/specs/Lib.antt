@@ -1,0 +1,5 @@
+pub mod Records
+pub mod Keeping
+pub mod Open
+pub mod Calls
+pub mod Durably

@@ -1,0 +1,34 @@
+-- An open replica, and what it keeps.
+use Rattle.std.specs.Prelude.{◌≡◌, ℕ, List, Option, Some, None, []}
+use Rattle.causal_model.specs.declared.note.Note.{Note}
+use Rattle.replica_node.specs.Notes.{Notes}
+use Rattle.replica_node.specs.contracts.journal.JournalRecorder.TheImpl.{ghosts}
+use Rattle.replica_node.specs.declared.node.Node.{Node}
+use Rattle.replica_keeper.specs.Records.{Settings}
+use Rattle.replica_keeper.specs.Keeping.{Keeps}
+
+-- a node with its journal in memory
+abbrev pub NotedNode : Type 0
+NotedNode = Node Notes ghosts
+
+-- the numbers that a node has
+abbrev pub settings_by : NotedNode → Settings
+settings_by node = record { me = node.inner.me; n = node.inner.n; w = node.inner.w; limit = node.inner.limit }
+
+-- a node is in its first epoch, and what its journal has is kept
+pub record IsOpen (node : NotedNode) (held : List ℕ) (synced : ℕ) : Type 0 where
+  pub first : node.first ≡ (node.inner.me, node.inner.n)
+  pub keeps : Keeps (settings_by node) node.journal.notes held synced
+
+-- the same, with these numbers
+pub record IsKept (of : Settings) (node : NotedNode) (held : List ℕ) (synced : ℕ) : Type 0 where
+  pub me : node.inner.me ≡ of.me
+  pub n : node.inner.n ≡ of.n
+  pub w : node.inner.w ≡ of.w
+  pub limit : node.inner.limit ≡ of.limit
+  pub opened : IsOpen node held synced
+
+-- the notes of a node, where there is one
+abbrev pub notes_in : Option NotedNode → List Note
+notes_in None = []
+notes_in (Some node) = node.journal.notes

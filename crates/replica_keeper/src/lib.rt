@@ -1,0 +1,14 @@
+//! Durable replicas: what a replica let out is never forgotten, wherever it is stopped.
+//!
+//! A message leaves only once its record is synced. A replica that is stopped at any moment opens again as a replica of a front
+//! of its notes, which has everything that it let out. Records, and what is kept in one, are this project's own profile.
+#![tactic(auto)]
+
+mod calls;
+mod durable;
+mod durably;
+mod keeping;
+mod record;
+
+pub use durable::Durable;
+pub use durably::Durably;
