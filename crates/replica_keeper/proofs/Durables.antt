@@ -1,5 +1,5 @@
 -- What holds of a node with the numbers of a durable replica, said of the replica.
-use Rattle.std.proofs.Common.{◌≡◌, ◌⊎◌, ℕ, Bool, IsTrue, List, ◌++◌, Option, Some, None, unwrap_or, refl, sym, ap, subst, ◌∙◌}
+use Rattle.std.proofs.Common.{◌≡◌, ℕ, Bool, List, Option, Some, unwrap_or, refl, sym, ap, subst, ◌∙◌}
 use Rattle.causal_model.specs.Follows.{Follows}
 use Rattle.causal_model.specs.State.{State}
 use Rattle.causal_model.specs.declared.note.Note.{Note}

@@ -1,17 +1,16 @@
 -- What is kept, with a group more, and what a stop leaves of it.
-use Rattle.std.proofs.Common.{◌≡◌, ℕ, zero, suc, ◌+◌, ◌-◌, ◌<◌, ◌≤◌, Bool, true, false, List, [], ◌∷◌, ◌++◌, map, length, take, drop, Option, Some, None, refl, sym, ap, subst, ◌∙◌, arith, append-nil, append_assoc, length-append, length-take}
-use Rattle.std.specs.List.{flat_map}
-use Rattle.std.proofs.lemmas.List.{take-append-drop, length-take-le}
+use Rattle.std.proofs.Common.{◌≡◌, ℕ, zero, suc, ◌+◌, ◌≤◌, Bool, true, false, List, [], ◌∷◌, ◌++◌, map, length, take, drop, None, refl, sym, ap, subst, ◌∙◌, arith, append-nil, length-append, length-take}
+use Rattle.std.proofs.lemmas.List.{take-append-drop}
 use Rattle.std.proofs.lemmas.Grind.{flat_map-append}
 use Rattle.op_base.specs.declared.message.Message.{Message}
 use Rattle.op_base.specs.declared.outcome.Step.{Step}
 use Rattle.op_base.specs.declared.outcome.Step.TheVariants as step
-use Rattle.causal_model.specs.Journal.{state_noted, state_after, replay, notes_of, step_note}
-use Rattle.causal_model.specs.State.{State, start}
+use Rattle.causal_model.specs.Journal.{state_after, replay, notes_of, step_note}
+use Rattle.causal_model.specs.State.{start}
 use Rattle.causal_model.specs.declared.note.Note.{Note}
 use Rattle.causal_model.specs.declared.note.Note.TheVariants.{Sent, Kept, Took, Crook, Regroup}
 use Rattle.store_io.specs.Keeping.{Leaves}
-use Rattle.replica_keeper.specs.Records.{record_of, records_of, Front, torn, misfit, whole, front_of, group_told, Reading, reading_within, Settings, kept_reading, kept_prefix, kept_fault, fault_by}
+use Rattle.replica_keeper.specs.Records.{record_of, records_of, Reading, reading_within, Settings, kept_reading, kept_prefix, fault_by}
 use Rattle.replica_keeper.specs.Keeping.{Cut, cut_at, cut_of, groups_of, is_send, sent_by, sent_len, within_bytes, IsFrontOf, Keeps}
 use Rattle.replica_keeper.proofs.Readings.{enough, IsFrontReading, front_read, joined, joins, IsTold, one_read, length-record}
 
@@ -154,7 +153,7 @@ keeps_more of notes group held synced new k told opens sent within =
 pub keeps_none : (of : Settings) → Keeps of [] [] 0
 keeps_none of = record { cut = refl; records = refl; groups = refl; len = refl; faultless = refl; sent = omega arith; within = omega arith }
 
-rest_read : (of : Settings) (notes : List Note) (bytes : List ℕ) (at : ℕ) (synced : ℕ) → Keeps of notes (take at bytes) synced
+pub rest_read : (of : Settings) (notes : List Note) (bytes : List ℕ) (at : ℕ) (synced : ℕ) → Keeps of notes (take at bytes) synced
     → kept_reading of bytes ≡ joined of.n of.w of.limit (record { groups = groups_of notes; len = length (take at bytes); faulty = false }) (reading_within (length bytes) of.n of.w of.limit (replay of.n of.me notes) (drop at bytes))
 rest_read of notes bytes at synced k =
     let whole_is = take-append-drop at bytes in

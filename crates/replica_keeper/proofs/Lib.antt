@@ -6,3 +6,6 @@ pub mod Moments
 pub mod Opened
 pub mod Lists
 pub mod Durables
+pub mod Replays
+pub mod Steps
+pub mod Starts

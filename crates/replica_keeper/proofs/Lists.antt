@@ -1,29 +1,27 @@
 -- What a stop leaves of a call, whatever the rules give for it, and what its journal is then.
-use Rattle.std.proofs.Common.{◌≡◌, ◌≢◌, ◌⊎◌, inl, inr, ⊎_elim, ℕ, ◌+◌, ◌-◌, ◌<◌, ◌≤◌, min, Bool, true, false, nat_le, IsTrue, List, [], ◌∷◌, ◌++◌, map, length, take, Option, Some, None, Result, Ok, Err, refl, sym, ap, subst, ◌∙◌, arith, length-append, length-take, if◌then◌else◌}
-use Rattle.std.proofs.lemmas.Bool.{lt-leb, leb-true}
+use Rattle.std.proofs.Common.{◌≡◌, ◌⊎◌, inl, inr, ℕ, ◌-◌, ◌≤◌, Bool, true, false, nat_le, IsTrue, List, [], ◌∷◌, ◌++◌, map, length, None, Result, Ok, refl, sym, ap, subst, ◌∙◌, arith, length-append, length-take, if◌then◌else◌}
+use Rattle.std.proofs.lemmas.Bool.{lt-leb}
 use Rattle.std.proofs.lemmas.List.{take-append-le}
 use Rattle.op_base.specs.declared.message.Message.{Message}
-use Rattle.op_base.specs.declared.outcome.Step.{Step}
 use Rattle.op_base.specs.declared.operation.Update.{Update}
 use Rattle.causal_model.specs.Follows.{Follows}
 use Rattle.causal_model.specs.Journal.{replay, step_note, local_notes, beat_notes, receive_notes}
-use Rattle.causal_model.specs.Receiving.{steps, with_early, refusal_of, receive_by, receive_rule, is_accepted}
-use Rattle.causal_model.specs.Sending.{local_rule, beat_rule, is_sent, is_beat}
+use Rattle.causal_model.specs.Receiving.{steps, with_early, refusal_of, receive_by, receive_rule}
+use Rattle.causal_model.specs.Sending.{local_rule, beat_rule, is_sent}
 use Rattle.causal_model.specs.State.{State}
 use Rattle.causal_model.specs.declared.note.Note.{Note}
 use Rattle.causal_model.specs.declared.note.Note.TheVariants.{Sent, Kept}
 use Rattle.causal_model.specs.declared.outcome.Local.{Local}
 use Rattle.causal_model.specs.declared.outcome.Local.TheVariants as local
 use Rattle.causal_model.specs.declared.outcome.Beat.{Beat}
-use Rattle.causal_model.specs.declared.outcome.Beat.TheVariants as beat
 use Rattle.causal_model.proofs.Outcomes.{notes_of_accepted}
-use Rattle.replica_core.specs.Rules.{StandsFor, local_of, beat_of}
+use Rattle.replica_core.specs.Rules.{StandsFor, local_of}
 use Rattle.replica_node.specs.Nodes.{state_by}
 use Rattle.replica_node.specs.Rules.{noting}
 use Rattle.store_io.specs.Keeping.{Leaves}
 use Rattle.replica_keeper.specs.Records.{record_of, records_of, Settings, kept_prefix}
 use Rattle.replica_keeper.specs.Keeping.{groups_of, with_group, within_bytes, IsFrontOf, Keeps}
-use Rattle.replica_keeper.specs.Open.{NotedNode, settings_by, IsOpen}
+use Rattle.replica_keeper.specs.Open.{NotedNode, settings_by}
 use Rattle.replica_keeper.specs.Calls.{local_list, beat_list, receive_list}
 use Rattle.replica_keeper.proofs.Readings.{length-record}
 use Rattle.replica_keeper.proofs.Kept.{left_front}
@@ -98,33 +96,10 @@ module _ (node : NotedNode) (first : node.first ≡ (node.inner.me, node.inner.n
   pub local_list_sent : (update : Update) (m : Message) → Drafted update (Ok m) → local_list (settings_by node) notes update ≡ groups ++ (Sent m ∷ []) ∷ []
   local_list_sent update m told = local_list_by update ∙ ap (by_local update) (local_sends update m told)
 
-  pub local_list_none : (update : Update) (answer : Local) → Drafted update (Err answer) → is_sent answer ≡ false → answer ≢ local.NoMemory → local_list (settings_by node) notes update ≡ groups
-  local_list_none update answer told unsent other = by (told (state_by node.first notes) node.stands) where
-    none : (a : Local) → is_sent a ≡ false → with_group groups (local_notes a) ≡ groups
-    none (local.Sent m) e = cc
-    none local.Busy e = refl
-    none local.End e = refl
-    none local.NoMemory e = refl
-
-    by : ((answer ≡ (local_rule node.inner.w node.inner.limit update (state_by node.first notes)).0) × StandsFor node.inner (state_by node.first notes))
-        ⊎ ((answer ≡ local.NoMemory) × IsTrue (is_sent (local_rule node.inner.w node.inner.limit update (state_by node.first notes)).0) × StandsFor node.inner (state_by node.first notes))
-        → local_list (settings_by node) notes update ≡ groups
-    by (inl is) = local_list_by update ∙ ap (by_local update) (sym is.0) ∙ none answer unsent
-    by (inr lacks) = absurd (other lacks.0)
-
   -- ---- no-ops
 
   pub beat_list_by : (answer : Beat) → ((s : State) → StandsFor node.inner s → answer ≡ (beat_rule node.inner.w node.inner.limit s).0) → beat_list (settings_by node) notes ≡ with_group groups (beat_notes answer)
   beat_list_by answer told = ap (λ s. with_group groups (beat_notes (beat_rule node.inner.w node.inner.limit s).0)) (sym same_state) ∙ ap (λ a. with_group groups (beat_notes a)) (sym (told (state_by node.first notes) node.stands))
-
-  pub beat_list_none : (answer : Beat) → ((s : State) → StandsFor node.inner s → answer ≡ (beat_rule node.inner.w node.inner.limit s).0) → is_beat answer ≡ false → beat_list (settings_by node) notes ≡ groups
-  beat_list_none answer told unsent = beat_list_by answer told ∙ none answer unsent where
-    none : (a : Beat) → is_beat a ≡ false → with_group groups (beat_notes a) ≡ groups
-    none (beat.Sent m) e = cc
-    none beat.Quiet e = refl
-    none beat.Held e = refl
-    none beat.End e = refl
-    none beat.NoMemory e = refl
 
   -- ---- messages of others
 

@@ -1,5 +1,5 @@
 -- How a run of calls on a keeper goes on.
-use Rattle.std.proofs.Common.{◌≡◌, inl, inr, ⊎_elim, ℕ, ◌≤◌, ◌++◌, List, length, sym, ◌∙◌, arith, length-append}
+use Rattle.std.proofs.Common.{◌≡◌, inl, inr, ⊎_elim, ℕ, ◌++◌, List, sym, ◌∙◌, arith, length-append}
 use Rattle.std.proofs.lemmas.List.{take-append-le}
 use Rattle.store_io.specs.Keeping.{Leaves, Elapses, LeavesOnly}
 
@@ -33,6 +33,14 @@ module _ {D : Type 0} (moment : D → ℕ) (left_since : D → ℕ → List ℕ 
     each = λ left since. ⊎_elim (so_far.each left) (here left) (then.before (moment old) left so_far.later since);
     before = λ t left le since. ⊎_elim (so_far.before t left le) (λ now. inr (here left now)) (then.before t left (omega (arith, le, so_far.later)) since);
   }
+
+-- a stop leaves what has P, so what has Q
+pub weaker : {D : Type 0} (moment : D → ℕ) (left_since : D → ℕ → List ℕ → Type 0) (old new : D) (P Q : List ℕ → Type 0) → LeavesOnly moment left_since old new P → ((left : List ℕ) → P left → Q left) → LeavesOnly moment left_since old new Q
+weaker moment left_since old new P Q so then = record {
+  later = so.later;
+  each = λ left since. then left (so.each left since);
+  before = λ t left le since. ⊎_elim (λ was. inl was) (λ now. inr (then left now)) (so.before t left le since);
+}
 
 -- a keeper's calls that end in an append of bytes
 module _ {D : Type 0} (held : D → List ℕ) (synced : D → ℕ) (moment : D → ℕ) (left_since : D → ℕ → List ℕ → Type 0) (only_now : (k : D) (left : List ℕ) → left_since k (moment k) left → Leaves (held k) (synced k) left)

@@ -1,5 +1,5 @@
 -- An open replica with a group more.
-use Rattle.std.proofs.Common.{◌≡◌, ℕ, ◌+◌, ◌<◌, ◌≤◌, ◌^◌, Bool, true, false, ◌&&◌, nat_le, nat_lt, IsTrue, List, [], ◌∷◌, ◌++◌, map, length, Option, Some, None, refl, sym, ap, subst, ◌∙◌, arith, length-append}
+use Rattle.std.proofs.Common.{◌≡◌, ℕ, ◌<◌, ◌≤◌, ◌^◌, false, ◌&&◌, nat_le, nat_lt, IsTrue, List, [], ◌∷◌, ◌++◌, map, length, None, refl, sym, ap, subst, ◌∙◌, arith, length-append}
 use Rattle.std.proofs.lemmas.Bool.{and_parts, leb-true}
 use Rattle.op_base.specs.Message.{fits}
 use Rattle.op_base.specs.declared.message.Message.{Message}
@@ -14,8 +14,8 @@ use Rattle.replica_core.specs.Rules.{StandsFor, SameSettings, IsDraft}
 use Rattle.replica_core.proofs.Own.{draft_fits, draft_is_carried}
 use Rattle.replica_node.specs.Nodes.{state_by}
 use Rattle.store_io.specs.Keeping.{Leaves}
-use Rattle.replica_keeper.specs.Records.{record_of, records_of, Settings}
-use Rattle.replica_keeper.specs.Keeping.{groups_of, is_send, sent_len, IsFrontOf, Keeps}
+use Rattle.replica_keeper.specs.Records.{record_of, records_of}
+use Rattle.replica_keeper.specs.Keeping.{groups_of, is_send, IsFrontOf, Keeps}
 use Rattle.replica_keeper.specs.Open.{NotedNode, settings_by, IsOpen}
 use Rattle.replica_keeper.proofs.Kept.{Opens, records_more, sent_len-le, sent_len-more, IsNoted, left_more, keeps_more}
 use Rattle.replica_keeper.proofs.Told.{sent_told, kept_told}
@@ -72,22 +72,17 @@ same_open old new notes held held' synced s f first n h k = record {
   keeps = rw (same_settings old new s, n, h) k;
 }
 
--- nothing was kept
-pub opened_still : (old new : NotedNode) (held held' : List ℕ) (synced synced' : ℕ) → IsOpen old held synced → SameSettings old.inner new.inner → new.first ≡ old.first → new.journal.notes ≡ old.journal.notes → held' ≡ held → synced' ≡ synced
-    → IsOpen new held' synced'
-opened_still old new held held' synced synced' opened s f n h y = subst (λ y. IsOpen new held' y) (sym y) (same_open old new old.journal.notes held held' synced s f opened.first n h opened.keeps)
-
--- a message that was sent, with all synced
-pub opened_sent : (old new : NotedNode) (m : Message) (held held' : List ℕ) (synced synced' : ℕ) → IsOpen old held synced → IsNoted (settings_by old) old.journal.notes (Sent m ∷ [])
-    → SameSettings old.inner new.inner → new.first ≡ old.first → new.journal.notes ≡ old.journal.notes ++ Sent m ∷ [] → held' ≡ held ++ record_of old.inner.n (Sent m ∷ []) → synced' ≡ length held' → IsOpen new held' synced'
-opened_sent old new m held held' synced synced' opened told s f n h y =
+-- a group, with all synced
+pub opened_synced : (old new : NotedNode) (group : List Note) (held held' : List ℕ) (synced synced' : ℕ) → IsOpen old held synced → IsNoted (settings_by old) old.journal.notes group → Opens group
+    → SameSettings old.inner new.inner → new.first ≡ old.first → new.journal.notes ≡ old.journal.notes ++ group → held' ≡ held ++ record_of old.inner.n group → synced' ≡ length held' → IsOpen new held' synced'
+opened_synced old new group held held' synced synced' opened told opens s f n h y =
     let n' = old.inner.n in
-    let all : records_of n' (groups_of old.journal.notes ++ (Sent m ∷ []) ∷ []) ≡ held ++ record_of n' (Sent m ∷ []) =
-    records_more n' (groups_of old.journal.notes) (Sent m ∷ []) ∙ ap (λ h. h ++ record_of n' (Sent m ∷ [])) (sym opened.keeps.records) in
-    let size : synced' ≡ length (held ++ record_of n' (Sent m ∷ [])) = y ∙ ap length h in
-    let k = keeps_more (settings_by old) old.journal.notes (Sent m ∷ []) held synced synced' opened.keeps told refl
-    (let le = sent_len-le n' (groups_of old.journal.notes ++ (Sent m ∷ []) ∷ []) in let e = ap length all in omega (arith, le, e, size)) (omega (arith, size)) in
-    same_open old new (old.journal.notes ++ Sent m ∷ []) (held ++ record_of n' (Sent m ∷ [])) held' synced' s f opened.first n h k
+    let all : records_of n' (groups_of old.journal.notes ++ group ∷ []) ≡ held ++ record_of n' group =
+    records_more n' (groups_of old.journal.notes) group ∙ ap (λ h. h ++ record_of n' group) (sym opened.keeps.records) in
+    let size : synced' ≡ length (held ++ record_of n' group) = y ∙ ap length h in
+    let k = keeps_more (settings_by old) old.journal.notes group held synced synced' opened.keeps told opens
+    (let le = sent_len-le n' (groups_of old.journal.notes ++ group ∷ []) in let e = ap length all in omega (arith, le, e, size)) (omega (arith, size)) in
+    same_open old new (old.journal.notes ++ group) (held ++ record_of n' group) held' synced' s f opened.first n h k
 
 -- a group that sends nothing, with no more synced
 pub opened_kept : (old new : NotedNode) (group : List Note) (held held' : List ℕ) (synced synced' : ℕ) → IsOpen old held synced → IsNoted (settings_by old) old.journal.notes group → Opens group → is_send group ≡ false

@@ -1,17 +1,16 @@
 -- What bytes of records are read as: a front of them, and with a record more.
-use Rattle.std.proofs.Common.{◌≡◌, ◌⊎◌, inl, inr, ⊎_elim, ℕ, zero, suc, ◌+◌, ◌-◌, ◌<◌, ◌≤◌, Bool, true, false, nat_le, List, [], ◌∷◌, ◌++◌, length, take, drop, Option, Some, None, refl, sym, ap, subst, ◌∙◌, arith, append-nil, zero-add, add_assoc, append_assoc, length-append, length-take, length-drop, if◌then◌else◌, unwrap_or, true≢false}
-use Rattle.std.specs.List.{flat_map}
+use Rattle.std.proofs.Common.{◌≡◌, ⊎_elim, ℕ, zero, suc, ◌+◌, ◌-◌, ◌<◌, ◌≤◌, Bool, true, false, nat_le, List, [], ◌∷◌, ◌++◌, length, take, Option, Some, None, refl, sym, ap, subst, ◌∙◌, arith, append-nil, zero-add, add_assoc, length-append, if◌then◌else◌, unwrap_or, true≢false}
 use Rattle.std.specs.Int.{w32, to_be_bytes}
 use Rattle.std.proofs.lemmas.Grind.{fold-append}
 use Rattle.std.proofs.lemmas.List.{nil_from_length}
 use Rattle.std.proofs.lemmas.Option.{none-some}
-use Rattle.std.proofs.lemmas.Bool.{false≢true, lt-leb, leb-false, leb-true}
+use Rattle.std.proofs.lemmas.Bool.{lt-leb, leb-true}
 use Rattle.op_base.specs.Name.{same_text}
 use Rattle.std.specs.Cmp.Lexicographic.{same_text as texts_same}
 use Rattle.causal_model.specs.Journal.{state_noted, state_after, notes_of}
 use Rattle.causal_model.specs.State.{State}
 use Rattle.causal_model.specs.declared.note.Note.{Note}
-use Rattle.replica_keeper.specs.Records.{content_of, record_with, record_of, records_of, Front, torn, misfit, whole, front_of, group_if, group_told, notes_told, Reading, read_none, read_fault, read_group, read_told, read_front, reading_within}
+use Rattle.replica_keeper.specs.Records.{content_of, record_with, record_of, Front, torn, misfit, whole, front_of, group_told, notes_told, Reading, read_none, read_group, read_told, read_front, reading_within}
 use Rattle.replica_keeper.specs.Keeping.{within_bytes}
 use Rattle.replica_keeper.proofs.Fronts.{le_or_lt, IsWhole, Says, says, whole_front, whole_torn, whole_take, whole_more, record_whole, torn_take}
 

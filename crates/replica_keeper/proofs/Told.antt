@@ -1,5 +1,5 @@
 -- That the record of what a call noted tells that call.
-use Rattle.std.proofs.Common.{◌≡◌, ℕ, ◌+◌, ◌*◌, ◌<◌, ◌≤◌, ◌^◌, Bool, true, false, ◌&&◌, ◌==◌, nat_le, nat_lt, IsTrue, List, [], ◌∷◌, ◌++◌, map, length, Option, Some, None, Result, Ok, Err, refl, sym, ap, subst, ◌∙◌, arith, lit<, length-append, if◌then◌else◌}
+use Rattle.std.proofs.Common.{◌≡◌, ℕ, ◌+◌, ◌<◌, ◌≤◌, ◌^◌, true, ◌&&◌, ◌==◌, nat_le, nat_lt, IsTrue, List, [], ◌∷◌, map, length, Some, None, Ok, refl, sym, ap, ◌∙◌, arith, lit<, length-append, if◌then◌else◌}
 use Rattle.std.specs.List.{flat_map, list_all, slice_index_or}
 use Rattle.std.proofs.lemmas.Bool.{and_parts, eqb-true, leb-true, ltb-true}
 use Rattle.std.proofs.lemmas.List.Sums.{AllPass-from_list_all}
@@ -13,7 +13,7 @@ use Rattle.op_base.specs.declared.operation.Act.TheVariants as acts
 use Rattle.op_base.specs.declared.operation.Op.{Op}
 use Rattle.op_base.specs.declared.operation.Op.TheVariants as op
 use Rattle.causal_model.specs.Counts.{is_carried}
-use Rattle.causal_model.specs.Journal.{step_note, local_notes, beat_notes, receive_notes}
+use Rattle.causal_model.specs.Journal.{step_note, receive_notes}
 use Rattle.causal_model.specs.Receiving.{steps, with_early, refusal_of, receive_by}
 use Rattle.causal_model.specs.Sending.{RuleGives}
 use Rattle.causal_model.specs.State.{State}
@@ -22,11 +22,10 @@ use Rattle.causal_model.specs.declared.note.Note.TheVariants.{Sent, Kept}
 use Rattle.causal_model.proofs.Outcomes.{notes_of_accepted}
 use Rattle.frame_codec.specs.Grammar.{frame_of, number_field, text_field, argument_field, operation_fields, IsArgument, IsOperation, IsFrame}
 use Rattle.frame_codec.specs.Message.{frame_read}
-use Rattle.frame_codec.specs.declared.fault.FrameFault.{FrameFault}
 use Rattle.frame_codec.specs.declared.version.Version.TheVariants.{Two}
 use Rattle.frame_codec.proofs.Read.{frames_are_read}
 use Rattle.frame_codec.proofs.Spelled.{length-number_fields}
-use Rattle.replica_keeper.specs.Records.{content_of, group_if, group_told, notes_sent, notes_by, notes_told}
+use Rattle.replica_keeper.specs.Records.{content_of, group_if, notes_sent, notes_by}
 use Rattle.replica_keeper.proofs.Readings.{IsTold}
 
 -- ---- a frame

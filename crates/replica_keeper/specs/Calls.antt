@@ -1,5 +1,5 @@
 -- The list of a call: the groups that the journal had before it, and behind them the group that the rules give for this call.
-use Rattle.std.specs.Prelude.{ℕ, List}
+use Rattle.std.specs.Prelude.{List}
 use Rattle.op_base.specs.declared.message.Message.{Message}
 use Rattle.op_base.specs.declared.operation.Update.{Update}
 use Rattle.causal_model.specs.Journal.{replay, local_notes, beat_notes, receive_notes}

@@ -1,10 +1,8 @@
 -- What a durable replica keeps, and what stops may leave of it.
-use Rattle.std.specs.Prelude.{◌≡◌, ℕ, zero, suc, ◌+◌, ◌-◌, ◌≤◌, Bool, true, false, nat_le, not, List, [], ◌∷◌, ◌++◌, map, length, take, Option, Some, None, if◌then◌else◌}
-use Rattle.causal_model.specs.Journal.{notes_of, replay}
-use Rattle.causal_model.specs.State.{State}
+use Rattle.std.specs.Prelude.{◌≡◌, ℕ, zero, suc, ◌+◌, ◌-◌, ◌≤◌, Bool, true, false, nat_le, List, [], ◌∷◌, ◌++◌, length, take, None, if◌then◌else◌}
+use Rattle.causal_model.specs.Journal.{notes_of}
 use Rattle.causal_model.specs.declared.note.Note.{Note}
 use Rattle.causal_model.specs.declared.note.Note.TheVariants.{Sent, Kept, Took, Crook, Regroup}
-use Rattle.op_base.specs.declared.message.Message.{Message}
 use Rattle.replica_keeper.specs.Records.{record_of, records_of, Settings, kept_reading, kept_prefix, kept_fault}
 
 -- ---- groups
@@ -65,13 +63,6 @@ abbrev pub within_bytes : ℕ → ℕ → List (List Note) → List (List Note)
 within_bytes n b [] = []
 within_bytes n b (group ∷ groups) =
     if nat_le (length (record_of n group)) b then group ∷ within_bytes n (b - length (record_of n group)) groups else []
-
--- a message stands as a record that was sent, within so many bytes
-pub record IsSynced (n synced : ℕ) (groups : List (List Note)) (m : Message) : Type 0 where
-  pub before : List (List Note)
-  pub later : List (List Note)
-  pub stands : groups ≡ before ++ (Sent m ∷ []) ∷ later
-  pub within : length (records_of n before) + length (record_of n (Sent m ∷ [])) ≤ synced
 
 -- ---- what a stop leaves
 

@@ -8,7 +8,11 @@ mod calls;
 mod durable;
 mod durably;
 mod keeping;
+mod reading;
 mod record;
+mod replay;
+mod start;
 
 pub use durable::Durable;
 pub use durably::Durably;
+pub use start::StartFault;

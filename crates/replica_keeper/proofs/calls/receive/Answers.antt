@@ -1,4 +1,4 @@
-use Rattle.std.proofs.Common.{rules, ◌≡◌, [], ◌∷◌, ◌++◌, map, None, refl, sym, ap, subst, ◌∙◌}
+use Rattle.std.proofs.Common.{◌≡◌, [], ◌∷◌, ◌++◌, map, None, refl, sym, ap, subst, ◌∙◌}
 use Rattle.causal_model.specs.Journal.{step_note, receive_notes}
 use Rattle.causal_model.specs.Receiving.{is_accepted, accepted, receive_by, receive_rule, refusal_of}
 use Rattle.causal_model.specs.declared.note.Note.TheVariants as notes

@@ -1,4 +1,4 @@
-use Rattle.std.proofs.Common.{◌≡◌, [], ◌∷◌, ◌++◌, map, refl, sym, ap, ◌∙◌}
+use Rattle.std.proofs.Common.{[], ◌∷◌, ◌++◌, map, refl, ap, ◌∙◌}
 use Rattle.causal_model.specs.Journal.{step_note}
 use Rattle.causal_model.specs.Receiving.{steps, with_early}
 use Rattle.causal_model.specs.declared.note.Note.TheVariants as notes

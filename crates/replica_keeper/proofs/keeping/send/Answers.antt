@@ -1,11 +1,11 @@
-use Rattle.std.proofs.Common.{◌≡◌, [], ◌∷◌, ◌++◌, sym, ap, ◌∙◌}
+use Rattle.std.proofs.Common.{[], ◌∷◌, ◌++◌, refl, ap, ◌∙◌}
 use Rattle.causal_model.specs.declared.note.Note.TheVariants as notes
 use Rattle.replica_core.proofs.Own.{draft_fits}
 use Rattle.replica_keeper.specs.Keeping.{groups_of, IsFrontOf}
 use Rattle.replica_keeper.specs.Open.{settings_by}
 use Rattle.replica_keeper.specs.Records.{record_of}
 use Rattle.replica_keeper.proofs.Moments.{begun, roomy, grown}
-use Rattle.replica_keeper.proofs.Opened.{draft_noted, opened_left, opened_sent}
+use Rattle.replica_keeper.proofs.Opened.{draft_noted, opened_left, opened_synced}
 use Rattle.replica_keeper.proofs.keeping.send.Goals as goal
 
 pub record-requires-clause-fits : goal.record-requires-clause-fits
@@ -47,6 +47,6 @@ pub returns-clause-kept : goal.returns-clause-kept
 returns-clause-kept g c =
     let node = c.args.node.now in let k = c.args.keeper.now in
     let piece = c.as_slice.ensures.value ∙ c.in_ok-bytes.ensures in
-    opened_sent node c.commit.new.self c.args.message (g.K.Keeper.held k) (g.K.Keeper.held c.append_synced.new.keeper) (g.K.Keeper.synced k) (g.K.Keeper.synced c.append_synced.new.keeper) c.requires.open
-    (draft_noted node c.requires.open.first c.args.message c.requires.draft) c.commit.ensures.settings c.commit.ensures.first c.in_ok-message.ensures.noted
+    opened_synced node c.commit.new.self (notes.Sent c.args.message ∷ []) (g.K.Keeper.held k) (g.K.Keeper.held c.append_synced.new.keeper) (g.K.Keeper.synced k) (g.K.Keeper.synced c.append_synced.new.keeper) c.requires.open
+    (draft_noted node c.requires.open.first c.args.message c.requires.draft) refl c.commit.ensures.settings c.commit.ensures.first c.in_ok-message.ensures.noted
     (c.in_ok-append_synced.ensures.held ∙ ap (λ p. g.K.Keeper.held c.reserve.new.self ++ p) piece ∙ ap (λ h. h ++ record_of node.inner.n (notes.Sent c.args.message ∷ [])) c.reserve.ensures.held) c.in_ok-append_synced.ensures.synced

@@ -1,4 +1,4 @@
-use Rattle.std.proofs.Common.{◌+◌, ◌≤◌, length, ap, sym, arith}
+use Rattle.std.proofs.Common.{length, ap, arith}
 use Rattle.replica_keeper.proofs.Told.{frame_short}
 use Rattle.replica_keeper.proofs.record.record.Goals as goal
 

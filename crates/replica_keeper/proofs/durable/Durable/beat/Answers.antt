@@ -1,4 +1,4 @@
-use Rattle.std.proofs.Common.{sym, subst, ◌∙◌, IsTrue}
+use Rattle.std.proofs.Common.{sym, ◌∙◌}
 use Rattle.causal_model.specs.Journal.{beat_notes}
 use Rattle.causal_model.specs.Sending.{is_beat, beat_rule}
 use Rattle.causal_model.specs.declared.outcome.Beat.TheVariants as beat
