@@ -16,3 +16,6 @@ mod start;
 pub use durable::Durable;
 pub use durably::Durably;
 pub use start::StartFault;
+
+#[cfg(test)]
+mod tests;
