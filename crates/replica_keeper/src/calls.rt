@@ -34,6 +34,7 @@ pub(crate) fn local<K: Keeper>(
     ensures answer { IfOk result (λ answer. Follows (λ (there ns : List ANote). there ≡ ns) Local.NoMemory is_sent (noting node.old.first local_notes (local_rule node.old.inner.w node.old.inner.limit update.now)) node.old.journal.notes answer node.new.journal.notes) }
     ensures list { IfOk result (λ answer. answer ≢ Local.NoMemory → groups_of node.new.journal.notes ≡ local_list (settings_by node.old) node.old.journal.notes update.now) }
     ensures synced { IfOk result (λ answer. IsTrue (is_sent answer) → K.synced keeper.new ≡ length (K.held keeper.new)) }
+    ensures steady { OnOk result (K.faults keeper.new ≡ K.faults keeper.old) }
     ensures fault { OnErr result (K.faults keeper.old < K.faults keeper.new) }
     ensures settings { SameSettings node.old.inner node.new.inner }
     ensures any_moment { LeavesOnly K.moment K.left_since keeper.old keeper.new (IsFrontOf (settings_by node.old) (local_list (settings_by node.old) node.old.journal.notes update.now) (K.synced keeper.old)) }
@@ -60,6 +61,7 @@ pub(crate) fn beat<K: Keeper>(
     ensures answer { IfOk result (λ answer. Follows (λ (there ns : List ANote). there ≡ ns) Beat.NoMemory is_beat (noting node.old.first beat_notes (beat_rule node.old.inner.w node.old.inner.limit)) node.old.journal.notes answer node.new.journal.notes) }
     ensures list { IfOk result (λ answer. answer ≢ Beat.NoMemory → groups_of node.new.journal.notes ≡ beat_list (settings_by node.old) node.old.journal.notes) }
     ensures synced { IfOk result (λ answer. IsTrue (is_beat answer) → K.synced keeper.new ≡ length (K.held keeper.new)) }
+    ensures steady { OnOk result (K.faults keeper.new ≡ K.faults keeper.old) }
     ensures fault { OnErr result (K.faults keeper.old < K.faults keeper.new) }
     ensures settings { SameSettings node.old.inner node.new.inner }
     ensures any_moment { LeavesOnly K.moment K.left_since keeper.old keeper.new (IsFrontOf (settings_by node.old) (beat_list (settings_by node.old) node.old.journal.notes) (K.synced keeper.old)) }
@@ -89,6 +91,7 @@ pub(crate) fn receive<K: Keeper>(
     ensures open { OnOk result (IsOpen node.new (K.held keeper.new) (K.synced keeper.new)) }
     ensures answer { IfOk result (λ answer. Follows (λ (there ns : List ANote). there ≡ ns) Receive.NoMemory is_accepted (noting node.old.first (receive_notes message) (receive_rule node.old.inner.w message)) node.old.journal.notes answer node.new.journal.notes) }
     ensures list { IfOk result (λ answer. answer ≢ Receive.NoMemory → groups_of node.new.journal.notes ≡ receive_list (settings_by node.old) node.old.journal.notes message) }
+    ensures steady { OnOk result (K.faults keeper.new ≡ K.faults keeper.old) }
     ensures fault { OnErr result (K.faults keeper.old < K.faults keeper.new) }
     ensures settings { SameSettings node.old.inner node.new.inner }
     ensures any_moment { LeavesOnly K.moment K.left_since keeper.old keeper.new (IsFrontOf (settings_by node.old) (receive_list (settings_by node.old) node.old.journal.notes message) (K.synced keeper.old)) }

@@ -57,6 +57,7 @@ impl<K: Keeper> Durable<K> {
         ensures unmoved { result ≡ Durably.Closed → self.new.keeper ≡ self.old.keeper }
         ensures stays { result ≡ Durably.Closed → self.new.node ≡ None }
         ensures fault { result ≡ Durably.KeeperFault → K.faults self.old.keeper < K.faults self.new.keeper }
+        ensures steady { IfDone result (λ _. K.faults self.new.keeper ≡ K.faults self.old.keeper) }
         ensures shut { result ≡ Durably.KeeperFault → self.new.node ≡ None }
         ensures open { IfDone result (λ _. IsSome self.new.node) }
         ensures answer { IfDone result (λ answer. Follows (λ (there ns : List ANote). there ≡ ns) Local.NoMemory is_sent (noting (self.old.me, self.old.n) local_notes (local_rule self.old.w self.old.limit update.now)) (notes_in self.old.node) answer (notes_in self.new.node)) }
@@ -86,6 +87,7 @@ impl<K: Keeper> Durable<K> {
         ensures unmoved { result ≡ Durably.Closed → self.new.keeper ≡ self.old.keeper }
         ensures stays { result ≡ Durably.Closed → self.new.node ≡ None }
         ensures fault { result ≡ Durably.KeeperFault → K.faults self.old.keeper < K.faults self.new.keeper }
+        ensures steady { IfDone result (λ _. K.faults self.new.keeper ≡ K.faults self.old.keeper) }
         ensures shut { result ≡ Durably.KeeperFault → self.new.node ≡ None }
         ensures open { IfDone result (λ _. IsSome self.new.node) }
         ensures answer { IfDone result (λ answer. Follows (λ (there ns : List ANote). there ≡ ns) Beat.NoMemory is_beat (noting (self.old.me, self.old.n) beat_notes (beat_rule self.old.w self.old.limit)) (notes_in self.old.node) answer (notes_in self.new.node)) }
@@ -118,6 +120,7 @@ impl<K: Keeper> Durable<K> {
         ensures unmoved { result ≡ Durably.Closed → self.new.keeper ≡ self.old.keeper }
         ensures stays { result ≡ Durably.Closed → self.new.node ≡ None }
         ensures fault { result ≡ Durably.KeeperFault → K.faults self.old.keeper < K.faults self.new.keeper }
+        ensures steady { IfDone result (λ _. K.faults self.new.keeper ≡ K.faults self.old.keeper) }
         ensures shut { result ≡ Durably.KeeperFault → self.new.node ≡ None }
         ensures open { IfDone result (λ _. IsSome self.new.node) }
         ensures answer { IfDone result (λ answer. Follows (λ (there ns : List ANote). there ≡ ns) Receive.NoMemory is_accepted (noting (self.old.me, self.old.n) (receive_notes message) (receive_rule self.old.w message)) (notes_in self.old.node) answer (notes_in self.new.node)) }

@@ -47,7 +47,7 @@ fn read_all<K: Keeper>(alloc: Global, keeper: &mut K) -> Result<Vec<u8>, Unkept>
     ensures bytes { IfOk result (λ bytes. bytes.items ≡ K.held keeper.old) }
     ensures held { K.held keeper.new ≡ K.held keeper.old }
     ensures synced { K.synced keeper.new ≡ K.synced keeper.old }
-    ensures steady { OnOk result (K.faults keeper.new ≡ K.faults keeper.old) }
+    ensures steady { result ≢ Err Unkept.Failed → K.faults keeper.new ≡ K.faults keeper.old }
     ensures fault { result ≡ Err Unkept.Failed → K.faults keeper.old < K.faults keeper.new }
     ensures any_moment { LeavesOnly K.moment K.left_since keeper.old keeper.new (Leaves (K.held keeper.old) (K.synced keeper.old)) }
 {
@@ -67,6 +67,7 @@ fn settle<K: Keeper>(keeper: &mut K, len: u64) -> Result<(), Failed>
     requires { len ≤ length (K.held keeper.old) }
     ensures held { OnOk result (K.held keeper.new ≡ take len (K.held keeper.old)) }
     ensures synced { OnOk result (K.synced keeper.new ≡ length (K.held keeper.new)) }
+    ensures steady { OnOk result (K.faults keeper.new ≡ K.faults keeper.old) }
     ensures fault { OnErr result (K.faults keeper.old < K.faults keeper.new) }
     ensures any_moment { LeavesOnly K.moment K.left_since keeper.old keeper.new (LeavesEither (K.held keeper.old) (K.synced keeper.old) (take len (K.held keeper.old)) (min len (K.synced keeper.old))) }
 {
@@ -86,6 +87,7 @@ pub(crate) fn fill<K: Keeper>(
     requires none { node.old.journal.notes ≡ [] }
     ensures numbers { result ≢ Err StartFault.BadNumbers }
     ensures damaged { (at : ℕ) → result ≡ Err (StartFault.Damaged at) → kept_fault (settings_by node.old) (K.held keeper.old) ≡ Some at }
+    ensures steady { result ≢ Err StartFault.KeeperFault → K.faults keeper.new ≡ K.faults keeper.old }
     ensures fault { result ≡ Err StartFault.KeeperFault → K.faults keeper.old < K.faults keeper.new }
     ensures faultless { OnOk result (kept_fault (settings_by node.old) (K.held keeper.old) ≡ None) }
     ensures open { OnOk result (IsOpen node.new (K.held keeper.new) (K.synced keeper.new)) }
@@ -114,7 +116,7 @@ pub(crate) fn fill<K: Keeper>(
 
 impl<K: Keeper> Durable<K> {
     ghost use Rattle.std.specs.Result.{IfErr};
-    ghost use Rattle.std.specs.Prelude.{false};
+    ghost use Rattle.std.specs.Prelude.{◌↔◌, true, false};
     ghost use Rattle.std.specs.Option.{IsSome};
     ghost use Rattle.replica_core.specs.Numbers.{are_numbers};
     ghost use Rattle.replica_keeper.specs.Durably.{numbers};
@@ -130,9 +132,12 @@ impl<K: Keeper> Durable<K> {
         limit: u32,
         keeper: K,
     ) -> Result<Durable<K>, (StartFault, K)>
-        ensures bad_numbers { IfErr result (λ e. e.0 ≡ StartFault.BadNumbers → are_numbers me n w limit ≡ false) }
+        ensures numbers { OnOk result (are_numbers me n w limit ≡ true) }
+        ensures bad_numbers { IfErr result (λ e. (e.0 ≡ StartFault.BadNumbers) ↔ (are_numbers me n w limit ≡ false)) }
         ensures damaged { IfErr result (λ e. (at : ℕ) → e.0 ≡ StartFault.Damaged at → kept_fault (numbers me n w limit) (K.held keeper) ≡ Some at) }
         ensures fault { IfErr result (λ e. e.0 ≡ StartFault.KeeperFault → K.faults keeper < K.faults e.1) }
+        ensures steady { IfOk result (λ it. K.faults it.keeper ≡ K.faults keeper) }
+        ensures steady_err { IfErr result (λ e. e.0 ≢ StartFault.KeeperFault → K.faults e.1 ≡ K.faults keeper) }
         ensures faultless { OnOk result (kept_fault (numbers me n w limit) (K.held keeper) ≡ None) }
         ensures open { IfOk result (λ it. IsSome it.node) }
         ensures groups { IfOk result (λ it. groups_of (notes_in it.node) ≡ kept_prefix (numbers me n w limit) (K.held keeper)) }

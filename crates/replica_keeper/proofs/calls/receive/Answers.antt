@@ -48,6 +48,13 @@ returns-in-Ok-clause-list g c =
     λ _. ap groups_of c.in-Ok.ensures.noted ∙ groups_more node.journal.notes (notes.Kept m ∷ map step_note c.in-Ok.steps) (kept_opens m c.in-Ok.steps)
     ∙ ap (λ made. groups_of node.journal.notes ++ (notes.Kept m ∷ map step_note made) ∷ []) c.in-Ok.ensures.steps ∙ sym (receive_list_accepted node c.requires.open.first m unrefused)
 
+pub returns-in-Ok-clause-any_moment : goal.returns-in-Ok-clause-any_moment
+returns-in-Ok-clause-any_moment g c =
+    let node = c.args.node.now in
+    let unrefused : refusal_of node.inner.w (state_by node.first node.journal.notes) c.args.message ≡ None = sym (c.refusal.ensures (state_by node.first node.journal.notes) node.stands) ∙ c.in_default.is in
+    subst (λ groups. LeavesOnly g.K.Keeper.moment g.K.Keeper.left_since c.args.keeper.now c.accept.new.keeper (IsFrontOf (settings_by node) groups (g.K.Keeper.synced c.args.keeper.now)))
+    (sym (receive_list_accepted node c.requires.open.first c.args.message unrefused)) c.accept.ensures.any_moment
+
 pub returns-in-Err-NoMemory-clause-any_moment : goal.returns-in-Err-NoMemory-clause-any_moment
 returns-in-Err-NoMemory-clause-any_moment g c =
     let node = c.args.node.now in
