@@ -21,7 +21,7 @@ pub enum Header {
         limit: u32,
     },
     /// A live input, at a store of `n` members with a window of `w`, with 1 to 8 clients, at most 10000 turns and a loss
-    /// of at most 1000000. The mode is not built yet.
+    /// of at most 1000000.
     Live {
         n: u8,
         w: u8,
