@@ -1,10 +1,13 @@
 #!/usr/bin/env python3
 """Turns a live run into a script in which the same happens: each note's group is a line, in one order of all replicas in which
-what is received was sent before. So a picture of a live run can be drawn, and what the mode script replies, of which more is
-proved, can be compared with what the live run told.
+what is received was sent before. So `store draw INPUT TEXT` draws a live run, and what the mode script replies, of which more
+is proved, can be compared with what the live run told.
 
-usage: bench/live_script.py INPUT TEXT             writes the script, for `store run` or `store draw`
+usage: bench/live_script.py INPUT TEXT             writes the script, for `store run`
        bench/live_script.py --replies INPUT TEXT   writes what it has to reply
+       bench/live_script.py --drawn INPUT TEXT     writes the script without the lines that ask whether all has settled
+
+It is for right texts: what it makes of a wrong one means nothing.
 """
 
 import sys
@@ -68,8 +71,10 @@ class Story:
         return True
 
 
-def script_of(data, text):
-    """The script of a right text, and its transcript. `None` where in no order all that is received was sent before."""
+def script_of(data, text, is_drawn=False):
+    """The script of a right text, and its transcript. `None` where in no order all that is received was sent before. What is
+    drawn has no lines that ask whether all has settled.
+    """
     run = read_input(data)
     parts = Text(run, text)
     story = Story(run, parts)
@@ -81,7 +86,7 @@ def script_of(data, text):
         return None
     counts = b" ".join(b"%d" % sent for sent in story.sent)
     seen = [(b"seen %d" % r, b"seen " + counts) for r in range(run.n)]
-    lines = [*story.lines, *seen, (b"settle", b"settled"), *seen]
+    lines = [*story.lines, *([] if is_drawn else [*seen, (b"settle", b"settled"), *seen])]
     lines += [(b"ask %d %s" % (r, object_), said) for _, r, object_, said in parts.finals]
     script = b"store %d %d %d\n" % (run.n, run.w, LIMIT) + b"".join(line + b"\n" for line, _ in lines)
     return script, b"".join(reply + b"\n" for _, reply in lines)
@@ -89,14 +94,19 @@ def script_of(data, text):
 
 def main():
     words = sys.argv[1:]
-    is_replies = words[:1] == ["--replies"]
-    if len(words) != 2 + is_replies:
-        sys.exit("usage: bench/live_script.py [--replies] INPUT TEXT")
-    with open(words[-2], "rb") as data, open(words[-1], "rb") as text:
-        made = script_of(data.read(), text.read())
+    word = words.pop(0) if words[:1] in (["--replies"], ["--drawn"]) else ""
+    if len(words) != 2:
+        sys.exit("usage: bench/live_script.py [--replies | --drawn] INPUT TEXT")
+    with open(words[0], "rb") as file:
+        data = file.read()
+    with open(words[1], "rb") as file:
+        text = file.read()
+    if read_input(data) is None:
+        sys.exit("the input has no header of a live run, or is too long")
+    made = script_of(data, text, word == "--drawn")
     if made is None:
         sys.exit("in no order of the journals everything that is received was sent before")
-    sys.stdout.buffer.write(made[is_replies])
+    sys.stdout.buffer.write(made[word == "--replies"])
 
 
 if __name__ == "__main__":
