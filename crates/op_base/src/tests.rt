@@ -2,8 +2,8 @@
 //! table of operations.
 
 use crate::{
-    Act, ByteList, Entry, Key, Kind, MOST_MEMBERS, Message, MessageId, NameFault, ObjectId, Op,
-    Tag, Update, Value, item_order,
+    Act, ByteList, Entry, Key, Kind, MOST_MEMBERS, Message, MessageId, NameFault, NoMemory, ObjectId,
+    Op, Tag, Update, Value, item_order,
 };
 use std::alloc::Global;
 use std::cmp::Ordering;
@@ -97,6 +97,27 @@ fn names_are_refused_at_their_bounds(rt: HostRuntime) {
             "object {bytes:?}"
         );
     }
+}
+
+#[test]
+fn faults_are_told(rt: HostRuntime) -> Result<(), Fail> {
+    let cases = [
+        (NameFault::Empty, "no byte"),
+        (NameFault::TooLong, "too many bytes"),
+        (
+            NameFault::BadByte { at: 12 },
+            "a byte at place 12 that may not stand there",
+        ),
+        (NameFault::NoType, "no kind before the first colon"),
+        (NameFault::NotUtf8, "no UTF-8"),
+        (NameFault::NoMemory, "out of memory"),
+    ];
+    for (fault, text) in cases {
+        assert_eq!(rt; format!(in rt.alloc(); "{fault}")?.as_str(), text);
+    }
+    let memory = NoMemory;
+    assert_eq!(rt; format!(in rt.alloc(); "{memory}")?.as_str(), "out of memory");
+    Ok(())
 }
 
 /// One act of each sort.
