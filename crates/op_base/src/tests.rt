@@ -2,8 +2,8 @@
 //! table of operations.
 
 use crate::{
-    Act, ByteList, Entry, Key, Kind, MOST_MEMBERS, Message, MessageId, NameFault, NoMemory, ObjectId,
-    Op, Tag, Update, Value, item_order,
+    Act, ByteList, Entry, Key, Kind, MOST_MEMBERS, Message, MessageId, NameFault, NoMemory,
+    ObjectId, Op, Tag, Update, Value, item_order,
 };
 use std::alloc::Global;
 use std::cmp::Ordering;
@@ -116,7 +116,10 @@ fn faults_are_told(rt: HostRuntime) -> Result<(), Fail> {
         assert_eq!(rt; format!(in rt.alloc(); "{fault}")?.as_str(), text);
     }
     let memory = NoMemory;
-    assert_eq!(rt; format!(in rt.alloc(); "{memory}")?.as_str(), "out of memory");
+    assert_eq!(rt;
+        format!(in rt.alloc(); "{memory}")?.as_str(),
+        "out of memory"
+    );
     Ok(())
 }
 
