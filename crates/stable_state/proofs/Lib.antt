@@ -1,4 +1,5 @@
 pub mod Slots
+pub mod Ranks
 pub mod Ends
 pub mod Parting
 pub mod Joined

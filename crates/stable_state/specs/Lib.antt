@@ -13,3 +13,5 @@ pub mod Settling
 pub mod View
 pub mod Laws
 pub mod Shown
+pub mod Ranks
+pub mod RankFields

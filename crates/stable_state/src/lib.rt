@@ -9,6 +9,7 @@ mod chunks;
 mod items;
 mod laws;
 mod order;
+mod rank;
 mod shelf;
 #[cfg(test)]
 mod tests;

@@ -16,7 +16,8 @@ ghost use Rattle.stable_state.specs.Touched.{is_touched, StayTouched, KeepTouche
 
 use crate::chunks::CHUNK;
 use crate::order::Order;
-use op_base::{Cell, Item, NoMemory, ObjectId, Value, item_order};
+use crate::rank::{Ranked, Sought};
+use op_base::{Cell, Item, NoMemory, ObjectId, Value};
 use slab::Slab;
 use std::alloc::Global;
 use std::marker::Model;
@@ -26,7 +27,7 @@ use std::marker::Model;
 /// and `copy` alone take memory.
 #[derive(Drop)]
 pub struct Shelf {
-    slots: Slab<Item>,
+    slots: Slab<Ranked>,
     // The slots of the items, lowest item first.
     order: Order,
     // The slots that were given a cell with an off mark, one entry each time, until they are taken from here. An item that
@@ -103,6 +104,14 @@ impl Shelf {
         requires { place < length self.now.items }
         ensures { slice_get self.now.items place ≡ Some result.now }
     {
+        self.ranked(place).item()
+    }
+
+    /// The item at a place with its rank.
+    fn ranked(&self, place: usize) -> &Ranked
+        requires { place < length self.now.items }
+        ensures { slice_get self.now.items place ≡ Some result.now }
+    {
         &self.slots[self.order.at(place)]
     }
 
@@ -115,52 +124,53 @@ impl Shelf {
         ensures absent { IfErr result (IsGapFor object.now (option_copied value.entry) self.now.items) }
         ensures rises { IfErr result (RisesWithOneAt object.now (option_copied value.entry) self.now.items) }
     {
-        let place = self.place(object, value);
-        if place < self.len() && is_of(self.at(place), object, value) {
+        let sought = Sought::new(object, value);
+        let place = self.place(&sought);
+        if place < self.len() && is_of(self.ranked(place), &sought) {
             Ok(place)
         } else {
             Err(place)
         }
     }
 
-    /// How many of the items are before an object and a value.
-    fn place(&self, object: &ObjectId, value: Option<&Value>) -> usize
+    /// How many of the items are before what is looked for.
+    fn place(&self, sought: &Sought<'_>) -> usize
         ensures within { result ≤ length self.now.items }
-        ensures place { IsParted (is_before object.now (option_copied value.entry)) self.now.items result }
+        ensures place { IsParted (is_before sought.now.object.now (option_copied sought.now.value)) self.now.items result }
     {
         let hint = self.hint;
-        if self.is_place(hint, object, value) {
+        if self.is_place(hint, sought) {
             return hint;
         }
-        place_of(&self.slots, &self.order, object, value)
+        place_of(&self.slots, &self.order, sought)
     }
 
-    /// Whether an item of an object and a value stands at a place, or would stand there.
-    fn is_place(&self, place: usize, object: &ObjectId, value: Option<&Value>) -> bool
+    /// Whether the item that is looked for stands at a place, or would stand there.
+    fn is_place(&self, place: usize, sought: &Sought<'_>) -> bool
         ensures within { result ≡ true → place ≤ length self.now.items }
-        ensures place { result ≡ true → IsParted (is_before object.now (option_copied value.entry)) self.now.items place }
+        ensures place { result ≡ true → IsParted (is_before sought.now.object.now (option_copied sought.now.value)) self.now.items place }
     {
         if place > self.len() {
             return false;
         }
-        self.is_behind(place, object, value) && self.is_up_to(place, object, value)
+        self.is_behind(place, sought) && self.is_up_to(place, sought)
     }
 
-    /// Whether the item at a place, if there is one, isn't before an object and a value.
-    fn is_up_to(&self, place: usize, object: &ObjectId, value: Option<&Value>) -> bool
+    /// Whether the item at a place, if there is one, isn't before what is looked for.
+    fn is_up_to(&self, place: usize, sought: &Sought<'_>) -> bool
         ensures { result ≡ true → place < length self.now.items
-            → HoldsAt (λ item. is_before object.now (option_copied value.entry) item ≡ false) self.now.items place }
+            → HoldsAt (λ item. is_before sought.now.object.now (option_copied sought.now.value) item ≡ false) self.now.items place }
     {
-        place >= self.len() || !is_before(self.at(place), object, value)
+        place >= self.len() || !is_before(self.ranked(place), sought)
     }
 
-    /// Whether the item ahead of a place, if there is one, is before an object and a value.
-    fn is_behind(&self, place: usize, object: &ObjectId, value: Option<&Value>) -> bool
+    /// Whether the item ahead of a place, if there is one, is before what is looked for.
+    fn is_behind(&self, place: usize, sought: &Sought<'_>) -> bool
         requires { place ≤ length self.now.items }
         ensures { result ≡ true → 0 < place
-            → HoldsAt (λ item. is_before object.now (option_copied value.entry) item ≡ true) self.now.items (place - 1) }
+            → HoldsAt (λ item. is_before sought.now.object.now (option_copied sought.now.value) item ≡ true) self.now.items (place - 1) }
     {
-        place == 0 || is_before(self.at(place - 1), object, value)
+        place == 0 || is_before(self.ranked(place - 1), sought)
     }
 
     /// The places of an object's items: the first, and the one behind the last.
@@ -168,7 +178,7 @@ impl Shelf {
         ensures { IsSpan object.now self.now.items result.0 result.1 }
     {
         (
-            place_of(&self.slots, &self.order, object, None),
+            place_of(&self.slots, &self.order, &Sought::new(object, None)),
             place_behind(&self.slots, &self.order, object),
         )
     }
@@ -189,7 +199,7 @@ impl Shelf {
             add(&mut self.touched, slot);
         }
         self.order.insert(place, slot);
-        self.slots.insert_reserved(item);
+        self.slots.insert_reserved(Ranked::new(item));
         self.hint = place;
     }
 
@@ -266,47 +276,55 @@ impl Shelf {
         ensures few { OnSome result (length self.now.items < 2 ^ 64) }
         ensures last { IsLast self.now (take (length self.now.touched - 1) self.now.touched) result }
     {
-        let item = self.slots.get(self.touched[self.touched.len() - 1])?;
+        let ranked = self.slots.get(self.touched[self.touched.len() - 1])?;
+        let item = ranked.item();
         self.find(&item.object, item.value.as_ref()).ok()
     }
 }
 
-/// Whether an item is of an object and a value.
-fn is_of(item: &Item, object: &ObjectId, value: Option<&Value>) -> bool
-    ensures { result ≡ is_at object.now (option_copied value.entry) item.now }
+/// Whether an item is the one that is looked for.
+fn is_of(item: &Ranked, sought: &Sought<'_>) -> bool
+    ensures { result ≡ is_at sought.now.object.now (option_copied sought.now.value) item.now }
 {
-    item_order(&item.object, item.value.as_ref(), object, value).is_eq()
+    item.order_to(sought).is_eq()
 }
 
-/// Whether an item is before an object and a value.
-fn is_before(item: &Item, object: &ObjectId, value: Option<&Value>) -> bool
-    ensures { result ≡ is_before object.now (option_copied value.entry) item.now }
+/// Whether an item is before the one that is looked for.
+fn is_before(item: &Ranked, sought: &Sought<'_>) -> bool
+    ensures { result ≡ is_before sought.now.object.now (option_copied sought.now.value) item.now }
 {
-    item_order(&item.object, item.value.as_ref(), object, value).is_lt()
+    item.order_to(sought).is_lt()
 }
 
-/// How many of the items in slots are before an object and a value. The items rise.
-fn place_of(slots: &Slab<Item>, order: &Order, object: &ObjectId, value: Option<&Value>) -> usize
+/// Whether an item is of an object, or of one before it.
+fn is_up_to(item: &Ranked, object: &ObjectId) -> bool
+    ensures { result ≡ is_up_to object.now item.now }
+{
+    item.item().object <= *object
+}
+
+/// How many of the items in slots are before what is looked for. The items rise.
+fn place_of(slots: &Slab<Ranked>, order: &Order, sought: &Sought<'_>) -> usize
     requires held { All (ContainsKey slots.now) order.now.items }
     requires rise { Rise (items_in slots.now order.now.items) }
     ensures within { result ≤ length order.now.items }
-    ensures place { IsParted (is_before object.now (option_copied value.entry)) (items_in slots.now order.now.items) result }
+    ensures place { IsParted (is_before sought.now.object.now (option_copied sought.now.value)) (items_in slots.now order.now.items) result }
 {
     order.partition_point(|slot| match slots.get(*slot) {
-        Some(item) => is_before(item, object, value),
+        Some(item) => is_before(item, sought),
         None => false,
     })
 }
 
 /// How many of the items in slots are of an object, or of one before it. The items rise.
-fn place_behind(slots: &Slab<Item>, order: &Order, object: &ObjectId) -> usize
+fn place_behind(slots: &Slab<Ranked>, order: &Order, object: &ObjectId) -> usize
     requires held { All (ContainsKey slots.now) order.now.items }
     requires rise { Rise (items_in slots.now order.now.items) }
     ensures within { result ≤ length order.now.items }
     ensures place { IsParted (is_up_to object.now) (items_in slots.now order.now.items) result }
 {
     order.partition_point(|slot| match slots.get(*slot) {
-        Some(item) => item.object <= *object,
+        Some(item) => is_up_to(item, object),
         None => false,
     })
 }
@@ -314,9 +332,9 @@ fn place_behind(slots: &Slab<Item>, order: &Order, object: &ObjectId) -> usize
 /// Copies the items in the slots of an order into slots that have none, and gives the order of these.
 fn copy_order(
     alloc: Global,
-    from: &Slab<Item>,
+    from: &Slab<Ranked>,
     order: &Order,
-    into: &mut Slab<Item>,
+    into: &mut Slab<Ranked>,
 ) -> Result<Order, NoMemory>
     requires held { All (ContainsKey from.now) order.now.items }
     requires none { slab_len into.old ≡ 0 }
@@ -339,9 +357,9 @@ fn copy_order(
 /// Copies the items in slots into other slots, and gives these in the same order.
 fn copy_run(
     alloc: Global,
-    from: &Slab<Item>,
+    from: &Slab<Ranked>,
     run: &[usize],
-    into: &mut Slab<Item>,
+    into: &mut Slab<Ranked>,
 ) -> Result<Vec<usize>, NoMemory>
     requires held { All (ContainsKey from.now) run.now }
     requires room { HasRoomFor into.old (length run.now) }
@@ -351,25 +369,10 @@ fn copy_run(
 {
     let mut slots = Vec::with_capacity(alloc, run.len())?;
     for slot in run {
-        let item = copy_of(&from[*slot], alloc)?;
+        let item = from[*slot].copy(alloc)?;
         slots.push_reserved(into.insert_reserved(item));
     }
     Ok(slots)
-}
-
-/// An equal item. `NoMemory` leaves nothing behind.
-fn copy_of(item: &Item, alloc: Global) -> Result<Item, NoMemory>
-    ensures { IfOk result (λ copy. copy ≡ item.now) }
-{
-    let value = match &item.value {
-        Some(value) => Some(value.copy(alloc)?),
-        None => None,
-    };
-    Ok(Item {
-        object: item.object.copy(alloc)?,
-        value,
-        cell: item.cell,
-    })
 }
 
 /// Adds a slot to a list that has room for it.
@@ -385,7 +388,7 @@ fn add(list: &mut Vec<usize>, slot: usize)
 }
 
 /// Lets the items go in the slots of an order that stand at places from the first up to, and not with, the second.
-fn empty_slots(slots: &mut Slab<Item>, order: &Order, from: usize, to: usize)
+fn empty_slots(slots: &mut Slab<Ranked>, order: &Order, from: usize, to: usize)
     requires ordered { from ≤ to }
     requires within { to ≤ length order.now.items }
     requires held { All (ContainsKey slots.old) order.now.items }
@@ -400,10 +403,10 @@ fn empty_slots(slots: &mut Slab<Item>, order: &Order, from: usize, to: usize)
 }
 
 /// Gives the item in a slot another cell.
-fn write_cell(slots: &mut Slab<Item>, slot: usize, cell: Cell)
+fn write_cell(slots: &mut Slab<Ranked>, slot: usize, cell: Cell)
     requires { ContainsKey slots.old slot }
     ensures written { (item : Item) → get slots.old slot ≡ Some item
         → slots.new ≡ with_value slots.old slot (record item { cell = cell }) }
 {
-    slots[slot].cell = cell;
+    slots[slot].set_cell(cell);
 }

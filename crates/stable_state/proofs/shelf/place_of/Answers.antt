@@ -10,7 +10,7 @@ pub returns-clause-place : goal.returns-clause-place
 returns-clause-place c =
     let slots = c.args.slots.now in
     let order = c.args.order.now.items in
-    let p = is_before c.args.object.now (option_copied c.args.value) in
-    let parted = slots_parted p slots order c.requires.held (before_parts (items_in slots order) c.requires.rise c.args.object.now (option_copied c.args.value)) in
+    let p = is_before c.args.sought.now.object.now (option_copied c.args.sought.now.value) in
+    let parted = slots_parted p slots order c.requires.held (before_parts (items_in slots order) c.requires.rise c.args.sought.now.object.now (option_copied c.args.sought.now.value)) in
     let point = IsPartitionPoint-from_clause (slot_passes p slots order c.requires.held) _ _ c.partition_point.ensures.partitioned parted (λ a r q k. search rules) in
     items_parted p slots order c.requires.held c.partition_point.result c.partition_point.ensures.bound point

@@ -51,7 +51,8 @@ changes : (c : goal.After-self-1) → Updates c.self.inside.slots c.insert_reser
 changes c =
     let new = c.insert_reserved.new.self in
     let key = c.insert_reserved.ensures.key ∙ ap (λ slots. slots.vacant_key) (noted c).slots ∙ sym c.vacant_key-slot.ensures.value in
-    subst (λ slots. Updates slots new c.vacant_key-slot.result (Some c.args.item)) (noted c).slots (subst (λ k. Updates c.if-item.self-inside.slots new k (Some c.args.item)) key c.insert_reserved.ensures.updates)
+    subst (λ slots. Updates slots new c.vacant_key-slot.result (Some c.args.item)) (noted c).slots
+    (subst (λ k. Updates c.if-item.self-inside.slots new k (Some c.args.item)) key (subst (λ item. Updates c.if-item.self-inside.slots new c.insert_reserved.result (Some item)) c.new.ensures c.insert_reserved.ensures.updates))
 
 within : (c : goal.After-self-1) → c.args.place ≤ length c.self.inside.order.items
 within c = omega (arith, c.requires.within, ap (λ shelved. length shelved.items) c.self.view_is, length-map c.self.inside.order.items (item_in c.self.inside.slots))

@@ -7,5 +7,5 @@ use Rattle.stable_state.proofs.shelf.Shelf.place.Goals as goal
 pub returns : goal.returns
 returns c =
     let s = c.self.inside in
-    let point = point_moves (is_before c.args.object.now (option_copied c.args.value)) s.slots s.order.items c.args.self.now.items c.place_of.result (ap (λ shelved. shelved.items) c.self.view_is) c.place_of.ensures.within c.place_of.ensures.place in
+    let point = point_moves (is_before c.args.sought.now.object.now (option_copied c.args.sought.now.value)) s.slots s.order.items c.args.self.now.items c.place_of.result (ap (λ shelved. shelved.items) c.self.view_is) c.place_of.ensures.within c.place_of.ensures.place in
     record { within = point.0; place = point.1 }

@@ -1,0 +1,196 @@
+//! Items with their ranks: numbers that tell most items apart without a look at their names.
+//!
+//! That the first bytes of a name are kept as a number beside it, so that most steps of a search compare two numbers, is a
+//! textbook rule.
+
+ghost use Rattle.std.specs.Prelude.{◌≡◌, ℕ, ◌≤◌, ◌<◌, IfOk, IsTrue, option_copied, slice_index, length, take, drop, ◌+◌, ◌++◌, ◌∷◌, []};
+ghost use Rattle.op_base.specs.Name.{is_key};
+ghost use Rattle.op_base.specs.Object.{kind_place};
+ghost use Rattle.op_base.specs.Order.{item_cmp};
+ghost use Rattle.byteorder.specs.Endian.{big_number};
+ghost use Rattle.stable_state.specs.Ranks.{item_text, rank_of, rank_cmp, IsNamed};
+
+use byteorder::{BigEndian, ByteOrder};
+use op_base::{Cell, Item, Kind, NoMemory, ObjectId, Value, item_order};
+use std::alloc::Global;
+use std::cmp::Ordering;
+use std::marker::Model;
+
+/// The first 32 bytes of an item's text, as two numbers of 16 bytes each: the place of its kind, its key, a byte 0, and its
+/// value. Items stand in the order of their ranks, as far as these differ.
+#[derive(Clone, Copy, Drop)]
+pub struct Rank {
+    first: u128,
+    second: u128,
+}
+
+/// An item with its rank. Contracts see the item.
+#[derive(Drop)]
+pub struct Ranked {
+    rank: Rank,
+    item: Item,
+}
+
+impl Model for Ranked {
+    ghost use Rattle.op_base.specs.declared.outcome.Item.{Item as AnItem};
+
+    ghost Value = { AnItem };
+
+    ghost use Rattle.stable_state.specs.RankFields.{IsRanked};
+
+    ghost view = { λ ranked. ranked.item };
+
+    ghost invariant = { IsRanked };
+}
+
+/// An object and a value that are looked for among items, with the rank of their item.
+#[derive(Clone, Copy)]
+pub struct Sought<'a> {
+    object: &'a ObjectId,
+    value: Option<&'a Value>,
+    rank: Rank,
+    ghost ranked: { rank ≡ rank_of object.now (option_copied value) },
+    ghost named: { IsNamed object.now (option_copied value) },
+}
+
+impl<'a> Sought<'a> {
+    /// The item of an object and a value.
+    pub fn new(object: &'a ObjectId, value: Option<&'a Value>) -> Sought<'a>
+        ensures object { result.object.now ≡ object.now }
+        ensures value { option_copied result.value ≡ option_copied value.entry }
+    {
+        Sought {
+            object,
+            value,
+            rank: rank_of(object, value),
+        }
+    }
+}
+
+impl Ranked {
+    /// An item, with its rank.
+    pub fn new(item: Item) -> Ranked
+        ensures { result ≡ item }
+    {
+        let rank = rank_of(&item.object, item.value.as_ref());
+        Ranked { rank, item }
+    }
+
+    /// The item.
+    pub fn item(&self) -> &Item
+        ensures { result.now ≡ self.now }
+    {
+        &self.item
+    }
+
+    /// How the item stands to what is looked for.
+    pub fn order_to(&self, sought: &Sought<'_>) -> Ordering
+        ensures { result ≡ item_cmp self.now.object self.now.value sought.now.object.now (option_copied sought.now.value) }
+    {
+        match rank_order(self.rank, sought.rank) {
+            Ordering::Equal => item_order(
+                &self.item.object,
+                self.item.value.as_ref(),
+                sought.object,
+                sought.value,
+            ),
+            unequal => unequal,
+        }
+    }
+
+    /// Gives the item another cell.
+    pub fn set_cell(&mut self, cell: Cell)
+        ensures { self.new ≡ record self.old { cell = cell } }
+    {
+        self.item.cell = cell;
+    }
+
+    /// An equal item. `NoMemory` leaves nothing behind.
+    pub fn copy(&self, alloc: Global) -> Result<Ranked, NoMemory>
+        ensures { IfOk result (λ copy. copy ≡ self.now) }
+    {
+        let value = match &self.item.value {
+            Some(value) => Some(value.copy(alloc)?),
+            None => None,
+        };
+        let item = Item {
+            object: self.item.object.copy(alloc)?,
+            value,
+            cell: self.item.cell,
+        };
+        Ok(Ranked {
+            rank: self.rank,
+            item,
+        })
+    }
+}
+
+/// How a rank stands to another.
+fn rank_order(rank: Rank, other: Rank) -> Ordering
+    ensures { result ≡ rank_cmp rank other }
+{
+    match rank.first.cmp(&other.first) {
+        Ordering::Equal => rank.second.cmp(&other.second),
+        unequal => unequal,
+    }
+}
+
+/// The rank of the item of an object and a value.
+fn rank_of(object: &ObjectId, value: Option<&Value>) -> Rank
+    ensures rank { result ≡ rank_of object.now (option_copied value.entry) }
+    ensures named { IsNamed object.now (option_copied value.entry) }
+{
+    rank_in(&front_of(object, value))
+}
+
+/// The rank of an item whose text begins like this.
+fn rank_in(text: &[u8]) -> Rank
+    requires { 32 ≤ length text.now }
+    ensures first { result.first ≡ big_number 16 text.now }
+    ensures second { result.second ≡ big_number 16 (drop 16 text.now) }
+    ensures bytes { (i : ℕ) → slice_index text.now i < 256 }
+{
+    Rank {
+        first: BigEndian::read_u128(text),
+        second: BigEndian::read_u128(&text[16..]),
+    }
+}
+
+/// The first bytes of the text of an item, 32 or more of them, and zeros behind a text that is shorter.
+fn front_of(object: &ObjectId, value: Option<&Value>) -> [u8; 66]
+    ensures front { (i : ℕ) → i < 32 → slice_index result i ≡ slice_index (item_text object.now (option_copied value.entry)) i }
+    ensures key { IsTrue (is_key object.now.key) }
+{
+    let key = object.key.as_slice();
+    let mut text = zeros();
+    text[0] = place_of_kind(object.kind);
+    write_at(&mut text, 1, key);
+    if let Some(value) = value {
+        let bytes = value.as_slice();
+        write_at(&mut text, key.len() + 2, &bytes[..bytes.len().min(32)]);
+    }
+    text
+}
+
+/// A text of zeros.
+fn zeros() -> [u8; 66]
+    ensures each { (i : ℕ) → slice_index result i ≡ 0 }
+    ensures len { length result ≡ 66 }
+{
+    [0; 66]
+}
+
+/// The place of a kind in their order.
+fn place_of_kind(kind: Kind) -> u8
+    ensures { result ≡ kind_place kind }
+{
+    kind as u8
+}
+
+/// Writes bytes into a text from a place on.
+fn write_at(text: &mut [u8; 66], place: usize, bytes: &[u8])
+    requires { place + length bytes.now ≤ 66 }
+    ensures { text.new ≡ take place text.old ++ bytes.now ++ drop (place + length bytes.now) text.old }
+{
+    text[place..place + bytes.len()].copy_from_slice(bytes);
+}
