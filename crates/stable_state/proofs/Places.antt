@@ -89,15 +89,29 @@ module _ (items : List Item) (rise : Rise items) where
         ap not (upto objects_total x.object y.object object (first_not_greater (object_cmp x.object y.object) (option_cmp text_cmp x.value y.value) (rise i j d less within)) (not-true (is_gt (object_cmp y.object object)) t))
   ]
 
--- a test parts rising items where the item ahead passes and the one there doesn't
+-- a test that parts items does so where the item ahead passes and the one there doesn't
+parted_at : (p : Item → Bool) (items : List Item) (place : ℕ) → IsPartitionedBy p items → place ≤ length items
+    → (0 < place → HoldsAt (λ item. p item ≡ true) items (place - 1)) → (place < length items → HoldsAt (λ item. p item ≡ false) items place) → IsParted p items place
+parted_at p items place parted within ahead there = (
+  λ k d from less. parted k (place - 1) d (omega (arith, less)) (omega (arith, less, within)) (ahead (omega (arith, less)) d),
+  λ k d from less. false_from_ne_true (p (get_or items k d)) (λ t. both_ways (p (get_or items place d)) (there (omega (arith, from, less)) d) (parted place k d from less t)),
+)
+
 pub parted_there : (items : List Item) (place : ℕ) → Rise items → place ≤ length items → (object : ObjectId) (value : Option (List ℕ))
     → (0 < place → HoldsAt (λ item. is_before object value item ≡ true) items (place - 1))
     → (place < length items → HoldsAt (λ item. is_before object value item ≡ false) items place) → IsParted (is_before object value) items place
-parted_there items place rise within object value ahead there = (
-  λ k d from less. before_parts items rise object value k (place - 1) d (omega (arith, less)) (omega (arith, less, within)) (ahead (omega (arith, less)) d),
-  λ k d from less. false_from_ne_true (is_before object value (get_or items k d)) (λ t. both_ways (is_before object value (get_or items place d))
-      (there (omega (arith, from, less)) d) (before_parts items rise object value place k d from less t)),
-)
+parted_there items place rise within object value = parted_at (is_before object value) items place (before_parts items rise object value) within
+
+pub up_to_there : (items : List Item) (place : ℕ) → Rise items → place ≤ length items → (object : ObjectId)
+    → (0 < place → HoldsAt (λ item. is_up_to object item ≡ true) items (place - 1))
+    → (place < length items → HoldsAt (λ item. is_up_to object item ≡ false) items place) → IsParted (is_up_to object) items place
+up_to_there items place rise within object = parted_at (is_up_to object) items place (up_to_parts items rise object) within
+
+-- what is before an object is up to it
+pub before_is_up_to : (object : ObjectId) (item : Item) → is_before object None item ≡ true → is_up_to object item ≡ true
+before_is_up_to object item t =
+    let cmp = object_cmp item.object object in
+    ap (λ o. not (is_gt o)) (is_less cmp (sym (before_none cmp item.value) ∙ t))
 
 -- ---- the same in slots
 

@@ -1,5 +1,5 @@
 -- Ranks stand in the order of items, as far as they differ.
-use Rattle.std.proofs.Common.{◌≡◌, ℕ, zero, suc, ◌+◌, ◌*◌, ◌^◌, ◌<◌, ◌≤◌, Bool, true, List, [], ◌∷◌, ◌++◌, ◌-◌, take, drop, length, min, inl, inr, refl, sym, ap, subst, ◌∙◌, get_or-drop, length-append, append_assoc, ◌⊎◌, arith}
+use Rattle.std.proofs.Common.{◌≡◌, ℕ, zero, suc, ◌+◌, ◌*◌, ◌^◌, ◌<◌, ◌≤◌, true, List, [], ◌∷◌, ◌++◌, ◌-◌, take, drop, length, min, inl, inr, refl, sym, ap, subst, ◌∙◌, get_or-drop, length-append, append_assoc, ◌⊎◌, arith}
 use Rattle.std.specs.Prelude.{Option, Some, None, unwrap_or, slice_index, slice_set, replicate, IsTrue}
 use Rattle.std.specs.List.{list_all}
 use Rattle.std.specs.Option.{option_cmp}
@@ -13,7 +13,7 @@ use Rattle.std.proofs.lemmas.Nat.{row_fits, mul-add-lt, same_from_place}
 use Rattle.byteorder.specs.Endian.{big_from, big_number}
 use Rattle.op_base.specs.Name.{is_key, is_key_byte}
 use Rattle.op_base.specs.Object.{kind_place}
-use Rattle.op_base.specs.Order.{text_cmp, object_cmp, item_cmp}
+use Rattle.op_base.specs.Order.{text_cmp, item_cmp}
 use Rattle.op_base.specs.declared.name.ObjectId.{ObjectId}
 use Rattle.causal_model.proofs.Places.{places_total}
 use Rattle.stable_state.specs.Ranks.{item_text, rank_of, rank_cmp, IsNamed}

@@ -84,18 +84,27 @@ impl Ranked {
     }
 
     /// How the item stands to what is looked for.
+    #[inline(always)]
     pub fn order_to(&self, sought: &Sought<'_>) -> Ordering
         ensures { result ≡ item_cmp self.now.object self.now.value sought.now.object.now (option_copied sought.now.value) }
     {
         match rank_order(self.rank, sought.rank) {
-            Ordering::Equal => item_order(
-                &self.item.object,
-                self.item.value.as_ref(),
-                sought.object,
-                sought.value,
-            ),
+            Ordering::Equal => self.name_order(sought),
             unequal => unequal,
         }
+    }
+
+    /// The same by whole names, which few steps of a search need.
+    #[inline(never)]
+    fn name_order(&self, sought: &Sought<'_>) -> Ordering
+        ensures { result ≡ item_cmp self.now.object self.now.value sought.now.object.now (option_copied sought.now.value) }
+    {
+        item_order(
+            &self.item.object,
+            self.item.value.as_ref(),
+            sought.object,
+            sought.value,
+        )
     }
 
     /// Gives the item another cell.

@@ -3,7 +3,7 @@
 //! An index in order over records that stay where they are is a textbook rule.
 
 ghost use Rattle.std.specs.Prelude.{◌≡◌, ◌≢◌, ◌⊎◌, ℕ, ◌+◌, ◌-◌, ◌^◌, ◌<◌, ◌≤◌, true, false, [], ◌∷◌, ◌++◌, List, length, take, insert, slice_get};
-ghost use Rattle.std.specs.Prelude.{Some, IsTrue, IfOk, OnOk, OnSome, IfErr, IsOk, All, AllPairs, Contains, HoldsAt, option_copied};
+ghost use Rattle.std.specs.Prelude.{Some, IsTrue, IfOk, OnOk, OnSome, IfErr, None, IsOk, All, AllPairs, Contains, HoldsAt, option_copied};
 ghost use Rattle.std.specs.Prelude.{vec_len, vec_capacity};
 ghost use Rattle.std.specs.List.{between};
 ghost use Rattle.causal_model.specs.Items.{is_at, is_filled, Rise};
@@ -177,10 +177,38 @@ impl Shelf {
     pub fn span(&self, object: &ObjectId) -> (usize, usize)
         ensures { IsSpan object.now self.now.items result.0 result.1 }
     {
-        (
-            place_of(&self.slots, &self.order, &Sought::new(object, None)),
-            place_behind(&self.slots, &self.order, object),
-        )
+        let from = place_of(&self.slots, &self.order, &Sought::new(object, None));
+        (from, self.end(from, object))
+    }
+
+    /// How many of the items are of an object or of one before it, where so many are of one before it. Most objects have
+    /// few items, so the next two are looked at first.
+    fn end(&self, from: usize, object: &ObjectId) -> usize
+        requires within { from ≤ length self.now.items }
+        requires before { IsParted (is_before object.now None) self.now.items from }
+        ensures within { result ≤ length self.now.items }
+        ensures place { IsParted (is_up_to object.now) self.now.items result }
+    {
+        if self.is_end(from, object) {
+            return from;
+        }
+        if self.is_end(from + 1, object) {
+            return from + 1;
+        }
+        place_behind(&self.slots, &self.order, object)
+    }
+
+    /// Whether no item stands at a place, or one of an object behind this.
+    fn is_end(&self, place: usize, object: &ObjectId) -> bool
+        requires { place ≤ length self.now.items }
+        ensures rise { Rise self.now.items }
+        ensures few { length self.now.items < 2 ^ 64 }
+        ensures end { result ≡ true → place < length self.now.items
+            → HoldsAt (λ item. is_up_to object.now item ≡ false) self.now.items place }
+        ensures within { result ≡ false → place < length self.now.items }
+        ensures inside { result ≡ false → HoldsAt (λ item. is_up_to object.now item ≡ true) self.now.items place }
+    {
+        place >= self.len() || !is_up_to(self.ranked(place), object)
     }
 
     /// Puts an item at its place among the others. With an off mark it is touched. It takes no memory.

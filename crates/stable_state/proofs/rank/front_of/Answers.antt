@@ -1,8 +1,7 @@
-use Rattle.std.proofs.Common.{◌≡◌, ℕ, ◌+◌, ◌<◌, [], ◌∷◌, ◌++◌, length, take, drop, sym, ap, subst, ◌∙◌}
-use Rattle.std.specs.Prelude.{Some, option_copied, unwrap_or, slice_index, slice_set, IsTrue}
+use Rattle.std.proofs.Common.{◌≡◌, ◌+◌, [], ◌∷◌, ◌++◌, length, take, drop, sym, ap, subst, ◌∙◌}
+use Rattle.std.specs.Prelude.{option_copied, unwrap_or, slice_index, IsTrue}
 use Rattle.op_base.specs.Name.{is_key}
-use Rattle.op_base.specs.Object.{kind_place}
-use Rattle.stable_state.proofs.Ranks.{Alike, spaced, key_fits, named_text, valued_text}
+use Rattle.stable_state.proofs.Ranks.{spaced, key_fits, named_text, valued_text}
 use Rattle.stable_state.proofs.rank.front_of.Goals as goal
 
 pub returns-in-Some-clause-front : goal.returns-in-Some-clause-front

@@ -1,7 +1,7 @@
 use Rattle.std.proofs.Common.{ap, subst}
 use Rattle.std.specs.Prelude.{None}
 use Rattle.causal_model.specs.Items.{Rise}
-use Rattle.stable_state.specs.Places.{is_before, is_up_to, IsParted}
+use Rattle.stable_state.specs.Places.{is_before, IsParted}
 use Rattle.stable_state.specs.Slots.{items_in}
 use Rattle.stable_state.proofs.Places.{point_moves, span_is}
 use Rattle.stable_state.proofs.shelf.Shelf.span.Goals as goal
@@ -14,8 +14,7 @@ returns c =
     let is = ap (λ shelved. shelved.items) c.self.view_is in
     let sought = c.new.result in
     let all = items_in slots c.self.inside.order.items in
-    let parted : IsParted (is_before object None) all c.place_of.result =
-    subst (λ o. IsParted (is_before o None) all c.place_of.result) c.new.ensures.object (subst (λ v. IsParted (is_before sought.object.now v) all c.place_of.result) c.new.ensures.value c.place_of.ensures.place) in
-    let first = point_moves (is_before object None) slots c.self.inside.order.items items c.place_of.result is c.place_of.ensures.within parted in
-    let last = point_moves (is_up_to object) slots c.self.inside.order.items items c.place_behind.result is c.place_behind.ensures.within c.place_behind.ensures.place in
-    span_is object items (subst Rise is c.self.invariant.rise) c.place_of.result c.place_behind.result first.0 last.0 first.1 last.1
+    let parted : IsParted (is_before object None) all c.place_of-from.result =
+    subst (λ o. IsParted (is_before o None) all c.place_of-from.result) c.new.ensures.object (subst (λ v. IsParted (is_before sought.object.now v) all c.place_of-from.result) c.new.ensures.value c.place_of-from.ensures.place) in
+    let first = point_moves (is_before object None) slots c.self.inside.order.items items c.place_of-from.result is c.place_of-from.ensures.within parted in
+    span_is object items (subst Rise is c.self.invariant.rise) c.place_of-from.result c.end.result first.0 c.end.ensures.within first.1 c.end.ensures.place

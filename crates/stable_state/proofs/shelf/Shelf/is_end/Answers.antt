@@ -1,0 +1,13 @@
+use Rattle.std.proofs.Common.{sym, ap, ◌∙◌}
+use Rattle.std.proofs.lemmas.Bool.{not-true, not-false}
+use Rattle.std.proofs.lemmas.Option.{get_or_from_slice_get}
+use Rattle.stable_state.specs.Places.{is_up_to}
+use Rattle.stable_state.proofs.shelf.Shelf.is_end.Goals as goal
+
+pub returns-else-place-len-clause-end : goal.returns-else-place-len-clause-end
+returns-else-place-len-clause-end c = λ t there d.
+    ap (is_up_to c.args.object.now) (get_or_from_slice_get c.args.self.now.items c.args.place c.ranked.result.now d c.ranked.ensures) ∙ sym c.is_up_to.ensures ∙ not-true c.is_up_to.result t
+
+pub returns-else-place-len-clause-inside : goal.returns-else-place-len-clause-inside
+returns-else-place-len-clause-inside c = λ t d.
+    ap (is_up_to c.args.object.now) (get_or_from_slice_get c.args.self.now.items c.args.place c.ranked.result.now d c.ranked.ensures) ∙ sym c.is_up_to.ensures ∙ not-false c.is_up_to.result t
