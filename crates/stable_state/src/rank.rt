@@ -11,10 +11,17 @@ ghost use Rattle.byteorder.specs.Endian.{big_number};
 ghost use Rattle.stable_state.specs.Ranks.{item_text, rank_of, rank_cmp, IsNamed};
 
 use byteorder::{BigEndian, ByteOrder};
-use op_base::{Cell, Item, Kind, NoMemory, ObjectId, Value, item_order};
+use op_base::{Cell, Item, Kind, MOST_KEY_BYTES, NoMemory, ObjectId, Value, item_order};
 use std::alloc::Global;
 use std::cmp::Ordering;
 use std::marker::Model;
+
+/// A rank has so many bytes of an item's text.
+const RANK_BYTES: usize = 32;
+
+/// A text that is put together has room for the place of a kind, the longest key, a byte 0, and as much of a value as a rank
+/// can have.
+const TEXT_BYTES: usize = MOST_KEY_BYTES + RANK_BYTES + 2;
 
 /// The first 32 bytes of an item's text, as two numbers of 16 bytes each: the place of its kind, its key, a byte 0, and its
 /// value. Items stand in the order of their ranks, as far as these differ.
@@ -152,7 +159,7 @@ fn rank_of(object: &ObjectId, value: Option<&Value>) -> Rank
     rank_in(&front_of(object, value))
 }
 
-/// The rank of an item whose text begins like this.
+/// The rank of the item whose text begins with these bytes.
 fn rank_in(text: &[u8]) -> Rank
     requires { 32 ≤ length text.now }
     ensures first { result.first ≡ big_number 16 text.now }
@@ -161,12 +168,12 @@ fn rank_in(text: &[u8]) -> Rank
 {
     Rank {
         first: BigEndian::read_u128(text),
-        second: BigEndian::read_u128(&text[16..]),
+        second: BigEndian::read_u128(&text[RANK_BYTES / 2..]),
     }
 }
 
 /// The first bytes of the text of an item, 32 or more of them, and zeros behind a text that is shorter.
-fn front_of(object: &ObjectId, value: Option<&Value>) -> [u8; 66]
+fn front_of(object: &ObjectId, value: Option<&Value>) -> [u8; TEXT_BYTES]
     ensures front { (i : ℕ) → i < 32 → slice_index result i ≡ slice_index (item_text object.now (option_copied value.entry)) i }
     ensures key { IsTrue (is_key object.now.key) }
 {
@@ -176,17 +183,18 @@ fn front_of(object: &ObjectId, value: Option<&Value>) -> [u8; 66]
     write_at(&mut text, 1, key);
     if let Some(value) = value {
         let bytes = value.as_slice();
-        write_at(&mut text, key.len() + 2, &bytes[..bytes.len().min(32)]);
+        let len = bytes.len().min(RANK_BYTES);
+        write_at(&mut text, key.len() + 2, &bytes[..len]);
     }
     text
 }
 
 /// A text of zeros.
-fn zeros() -> [u8; 66]
+fn zeros() -> [u8; TEXT_BYTES]
     ensures each { (i : ℕ) → slice_index result i ≡ 0 }
     ensures len { length result ≡ 66 }
 {
-    [0; 66]
+    [0; TEXT_BYTES]
 }
 
 /// The place of a kind in their order.
@@ -197,7 +205,7 @@ fn place_of_kind(kind: Kind) -> u8
 }
 
 /// Writes bytes into a text from a place on.
-fn write_at(text: &mut [u8; 66], place: usize, bytes: &[u8])
+fn write_at(text: &mut [u8; TEXT_BYTES], place: usize, bytes: &[u8])
     requires { place + length bytes.now ≤ 66 }
     ensures { text.new ≡ take place text.old ++ bytes.now ++ drop (place + length bytes.now) text.old }
 {

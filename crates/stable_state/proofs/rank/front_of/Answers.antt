@@ -13,7 +13,7 @@ returns-in-Some-clause-front c =
     let first = named_text c.zeros-text.result place key c.write_at.new.text c.zeros-text.ensures.len c.zeros-text.ensures.each short c.write_at.ensures in
     λ i l.
     valued_text c.write_at.new.text c.write_at-in-Some.new.text key value place c.write_at.array_long short first
-    (subst (λ n. c.write_at-in-Some.new.text ≡ (take (length key + 2) c.write_at.new.text ++ take n value) ++ drop (length key + 2 + length (take n value)) c.write_at.new.text) c.min.ensures c.write_at-in-Some.ensures) i l
+    (subst (λ n. c.write_at-in-Some.new.text ≡ (take (length key + 2) c.write_at.new.text ++ take n value) ++ drop (length key + 2 + length (take n value)) c.write_at.new.text) c.min-len.ensures c.write_at-in-Some.ensures) i l
     ∙ (λ j. slice_index (c.place_of_kind.ensures j ∷ (c.as_slice-key.ensures.bytes j ++ 0 ∷ (c.as_slice-bytes.ensures.bytes ∙ ap (λ value. unwrap_or (option_copied value) []) (sym c.in-Some.is)) j)) i)
 
 pub returns-in_default-clause-front : goal.returns-in_default-clause-front
