@@ -124,8 +124,25 @@ impl Shelf {
         ensures absent { IfErr result (IsGapFor object.now (option_copied value.entry) self.now.items) }
         ensures rises { IfErr result (RisesWithOneAt object.now (option_copied value.entry) self.now.items) }
     {
+        self.find_near(self.hint, object, value)
+    }
+
+    /// The same, where another place is looked at first than that where an item came, changed or went last.
+    pub fn find_near(
+        &self,
+        near: usize,
+        object: &ObjectId,
+        value: Option<&Value>,
+    ) -> Result<usize, usize>
+        ensures within { IfOk result (λ place. place < length self.now.items) }
+        ensures few { length self.now.items < 2 ^ 64 }
+        ensures found { IfOk result
+            (HoldsAt (λ item. is_at object.now (option_copied value.entry) item ≡ true) self.now.items) }
+        ensures absent { IfErr result (IsGapFor object.now (option_copied value.entry) self.now.items) }
+        ensures rises { IfErr result (RisesWithOneAt object.now (option_copied value.entry) self.now.items) }
+    {
         let sought = Sought::new(object, value);
-        let place = self.place(&sought);
+        let place = self.place(near, &sought);
         if place < self.len() && is_of(self.ranked(place), &sought) {
             Ok(place)
         } else {
@@ -133,14 +150,13 @@ impl Shelf {
         }
     }
 
-    /// How many of the items are before what is looked for.
-    fn place(&self, sought: &Sought<'_>) -> usize
+    /// How many of the items are before what is looked for. A place is looked at first.
+    fn place(&self, near: usize, sought: &Sought<'_>) -> usize
         ensures within { result ≤ length self.now.items }
         ensures place { IsParted (is_before sought.now.object.now (option_copied sought.now.value)) self.now.items result }
     {
-        let hint = self.hint;
-        if self.is_place(hint, sought) {
-            return hint;
+        if self.is_place(near, sought) {
+            return near;
         }
         place_of(&self.slots, &self.order, sought)
     }

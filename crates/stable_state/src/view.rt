@@ -43,7 +43,7 @@ impl ItemView for ItemSpan<'_> {
     ghost items = { λ span. between span.from span.to span.shelf.now.items };
 
     fn cell(&self, object: &ObjectId, value: Option<&Value>) -> Cell {
-        let Ok(place) = self.shelf.find(object, value) else {
+        let Ok(place) = self.shelf.find_near(self.from, object, value) else {
             return NO_CELL;
         };
         if (self.from..self.to).contains(&place) {

@@ -4,8 +4,8 @@ use Rattle.std.proofs.lemmas.Option.{get_or_from_slice_get}
 use Rattle.causal_model.specs.Items.{is_at}
 use Rattle.stable_state.specs.Places.{IsGapFor}
 use Rattle.stable_state.proofs.Places.{gap_is, gap_rises}
-use Rattle.stable_state.proofs.shelf.Shelf.find.Goals as goal
-use Rattle.stable_state.proofs.shelf.Shelf.find.Goals.{else-place-len-via-then-place-len+else-is_of, else-place-len-via-else-place-len}
+use Rattle.stable_state.proofs.shelf.Shelf.find_near.Goals as goal
+use Rattle.stable_state.proofs.shelf.Shelf.find_near.Goals.{else-place-len-via-then-place-len+else-is_of, else-place-len-via-else-place-len}
 
 pub returns-else-place-len-clause-absent : goal.returns-else-place-len-clause-absent
 returns-else-place-len-clause-absent c =
