@@ -14,7 +14,7 @@ use op_base::NoMemory;
 use std::alloc::Global;
 use std::marker::Model;
 use std::sync::Wait;
-use std::thread;
+use std::{hint, thread};
 use store_io::Gate;
 
 /// The word of the next ticket.
@@ -22,6 +22,10 @@ const TICKET: usize = 0;
 
 /// The word of the ticket that is served.
 const SERVING: usize = 1;
+
+/// A pass that waits looks so often before it yields. With fewer looks two threads take longer to hand
+/// a turn over, with more those take longer that are more than the processors.
+const LOOKS: u32 = 32;
 
 /// The slot of the value.
 const VALUE: usize = 0;
@@ -130,8 +134,11 @@ impl<X, E, K, P: Story<X, E, K>> TurnLock<X, E, K, P> {
         ensures found { Found P.fits seat.old.me seat.new.me }
     {
         for _ in rt.forever() {
-            if self.table.shared.load::<Look<P>>(seat, SERVING) == ticket {
-                return;
+            for _ in 0..LOOKS {
+                if self.table.shared.load::<Look<P>>(seat, SERVING) == ticket {
+                    return;
+                }
+                hint::spin_loop();
             }
             thread::yield_now();
         }

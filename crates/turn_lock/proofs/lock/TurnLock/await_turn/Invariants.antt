@@ -3,3 +3,6 @@ use Rattle.turn_lock.proofs.lock.TurnLock.await_turn.Given as goal
 
 abbrev pub invariant-loop : goal.invariant-loop
 invariant-loop g l = (l.seat.table_id ≡ l.initial.seat.table_id) × (l.seat.me ≡ l.initial.seat.me)
+
+abbrev pub invariant-loop-2 : goal.invariant-loop-2
+invariant-loop-2 g l = (l.seat.table_id ≡ l.initial.seat.table_id) × (l.seat.me ≡ l.initial.seat.me)
