@@ -1,5 +1,6 @@
-//! What no clause says: that turns come, in threads too, and how often the gate is passed and with
-//! which numbers. The value under the lock is a sum, and a turn records what it adds.
+//! What no clause says: that turns come, in threads too, how often the gate is passed and with which
+//! numbers, and that who is inside is alone. The value under the lock is a sum, and a turn records what
+//! it adds.
 
 ghost use Rattle.std.specs.Prelude.{◌≡◌, false};
 ghost use Rattle.turn_lock.specs.Turns.{LockState, PassState};
@@ -187,5 +188,158 @@ fn passes_lie_in_a_list_and_are_lent_in_turn(rt: HostRuntime) -> Result<(), Fail
     }
     assert_eq!(rt; opener.out(), 0);
     assert_eq!(rt; lock.close(opener), 13);
+    Ok(())
+}
+
+/// How many turns each of two workers takes.
+const ROUNDS: u64 = 5;
+
+/// How often a worker has asked for a turn, had one, and come to its end.
+#[derive(Drop)]
+struct Progress {
+    asked: AtomicU64,
+    had: AtomicU64,
+    ended: AtomicU64,
+}
+
+impl Progress {
+    fn none() -> Progress {
+        Progress {
+            asked: AtomicU64::new(0),
+            had: AtomicU64::new(0),
+            ended: AtomicU64::new(0),
+        }
+    }
+
+    /// It has asked for a turn that it hasn't had.
+    fn is_asking(&self) -> bool {
+        self.had.load(Ordering::SeqCst) < self.asked.load(Ordering::SeqCst)
+    }
+
+    fn is_inside(&self) -> bool {
+        self.ended.load(Ordering::SeqCst) < self.had.load(Ordering::SeqCst)
+    }
+
+    fn is_done(&self) -> bool {
+        self.ended.load(Ordering::SeqCst) >= ROUNDS
+    }
+}
+
+/// A gate of two workers, 0 and 1. It keeps who is inside until the other one asks, and then for a while, in
+/// which that one must not come inside.
+#[derive(Drop)]
+struct WatchingGate {
+    first: Progress,
+    second: Progress,
+    /// How often both were inside.
+    met: AtomicU64,
+    /// How often the other one never asked.
+    given_up: AtomicU64,
+}
+
+impl WatchingGate {
+    fn new() -> WatchingGate {
+        WatchingGate {
+            first: Progress::none(),
+            second: Progress::none(),
+            met: AtomicU64::new(0),
+            given_up: AtomicU64::new(0),
+        }
+    }
+
+    fn progress_of(&self, worker: u32) -> &Progress {
+        if worker == 0 {
+            &self.first
+        } else {
+            &self.second
+        }
+    }
+
+    /// Waits until that worker has something to do with the lock, or is done with it.
+    fn wait_for(&self, other: &Progress) {
+        for _ in 0..10_000_000 {
+            if other.is_asking() || other.is_inside() || other.is_done() {
+                return;
+            }
+            thread::yield_now();
+        }
+        self.given_up.fetch_add(1, Ordering::SeqCst);
+    }
+
+    /// Looks for a while whether that worker comes inside.
+    fn watch(&self, other: &Progress) {
+        for _ in 0..20 {
+            if other.is_inside() {
+                self.met.fetch_add(1, Ordering::SeqCst);
+                return;
+            }
+            thread::yield_now();
+        }
+    }
+}
+
+impl Gate for WatchingGate {
+    fn before(&self, worker: u32, _call: u32) {
+        self.progress_of(worker)
+            .asked
+            .fetch_add(1, Ordering::SeqCst);
+    }
+
+    fn inside(&self, worker: u32, _call: u32) {
+        self.progress_of(worker).had.fetch_add(1, Ordering::SeqCst);
+        let other = self.progress_of(1 - worker.min(1));
+        self.wait_for(other);
+        self.watch(other);
+    }
+}
+
+/// The turns of one worker, which record nothing. The end of each is told before it comes.
+fn take_watched<R: Wait>(
+    rt: &R,
+    lock: &SumLock,
+    mut pass: SumPass,
+    gate: &WatchingGate,
+    worker: u32,
+) -> SumPass
+    requires lock { pass.lock ≡ lock.now }
+    requires idle { pass.in_turn ≡ false }
+    ensures lock { result.lock ≡ lock.now }
+    ensures idle { result.in_turn ≡ false }
+{
+    for _ in 0..ROUNDS {
+        let visit = Visit {
+            gate,
+            worker,
+            call: 0,
+        };
+        let sum = lock.enter(rt, &mut pass, &visit);
+        gate.progress_of(worker)
+            .ended
+            .fetch_add(1, Ordering::SeqCst);
+        lock.leave(&mut pass, sum);
+    }
+    pass
+}
+
+#[test]
+fn while_one_pass_is_inside_the_other_waits_and_then_has_its_turn(
+    rt: HostRuntime,
+) -> Result<(), Fail> {
+    let gate = WatchingGate::new();
+    let (lock, mut opener) = SumLock::create(rt.alloc(), 0, &())?;
+    let first = lock.split(&mut opener);
+    let second = lock.split(&mut opener);
+    let (first, second) = thread::join(
+        &rt,
+        || take_watched(&rt, &lock, first, &gate, 0),
+        || take_watched(&rt, &lock, second, &gate, 1),
+    );
+    lock.join(&mut opener, first);
+    lock.join(&mut opener, second);
+    assert_eq!(rt; lock.close(opener), 0);
+    assert_eq!(rt; gate.met.load(Ordering::SeqCst), 0);
+    assert_eq!(rt; gate.given_up.load(Ordering::SeqCst), 0);
+    assert!(rt; gate.first.is_done());
+    assert!(rt; gate.second.is_done());
     Ok(())
 }
