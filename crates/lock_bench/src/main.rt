@@ -1,7 +1,8 @@
 //! Takes turns on one lock in some threads, for `bench/locks` to measure.
 //!
-//! Its words are `act` or `leave`, how many threads there are, 1 to 1024, and how many turns each of them takes. With
-//! `act` each turn records something and counts one up under the lock, with `leave` none does. It prints the count.
+//! Its words are `act` or `leave`, how many threads there are, 1 to 1024, how many turns each of them takes, and how many
+//! steps of work each turn makes. The steps mix a number under the lock. With `act` each turn also adds one to it and
+//! records something, with `leave` none does. It prints the number, which is the count of such turns where no step was made.
 #![tactic(auto)]
 
 ghost use Rattle.std.specs.Prelude.{◌≡◌, ℕ, ◌<◌, ◌≤◌, false, vec_len, slice_index_or, IfOk};
@@ -16,7 +17,7 @@ use std::{env, thread};
 use store_io::OpenGate;
 use turn_lock::{Opener, Pass, Story, TurnLock, Visit};
 
-/// Any count fits any turns, since nothing is said of it.
+/// Any number fits any turns, since nothing is said of it.
 struct Counted;
 
 impl Story<u64, (), ()> for Counted {
@@ -35,15 +36,32 @@ type CountOpener = Opener<u64, (), ()>;
 
 type CountPass = Pass<u64, (), ()>;
 
-/// What the turns do.
+/// How the turns end.
 #[derive(Clone, Copy)]
 enum Part {
     Act,
     Leave,
 }
 
+/// What each turn does.
+#[derive(Clone, Copy)]
+struct Work {
+    part: Part,
+    /// How many steps it makes before it ends.
+    steps: u32,
+}
+
+/// The number after so many steps, each of which waits for the one before.
+fn mixed(number: u64, steps: u32) -> u64 {
+    let mut number = number;
+    for _ in 0..steps {
+        number = (number ^ (number >> 7)).wrapping_mul(0x9e37_79b9_7f4a_7c15);
+    }
+    number
+}
+
 /// One turn.
-fn take_turn<R: Wait>(rt: &R, lock: &CountLock, pass: &mut CountPass, part: Part, call: u32)
+fn take_turn<R: Wait>(rt: &R, lock: &CountLock, pass: &mut CountPass, work: Work, call: u32)
     requires { IsIdle lock.now pass.old }
     ensures { IsIdle lock.now pass.new }
 {
@@ -52,10 +70,10 @@ fn take_turn<R: Wait>(rt: &R, lock: &CountLock, pass: &mut CountPass, part: Part
         worker: 0,
         call,
     };
-    let count = lock.enter(rt, pass, &visit);
-    match part {
-        Part::Act => lock.act(pass, count.wrapping_add(1)),
-        Part::Leave => lock.leave(pass, count),
+    let number = mixed(lock.enter(rt, pass, &visit), work.steps);
+    match work.part {
+        Part::Act => lock.act(pass, number.wrapping_add(1)),
+        Part::Leave => lock.leave(pass, number),
     }
 }
 
@@ -64,14 +82,14 @@ fn take_turns<R: Wait>(
     rt: &R,
     lock: &CountLock,
     mut pass: CountPass,
-    part: Part,
+    work: Work,
     turns: u32,
 ) -> CountPass
     requires { IsIdle lock.now pass }
     ensures { IsIdle lock.now result }
 {
     for call in 0..turns {
-        take_turn(rt, lock, &mut pass, part, call);
+        take_turn(rt, lock, &mut pass, work, call);
     }
     pass
 }
@@ -81,7 +99,7 @@ fn take_all<R: Threads + Wait + Sync>(
     rt: &R,
     lock: &CountLock,
     passes: Vec<CountPass>,
-    part: Part,
+    work: Work,
     turns: u32,
 ) -> Result<Vec<CountPass>, AllocError>
     requires { (i : ℕ) (d : _) → i < vec_len passes → IsIdle lock.now (slice_index_or passes.items i d) }
@@ -94,7 +112,7 @@ fn take_all<R: Threads + Wait + Sync>(
         &|pass| -> CountPass
             requires { IsIdle lock.now pass }
             ensures { IsIdle lock.entry.now result }
-        { take_turns(rt, lock, pass, part, turns) },
+        { take_turns(rt, lock, pass, work, turns) },
     )
 }
 
@@ -133,11 +151,11 @@ fn join_all(lock: &CountLock, opener: &mut CountOpener, passes: Vec<CountPass>)
     }
 }
 
-/// The count after the turns of so many threads.
+/// The number after the turns of so many threads.
 fn count_turns<R: Threads + Wait + Sync>(
     rt: &R,
     alloc: Global,
-    part: Part,
+    work: Work,
     threads: u32,
     turns: u32,
 ) -> Result<u64>
@@ -145,15 +163,15 @@ fn count_turns<R: Threads + Wait + Sync>(
 {
     let (lock, mut opener) = CountLock::create(alloc, 0, &())?;
     let passes = split_all(alloc, &lock, &mut opener, threads)?;
-    let passes = take_all(rt, &lock, passes, part, turns)?;
+    let passes = take_all(rt, &lock, passes, work, turns)?;
     join_all(&lock, &mut opener, passes);
     Ok(lock.close(opener))
 }
 
 fn main(rt: HostRuntime) -> Result<()> {
     let words: Vec<String> = env::args(&rt)?.collect(rt.alloc())?;
-    let [_, part, threads, turns] = words.as_slice() else {
-        bail!("the words are a part, a number of threads and a number of turns");
+    let [_, part, threads, turns, steps] = words.as_slice() else {
+        bail!("the words are a part, and numbers of threads, turns and steps");
     };
     let part = match part.as_str() {
         "act" => Part::Act,
@@ -165,8 +183,10 @@ fn main(rt: HostRuntime) -> Result<()> {
         .parse::<u32>()
         .context("reading the threads")?;
     let turns = turns.as_str().parse::<u32>().context("reading the turns")?;
+    let steps = steps.as_str().parse::<u32>().context("reading the steps")?;
     ensure!((1..=1024).contains(&threads), "threads are 1 to 1024");
-    let count = count_turns(&rt, rt.alloc(), part, threads, turns)?;
-    println!(rt; "{count}")?;
+    let work = Work { part, steps };
+    let number = count_turns(&rt, rt.alloc(), work, threads, turns)?;
+    println!(rt; "{number}")?;
     Ok(())
 }
