@@ -2,3 +2,4 @@ pub mod Fronts
 pub mod Keeps
 pub mod Places
 pub mod Rolls
+pub mod Taken

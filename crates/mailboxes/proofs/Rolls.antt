@@ -3,12 +3,12 @@ use Rattle.std.proofs.Common.{◌≡◌, ◌≢◌, ℕ, ◌+◌, ◌<◌, ◌�
 use Rattle.std.proofs.lemmas.Bool.Decides.{nat_tests}
 use Rattle.std.proofs.lemmas.List.{append-nil, map-append, get_or_append_left}
 use Rattle.std.proofs.lemmas.Option.{slice_get_within, get_or_from_slice_get}
-use Rattle.std.proofs.lemmas.List.Elements.{filter-append, All-nil, All-cons, All-head, All-tail, All-contains, All-map}
+use Rattle.std.proofs.lemmas.List.Elements.{filter-append, All-nil, All-cons, All-head, All-tail, All-contains, All-map, All-weaker}
 use Rattle.std.specs.Prelude.{All, Contains, filter, slice_get}
 use Rattle.mailboxes.specs.declared.seen.Line.{Line}
 use Rattle.mailboxes.specs.declared.seen.Posted.{Posted}
 use Rattle.mailboxes.specs.declared.seen.Seen.{Seen}
-use Rattle.mailboxes.specs.Seen.{posted, line, items_of, items_by, numbers, enrolled, newcomer, BeginsWith, HasItsLine, IsExact, IsNumbered}
+use Rattle.mailboxes.specs.Seen.{posted, line, items_of, items_by, numbers, enrolled, forked, newcomer, BeginsWith, HasItsLine, IsExact, IsNumbered, TookOnce, TookAll}
 use Rattle.mailboxes.proofs.Fronts.{none_left}
 
 pub All-front : {A : Type 0} (P : A → Type 0) (xs ys : List A) → All P (xs ++ ys) → All P xs
@@ -78,3 +78,16 @@ module _ {T : Type 0} where
 
   pub newcomer_is_numbered : (s : Seen T) → IsNumbered (newcomer s)
   newcomer_is_numbered s e = absurd (omega arith)
+
+  pub newcomer_took_once : (s : Seen T) → TookOnce (newcomer s)
+  newcomer_took_once s = record { apart = λ i j d l m. absurd (omega arith); below = All-nil (λ k. k < s.taken) }
+
+  pub newcomer_took_all : (s : Seen T) → TookAll (newcomer s)
+  newcomer_took_all s knows = absurd (let e = knows.0 in omega arith)
+
+  pub forked_is_numbered : (s : Seen T) → IsNumbered s → IsNumbered (forked s)
+  forked_is_numbered s low is = All-weaker (λ (p : Posted T). p.by ≤ s.forks) (λ (p : Posted T). p.by ≤ s.forks + 1) (λ p le. omega arith) s.posted (low is)
+
+  -- where a pass that was just forked from is said to know all, it also did before
+  pub forked_took_all : (s : Seen T) → TookAll s → TookAll (forked s)
+  forked_took_all s whole knows k lt = whole (knows.0, λ i le. knows.1 i (omega arith)) k lt

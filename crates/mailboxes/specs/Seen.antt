@@ -1,8 +1,12 @@
 -- What a pass has seen of its mailbox, and what each call makes of it.
-use Rattle.std.specs.Prelude.{◌≡◌, ℕ, ◌+◌, ◌≤◌, ◌==◌, max, nat_lt, if◌then◌else◌, List, [], ◌∷◌, ◌++◌, length, map, filter, All, Contains, Some, slice_get}
+use Rattle.std.specs.Prelude.{◌≡◌, ◌≢◌, ℕ, ◌+◌, ◌<◌, ◌≤◌, ◌==◌, max, nat_lt, if◌then◌else◌, List, [], ◌∷◌, ◌++◌, length, map, filter, All, AllPairs, Contains, Some, slice_get}
 use Rattle.mailboxes.specs.declared.seen.Posted.{Posted}
 use Rattle.mailboxes.specs.declared.seen.Line.{Line}
 use Rattle.mailboxes.specs.declared.seen.Seen.{Seen}
+
+-- no place stands in both lists
+abbrev pub AreApart : List ℕ → List ℕ → Type 0
+AreApart xs ys = (k : ℕ) → Contains xs k → Contains ys k → ⊥
 
 module _ {T : Type 0} where
   -- an item, posted under a number
@@ -39,19 +43,19 @@ module _ {T : Type 0} where
 
   -- what the first pass has seen of a new mailbox
   abbrev pub first_seen : Seen T
-  first_seen = record { number = 0; forks = 0; posted = []; taken = 0; roll = line 0 [] ∷ [] }
+  first_seen = record { number = 0; forks = 0; posted = []; taken = 0; roll = line 0 [] ∷ []; places = [] }
 
   -- the first pass, with one fork more
   abbrev pub forked : Seen T → Seen T
   forked first = record first { forks = first.forks + 1 }
 
-  -- that fork: it has seen as much, and its roll has its own number, with no items
+  -- that fork: it has seen as much, its roll has its own number, with no items, and it has taken nothing
   abbrev pub newcomer : Seen T → Seen T
-  newcomer first = record { number = first.forks + 1; forks = 0; posted = first.posted; taken = first.taken; roll = line (first.forks + 1) [] ∷ [] }
+  newcomer first = record { number = first.forks + 1; forks = 0; posted = first.posted; taken = first.taken; roll = line (first.forks + 1) [] ∷ []; places = [] }
 
   -- the first pass, once another is joined to it
   abbrev pub joined : Seen T → Seen T → Seen T
-  joined first other = record first { posted = longer first.posted other.posted; taken = max first.taken other.taken; roll = first.roll ++ other.roll }
+  joined first other = record first { posted = longer first.posted other.posted; taken = max first.taken other.taken; roll = first.roll ++ other.roll; places = first.places ++ other.places }
 
   -- What is true of what a pass has seen, at any time.
 
@@ -71,6 +75,15 @@ module _ {T : Type 0} where
   abbrev pub KnowsAll : Seen T → Type 0
   KnowsAll s = (s.number ≡ 0) × ((k : ℕ) → k ≤ s.forks → Contains (numbers s.roll) k)
 
+  -- it took no place twice, and none that isn't below its number
+  pub record TookOnce (s : Seen T) : Type 0 where
+    pub apart : AllPairs (λ a b. a ≢ b) s.places
+    pub below : All (λ k. k < s.taken) s.places
+
+  -- a pass that knows all took each place below its number
+  abbrev pub TookAll : Seen T → Type 0
+  TookAll s = KnowsAll s → (k : ℕ) → k < s.taken → ∥ Contains s.places k ∥₁
+
   -- after a post the list ends with the item, under the pass's own number, and the roll has it. A pass that knows all
   -- has seen nothing else that is new
   pub record Posts (old : Seen T) (x : T) (new : Seen T) : Type 0 where
@@ -79,8 +92,9 @@ module _ {T : Type 0} where
     pub becomes : new ≡ record old { posted = before ++ posted old.number x ∷ []; roll = enrolled old.number x old.roll }
     pub alone : KnowsAll old → before ≡ old.posted
 
-  -- an item that was taken stands in the list at a place that is not below the former number, and the new number is that
-  -- place plus one. A pass that knows all takes the item at its number, and has seen nothing else that is new
+  -- an item that was taken stands in the list at a place that is not below the former number. The new number is that
+  -- place plus one, and the place is one that the pass took. A pass that knows all takes the item at its number, and has
+  -- seen nothing else that is new
   pub record Takes (old : Seen T) (x : T) (new : Seen T) : Type 0 where
     pub list : List (Posted T)
     pub place : ℕ
@@ -88,5 +102,5 @@ module _ {T : Type 0} where
     pub begins : BeginsWith list old.posted
     pub later : old.taken ≤ place
     pub stands : slice_get list place ≡ Some (posted by x)
-    pub becomes : new ≡ record old { posted = list; taken = place + 1 }
+    pub becomes : new ≡ record old { posted = list; taken = place + 1; places = old.places ++ place ∷ [] }
     pub alone : KnowsAll old → (list ≡ old.posted) × (place ≡ old.taken)

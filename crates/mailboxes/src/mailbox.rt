@@ -1,8 +1,8 @@
 //! A mailbox and its passes.
 
-ghost use Rattle.std.specs.Prelude.{◌≡◌, ◌≢◌, ◌+◌, ◌<◌, ◌≤◌, [], length, IsOk, IfOk, IfErr, IfSome, IfNone, OnOk, OnErr};
+ghost use Rattle.std.specs.Prelude.{◌≡◌, ◌≢◌, ◌↔◌, ◌+◌, ◌<◌, ◌≤◌, true, [], length, IsOk, IfOk, IfErr, IfSome, IfNone, OnOk, OnErr};
 ghost use Rattle.crossbeam_queue.specs.Passes.{view};
-ghost use Rattle.mailboxes.specs.Seen.{first_seen, forked, newcomer, joined, BeginsWith, HasItsLine, IsExact, IsNumbered, KnowsAll, Posts, Takes};
+ghost use Rattle.mailboxes.specs.Seen.{first_seen, forked, newcomer, joined, BeginsWith, HasItsLine, IsExact, IsNumbered, TookOnce, TookAll, AreApart, KnowsAll, Posts, Takes};
 
 use crate::rule::{Fork, InOneLine, Merge, Post, Take};
 use crate::seen::View;
@@ -20,17 +20,28 @@ pub struct Mailbox<T> {
 /// What one thread posts and takes by. It belongs to one mailbox.
 #[derive(Drop)]
 pub struct MailPass<T> {
+    number: u32,
     forks: u32,
     pass: Pass<T, View<T>>,
+    ghost named: { number ≡ (view pass).seen.number },
     ghost counted: { forks ≡ (view pass).seen.forks },
     ghost idle: { pass.me.1 ≡ [] },
     pub ghost has_its_line: { HasItsLine (view pass).seen },
     pub ghost exact: { IsExact (view pass).seen },
     pub ghost numbered: { IsNumbered (view pass).seen },
+    pub ghost once: { TookOnce (view pass).seen },
+    pub ghost whole: { TookAll (view pass).seen },
 }
 
 impl<T> MailPass<T> {
     ghost use Rattle.mailboxes.specs.Passes.{seen};
+
+    /// Whether it is its mailbox's first pass, from which others are forked and to which they are joined.
+    pub fn is_first(&self) -> bool
+        ensures { (result ≡ true) ↔ ((seen self.now).number ≡ 0) }
+    {
+        self.number == 0
+    }
 
     /// How many passes were forked from this one.
     pub fn forks(&self) -> u32
@@ -52,10 +63,18 @@ impl<T> Mailbox<T> {
         ensures first { IfOk result (λ r. seen r.1 ≡ first_seen) }
     {
         let (queue, pass) = RuledArrayQueue::ruled(alloc, capacity)?;
-        Ok((Mailbox { queue }, MailPass { forks: 0, pass }))
+        let (number, forks) = (0, 0);
+        Ok((
+            Mailbox { queue },
+            MailPass {
+                number,
+                forks,
+                pass,
+            },
+        ))
     }
 
-    /// A new pass, which has seen what the given one had. The given one counts it among its forks, and has seen what it
+    /// A new pass, which has seen what the given one had, the first. That counts it among its forks, and has seen what it
     /// had. `NoMemory` doesn't come, since a pass takes none.
     pub fn fork(&self, pass: &mut MailPass<T>) -> Result<MailPass<T>, NoMemory>
         requires of { IsOf self.now pass.old }
@@ -70,6 +89,7 @@ impl<T> Mailbox<T> {
         let fork = self.queue.another::<Fork>(&mut pass.pass);
         pass.forks += 1;
         Ok(MailPass {
+            number: pass.forks,
             forks: 0,
             pass: fork,
         })
@@ -89,8 +109,9 @@ impl<T> Mailbox<T> {
         self.queue.push_as::<Post, R>(rt, &mut pass.pass, item)
     }
 
-    /// Takes an item of the list, at a place not below how many the pass had seen taken; where the pass knows all, the
-    /// oldest. Where it is `None`, the pass has seen what it had; and where the pass knows all, the mailbox was empty.
+    /// Takes an item of the list, at a place not below how many the pass had seen taken, and keeps the place; where the pass
+    /// knows all, it is the oldest. Where it is `None`, the pass has seen what it had; and where the pass knows all, the
+    /// mailbox was empty.
     pub fn take<R: Wait>(&self, rt: &R, pass: &mut MailPass<T>) -> Option<T>
         requires of { IsOf self.now pass.old }
         ensures of { IsOfTheSame pass.old pass.new }
@@ -103,7 +124,8 @@ impl<T> Mailbox<T> {
         self.queue.pop_as::<Take, R>(rt, &mut pass.pass)
     }
 
-    /// Joins a fork to the first pass: that has then seen what either had, and its roll has the lines of both.
+    /// Joins a fork to the first pass: that has then seen what either had, its roll has the lines of both, and its places
+    /// are those that either took, of which none was taken by both.
     pub fn join(&self, first: &mut MailPass<T>, other: MailPass<T>)
         requires of { IsOf self.now first.old }
         requires other { IsOf self.now other }
@@ -113,8 +135,9 @@ impl<T> Mailbox<T> {
         ensures joined { seen first.new ≡ joined (seen first.old) (seen other) }
         ensures mine { BeginsWith (seen first.new).posted (seen first.old).posted }
         ensures theirs { BeginsWith (seen first.new).posted (seen other).posted }
+        ensures apart { AreApart (seen first.old).places (seen other).places }
     {
-        let MailPass { forks: _, pass } = other;
+        let MailPass { pass, .. } = other;
         self.queue.absorb::<Merge>(&mut first.pass, pass);
         self.queue.learn_as::<Merge>(&mut first.pass);
     }

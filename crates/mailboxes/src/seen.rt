@@ -27,6 +27,8 @@ pub struct Seen<T> {
     pub taken: u64,
     /// What was posted under its own number, and under the number of each pass that was joined to it.
     pub roll: LinkedList<Line<T>>,
+    /// At which places of the list stood what it took, and what each pass took that was joined to it.
+    pub places: LinkedList<u64>,
 }
 
 /// What the mailbox's rule knows of a pass.

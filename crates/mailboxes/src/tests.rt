@@ -19,6 +19,10 @@ fn a_mailbox_is_a_queue_whose_passes_are_counted(rt: HostRuntime) -> Result<(), 
     let mut one = mailbox.fork(&mut first)?;
     let mut two = mailbox.fork(&mut first)?;
     assert_eq!(rt; (first.forks(), one.forks(), two.forks()), (2, 0, 0));
+    assert_eq!(rt;
+        (first.is_first(), one.is_first(), two.is_first()),
+        (true, false, false)
+    );
     assert_eq!(rt; mailbox.post(&rt, &mut one, 'a'), Ok(()));
     assert_eq!(rt; mailbox.post(&rt, &mut two, 'b'), Ok(()));
     assert_eq!(rt; mailbox.post(&rt, &mut one, 'c'), Err('c'));
