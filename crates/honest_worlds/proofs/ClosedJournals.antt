@@ -1,11 +1,13 @@
 -- Journals of one epoch, whose kept messages stand as sent in the journals of their origins, give an honest world; and none of
 -- them has a note of a crooked message.
-use Rattle.std.proofs.Common.{◌≡◌, ◌≢◌, ℕ, zero, suc, ◌<◌, ◌≤◌, All, true, false, not, ◌==◌, Contains, IsTrue, List, [], ◌∷◌, ◌++◌, length, map, get_or, refl, sym, ap, subst, ◌∙◌, inl, inr, Option, Some, None, append_assoc, append-nil, arith, length-append}
+use Rattle.std.proofs.Common.{◌≡◌, ◌≢◌, ℕ, zero, suc, ◌+◌, ◌<◌, ◌≤◌, All, true, false, not, ◌==◌, Contains, IsTrue, List, [], ◌∷◌, ◌++◌, length, map, get_or, refl, sym, ap, subst, ◌∙◌, inl, inr, Option, Some, None, unwrap_or, append_assoc, append-nil, arith, length-append}
+use Rattle.std.specs.Prelude.{slice_get}
+use Rattle.std.specs.List.{filter}
 use Rattle.std.proofs.lemmas.Bool.{cases_eq, eq-eqb, false≢true}
-use Rattle.std.proofs.lemmas.List.Elements.{All-contains, All-nil, All-cons, All-push, All-append, All-head, All-tail, All-filter, All-weaker, Contains-append_left, Contains-append_right, Contains-get_or}
+use Rattle.std.proofs.lemmas.List.Elements.{All-contains, All-nil, All-cons, All-push, All-append, All-head, All-tail, All-filter, All-weaker, Contains-append_left, Contains-append_right, Contains-append_cases, Contains-get_or}
 use Rattle.std.proofs.lemmas.List.FromFn.{length-map-range_with_len, get_or-map-range_with_len}
 use Rattle.std.proofs.lemmas.List.Sums.{fold-append}
-use Rattle.op_base.specs.Message.{fits, id_of}
+use Rattle.op_base.specs.Message.{fits, id_of, number}
 use Rattle.op_base.specs.declared.message.Message.{Message}
 use Rattle.op_base.specs.declared.outcome.Crook.{Crook as Cause}
 use Rattle.op_base.specs.declared.outcome.Step.{Step}
@@ -27,13 +29,14 @@ use Rattle.causal_model.proofs.States.{start_is_state, step_keeps_state, accept_
 use Rattle.causal_model.proofs.Steps.{steps_by}
 use Rattle.world_model.specs.Honest.{IsSentMessage, IsHonest}
 use Rattle.world_model.specs.Journals.{journal_of, world_of_journals, ends_epoch, is_crook, AreJournals, sent_in}
-use Rattle.honest_worlds.specs.Laws.{JournalsAreHonest, JournalsHaveNoCrook, SentNotesAreOwn, OthersWereKept, LegalKeepsRule}
+use Rattle.honest_worlds.specs.Laws.{JournalsAreHonest, JournalsHaveNoCrook, SentNotesAreOwn, SentAreNumbered, OthersWereKept, LegalKeepsRule}
 use Rattle.world_model.specs.Settling.{is_delivery}
 use Rattle.world_model.specs.World.{PlainWorld, size_of, epoch_in, replica_of, sent_by}
 use Rattle.world_model.specs.Worlds.{IsReplica, own_of, IsWorld}
 use Rattle.world_model.proofs.Received.{receives}
 use Rattle.world_model.proofs.Sends.{IsGiven, update_is_given, noop_is_given, sent_is_replica}
-use Rattle.world_model.proofs.Sent.{messages_fit}
+use Rattle.world_model.proofs.Messages.{AreNumbered, own_are_numbered}
+use Rattle.world_model.proofs.Sent.{messages_fit, is_replicas_chapter}
 use Rattle.honest_worlds.proofs.OnlySent.{keeps_rule-push, HasOnlySent, receives_sent}
 use Rattle.honest_worlds.proofs.Epochs.{none_is_over, no_past}
 use Rattle.causal_model.proofs.Members.{member_of_filter}
@@ -42,7 +45,7 @@ use Rattle.op_base.specs.declared.outcome.Step.TheVariants as step
 
 -- ---- what notes sent
 
-sent_in-append : (a b : List Note) → sent_in (a ++ b) ≡ sent_in a ++ sent_in b
+pub sent_in-append : (a b : List Note) → sent_in (a ++ b) ≡ sent_in a ++ sent_in b
 sent_in-append [] b = refl
 sent_in-append (Sent m ∷ a) b = ap (λ ms. m ∷ ms) (sent_in-append a b)
 sent_in-append (Kept m ∷ a) b = sent_in-append a b
@@ -50,12 +53,13 @@ sent_in-append (Took id ∷ a) b = sent_in-append a b
 sent_in-append (Crook id ∷ a) b = sent_in-append a b
 sent_in-append (Regroup epoch n me ∷ a) b = sent_in-append a b
 
-sent_in-steps : (made : List Step) → sent_in (map step_note made) ≡ []
+pub sent_in-steps : (made : List Step) → sent_in (map step_note made) ≡ []
 sent_in-steps [] = refl
 sent_in-steps (step.Took id ∷ made) = sent_in-steps made
 sent_in-steps (step.Crook id cause ∷ made) = sent_in-steps made
 
-sent_is_in : (notes : List Note) (m : Message) → Contains notes (Sent m) → Contains (sent_in notes) m
+-- the message of a note that sends is among them, and each of them has such a note
+pub sent_is_in : (notes : List Note) (m : Message) → Contains notes (Sent m) → Contains (sent_in notes) m
 sent_is_in notes m has = from notes has.0 has.1 has.2 where
   from : (ns : List Note) (i : ℕ) → i < length ns → get_or ns i (Sent m) ≡ Sent m → Contains (sent_in ns) m
   from [] i l e = absurd (omega (arith, l))
@@ -69,6 +73,17 @@ sent_is_in notes m has = from notes has.0 has.1 has.2 where
   from (Took id ∷ ns) (suc i) l e = from ns i (omega (arith, l)) e
   from (Crook id ∷ ns) (suc i) l e = from ns i (omega (arith, l)) e
   from (Regroup epoch n me ∷ ns) (suc i) l e = from ns i (omega (arith, l)) e
+
+pub sent_stands : (notes : List Note) (m : Message) → Contains (sent_in notes) m → Contains notes (Sent m)
+sent_stands [] m has = absurd (omega (arith, has.1))
+sent_stands (Sent x ∷ notes) m has = elim (Contains-append_cases (x ∷ []) (sent_in notes) m has) [
+  | inl here ↦ subst (λ y. Contains (Sent x ∷ notes) (Sent y)) (All-contains (λ y. x ≡ y) (x ∷ []) m (All-cons (λ y. x ≡ y) x [] refl (All-nil (λ y. x ≡ y))) here) (zero, omega arith, refl)
+  | inr later ↦ Contains-append_right (Sent x ∷ []) notes (Sent m) (sent_stands notes m later)
+]
+sent_stands (Kept x ∷ notes) m has = Contains-append_right (Kept x ∷ []) notes (Sent m) (sent_stands notes m has)
+sent_stands (Took id ∷ notes) m has = Contains-append_right (Took id ∷ []) notes (Sent m) (sent_stands notes m has)
+sent_stands (Crook id ∷ notes) m has = Contains-append_right (Crook id ∷ []) notes (Sent m) (sent_stands notes m has)
+sent_stands (Regroup epoch n me ∷ notes) m has = Contains-append_right (Regroup epoch n me ∷ []) notes (Sent m) (sent_stands notes m has)
 
 -- ---- what steps deliver was early
 
@@ -104,12 +119,12 @@ module _ (n w limit me : ℕ) (Is Waits : Message → Type 0) (delivers : (m : M
     by later None none = has
     by later (Some m) next = later (state_with w s m) (step_has s m has next)
 
--- what holds of both parts
-halves : (a b : List Note) → All (λ note. ends_epoch note ≡ false) (a ++ b) → All (λ note. ends_epoch note ≡ false) a × All (λ note. ends_epoch note ≡ false) b
-halves [] b all = (All-nil (λ note. ends_epoch note ≡ false), all)
-halves (x ∷ a) b all =
-    let rest = halves a b (All-tail (λ note. ends_epoch note ≡ false) x (a ++ b) all) in
-    (All-cons (λ note. ends_epoch note ≡ false) x a (All-head (λ note. ends_epoch note ≡ false) x (a ++ b) all) rest.0, rest.1)
+-- what holds of a whole holds of both parts
+pub halves : {X : Type 0} (P : X → Type 0) (a b : List X) → All P (a ++ b) → All P a × All P b
+halves P [] b all = (All-nil P, all)
+halves P (x ∷ a) b all =
+    let rest = halves P a b (All-tail P x (a ++ b) all) in
+    (All-cons P x a (All-head P x (a ++ b) all) rest.0, rest.1)
 
 -- ---- what groups leave
 
@@ -179,7 +194,7 @@ module _ (n w limit me : ℕ) where
       → IsReplayed n w limit me (notes ++ notes_of groups) (state_after s (notes_of groups))
   groups_are_replayed notes s [] told one are = subst (λ ns. IsReplayed n w limit me ns s) (sym (append-nil notes)) told
   groups_are_replayed notes s (group ∷ later) told one are =
-      let parts = halves group (notes_of later) one in
+      let parts = halves (λ note. ends_epoch note ≡ false) group (notes_of later) one in
       let next = group_is_replayed notes s group told parts.0 are.0 in
       let rest = groups_are_replayed (notes ++ group) (state_after s group) later next parts.1 are.1 in
       subst (λ ns. IsReplayed n w limit me ns (state_after s (group ++ notes_of later))) (append_assoc notes group (notes_of later)) (subst (IsReplayed n w limit me ((notes ++ group) ++ notes_of later)) (sym (fold-append state_noted s group (notes_of later))) rest)
@@ -199,6 +214,20 @@ module _ (n w limit me : ℕ) where
 
 pub sent_notes_are_own : SentNotesAreOwn
 sent_notes_are_own n w limit me notes few member legal one = (legal_is_replayed n w limit me notes few member legal one).own
+
+-- a message at a place of numbered ones has the number of the place
+numbered_at : (first i : ℕ) (ms : List Message) (m : Message) → AreNumbered first ms → slice_get ms i ≡ Some m → number m ≡ first + i
+numbered_at first i [] m are is = cc
+numbered_at first zero (x ∷ ms) m are is = let same : x ≡ m = ap (λ o. unwrap_or o x) is in omega (arith, ap number (sym same) ∙ are.0)
+numbered_at first (suc i) (x ∷ ms) m are is = let later = numbered_at (first + 1) i ms m are.1 is in omega (arith, later)
+
+pub sent_are_numbered : SentAreNumbered
+sent_are_numbered n w limit me notes i m few member legal one is =
+    let told = legal_is_replayed n w limit me notes few member legal one in
+    let s = replay n me notes in
+    let numbered = own_are_numbered n w me me s.history.present.messages (is_replicas_chapter n w limit me s told.replica) in
+    let own : filter (λ m. m.origin == me) s.history.present.messages ≡ sent_in notes = ap (λ k. filter (λ m. m.origin == k) s.history.present.messages) (sym told.replica.of_member) ∙ told.own in
+    omega (arith, numbered_at 1 i (sent_in notes) m (subst (AreNumbered 1) own numbered) is)
 
 pub others_were_kept : OthersWereKept
 others_were_kept n w limit me notes few member legal one = let told = legal_is_replayed n w limit me notes few member legal one in (told.others, told.early)
@@ -310,7 +339,7 @@ module _ (n w limit : ℕ) (journals : List (List Note)) (some : 1 ≤ n) (few :
       → All (λ note. is_crook note ≡ false) (notes_of groups)
   groups_are_straight r front s [] l whole is one groups = All-nil (λ note. is_crook note ≡ false)
   groups_are_straight r front s (group ∷ later) l whole is one groups =
-      let parts = halves group (notes_of later) one in
+      let parts = halves (λ note. ends_epoch note ≡ false) group (notes_of later) one in
       All-append (λ note. is_crook note ≡ false) group (notes_of later) (group_is_straight r front (notes_of later) s group l whole is groups.0)
       (groups_are_straight r (front ++ group) (state_after s group) later l (whole ∙ sym (append_assoc front group (notes_of later))) (group_is_replayed n w limit r front s group is parts.0 groups.0) parts.1 groups.1)
 

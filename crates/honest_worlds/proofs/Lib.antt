@@ -17,3 +17,4 @@ pub mod EventOrders
 pub mod Growing
 pub mod CausallyStable
 pub mod ClosedJournals
+pub mod Stops

@@ -1,5 +1,6 @@
 -- What holds of honest worlds. Each statement is the contract of a function of laws.rt.
-use Rattle.std.specs.Prelude.{◌≡◌, ◌≢◌, ◌↔◌, ℕ, ◌-◌, ◌*◌, ◌<◌, ◌≤◌, true, false, List, [], ◌++◌, IsTrue, All, Contains}
+use Rattle.std.specs.Prelude.{◌≡◌, ◌≢◌, ◌↔◌, ℕ, ◌+◌, ◌-◌, ◌*◌, ◌<◌, ◌≤◌, true, false, List, [], ◌++◌, slice_get, Some, IsTrue, All, Contains}
+use Rattle.op_base.specs.Message.{number}
 use Rattle.op_base.specs.declared.message.Message.{Message}
 use Rattle.causal_model.specs.Log.{log_of}
 use Rattle.causal_model.specs.Chapter.{is_admissible}
@@ -143,6 +144,11 @@ NoBeatIsHeld = (world : PlainWorld) (r : ℕ) → IsHonest world → r < size_of
 abbrev pub SentNotesAreOwn : Type 0
 SentNotesAreOwn = (n w limit me : ℕ) (notes : List Note) → n ≤ 16 → me < n → IsLegal n w limit me notes → All (λ note. ends_epoch note ≡ false) notes
     → own_of (replay n me notes) ≡ sent_in notes
+
+-- what such notes sent has the numbers from 1 on, in order: no two messages that one journal sent have one number
+abbrev pub SentAreNumbered : Type 0
+SentAreNumbered = (n w limit me : ℕ) (notes : List Note) (i : ℕ) (m : Message) → n ≤ 16 → me < n → IsLegal n w limit me notes → All (λ note. ends_epoch note ≡ false) notes
+    → slice_get (sent_in notes) i ≡ Some m → number m ≡ i + 1
 
 -- each other message, and each early one, was kept by a note
 abbrev pub OthersWereKept : Type 0

@@ -1,6 +1,7 @@
 //! Laws of honest worlds. Each is the contract of a function that does nothing.
 
-ghost use Rattle.honest_worlds.specs.Laws.{OpeningIsHonest, CommandsKeepHonest, OfferingSentKeepsHonest, SentIsNear, DeliverableIsAdmissible, StepsDeliver, ResentStepsDeliver, HappenedBeforeIsEventOrder, StableIsCausallyStable, StableIsEverywhere, StillRoundSettles, SettlingSettles, SettledLogsAreEmpty, RegroupingIsPossible, RegroupingKeepsHonest, EqualCountsAreEqualEvents, NoBeatIsHeld, NoopsAreFew, SentNotesAreOwn, OthersWereKept, LegalKeepsRule, JournalsAreHonest, JournalsHaveNoCrook};
+ghost use Rattle.honest_worlds.specs.Laws.{OpeningIsHonest, CommandsKeepHonest, OfferingSentKeepsHonest, SentIsNear, DeliverableIsAdmissible, StepsDeliver, ResentStepsDeliver, HappenedBeforeIsEventOrder, StableIsCausallyStable, StableIsEverywhere, StillRoundSettles, SettlingSettles, SettledLogsAreEmpty, RegroupingIsPossible, RegroupingKeepsHonest, EqualCountsAreEqualEvents, NoBeatIsHeld, NoopsAreFew, SentNotesAreOwn, SentAreNumbered, OthersWereKept, LegalKeepsRule, JournalsAreHonest, JournalsHaveNoCrook};
+ghost use Rattle.honest_worlds.specs.Stops.{KeptIsHonest, OpeningIsKept, LocalIsKept, BeatIsKept, GiveIsKept, StopIsKept};
 
 /// A store begins honest, and every command but one of bytes keeps it so.
 pub fn worlds_stay_honest()
@@ -49,6 +50,7 @@ pub fn no_beat_is_held()
 /// What a legal journal's notes tell of its replay.
 pub fn journals_tell_what_was_sent()
     ensures own { SentNotesAreOwn }
+    ensures numbered { SentAreNumbered }
     ensures others { OthersWereKept }
     ensures rule { LegalKeepsRule }
 {}
@@ -57,4 +59,14 @@ pub fn journals_tell_what_was_sent()
 pub fn closed_journals_are_honest()
     ensures honest { JournalsAreHonest }
     ensures straight { JournalsHaveNoCrook }
+{}
+
+/// What each command keeps of a plain keep world, a stop among them: it is honest, and the world that the notes kept give.
+pub fn stops_keep_worlds_honest()
+    ensures honest { KeptIsHonest }
+    ensures opening { OpeningIsKept }
+    ensures local { LocalIsKept }
+    ensures beat { BeatIsKept }
+    ensures give { GiveIsKept }
+    ensures stop { StopIsKept }
 {}

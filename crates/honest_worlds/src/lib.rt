@@ -8,6 +8,6 @@ mod laws;
 
 pub use laws::{
     closed_journals_are_honest, journals_tell_what_was_sent, no_beat_is_held, settling_settles,
-    stable_is_causally_stable, the_order_of_timestamps_is_that_of_events,
+    stable_is_causally_stable, stops_keep_worlds_honest, the_order_of_timestamps_is_that_of_events,
     what_was_sent_is_delivered, worlds_stay_honest,
 };

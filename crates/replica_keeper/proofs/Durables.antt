@@ -6,9 +6,9 @@ use Rattle.causal_model.specs.declared.note.Note.{Note}
 use Rattle.replica_core.specs.Rules.{SameSettings}
 use Rattle.replica_node.specs.Rules.{noting}
 use Rattle.store_io.specs.Keeping.{LeavesOnly}
-use Rattle.replica_keeper.specs.Records.{records_of, Settings}
+use Rattle.world_model.specs.Records.{records_of, Settings}
 use Rattle.replica_keeper.specs.Keeping.{groups_of, IsFrontOf}
-use Rattle.replica_keeper.specs.Open.{NotedNode, settings_by, IsOpen, IsKept, notes_in}
+use Rattle.replica_keeper.specs.Open.{NotedNode, settings_by, IsOpen, IsKept, GoesOn, notes_in}
 
 -- another node that is open keeps the numbers
 pub kept_on : (of : Settings) (node new : NotedNode) (held held' : List ℕ) (synced synced' : ℕ) → IsKept of node held synced → SameSettings node.inner new.inner → IsOpen new held' synced' → IsKept of new held' synced'
@@ -17,6 +17,12 @@ kept_on of node new held held' synced synced' k s opened = record { me = s.me �
 -- and it is the one node of the replica
 pub kept_alone : (of : Settings) (new : NotedNode) (held : List ℕ) (synced : ℕ) → IsKept of new held synced → (is : NotedNode) → Some new ≡ Some is → IsKept of is held synced
 kept_alone of new held synced k is e = let same : new ≡ is = ap (λ o. unwrap_or o new) e in subst (λ node. IsKept of node held synced) same k
+
+-- an open node goes on, where it keeps its numbers
+pub goes_on : (of : Settings) (some : Option NotedNode) (node new : NotedNode) (held held' : List ℕ) (synced synced' : ℕ) → some ≡ Some node → IsKept of node held synced → SameSettings node.inner new.inner → IsOpen new held' synced' → GoesOn some (Some new)
+goes_on of some node new held held' synced synced' is k s opened =
+    let first : new.first ≡ node.first = opened.first ∙ ap (λ me. (me, new.inner.n)) s.me ∙ ap (λ n. (node.inner.me, n)) s.n ∙ sym k.opened.first in
+    subst (λ o. GoesOn o (Some new)) (sym is) (record { settings = s; first = first })
 
 pub records_are : (of : Settings) (node : NotedNode) (held : List ℕ) (synced : ℕ) → IsKept of node held synced → held ≡ records_of of.n (groups_of node.journal.notes)
 records_are of node held synced k = k.opened.keeps.records ∙ ap (λ n. records_of n (groups_of node.journal.notes)) k.n

@@ -6,7 +6,7 @@ use Rattle.std.proofs.lemmas.Bool.{le-ltb, ltb-false, lt-ltb, ltb-true, eqb-fals
 use Rattle.std.proofs.lemmas.Bool.Decides.{leb_tells}
 use Rattle.std.proofs.lemmas.List.{take-append-drop, length-take-le}
 use Rattle.std.proofs.Math.Seq.{take-append_seam, take-append-add, drop-append_seam}
-use Rattle.replica_keeper.specs.Records.{record_with, Front, torn, misfit, whole, front_by, front_of}
+use Rattle.world_model.specs.Records.{record_with, Front, torn, misfit, whole, front_by, front_of}
 
 pub le_or_lt : (a b : ℕ) → (a ≤ b) ⊎ (b < a)
 le_or_lt a b = ⊎_elim (λ p. inl p.1) (λ p. inr p.1) (leb_tells a b)

@@ -10,8 +10,9 @@ use Rattle.causal_model.specs.State.{start}
 use Rattle.causal_model.specs.declared.note.Note.{Note}
 use Rattle.causal_model.specs.declared.note.Note.TheVariants.{Sent, Kept, Took, Crook, Regroup}
 use Rattle.store_io.specs.Keeping.{Leaves}
-use Rattle.replica_keeper.specs.Records.{record_of, records_of, Reading, reading_within, Settings, kept_reading, kept_prefix, fault_by}
-use Rattle.replica_keeper.specs.Keeping.{Cut, cut_at, cut_of, groups_of, is_send, sent_by, sent_len, within_bytes, IsFrontOf, Keeps}
+use Rattle.world_model.specs.Records.{record_of, records_of, Reading, reading_within, Settings, kept_reading, kept_prefix, fault_by}
+use Rattle.world_model.specs.Stops.{is_send, within_bytes}
+use Rattle.replica_keeper.specs.Keeping.{Cut, cut_at, cut_of, groups_of, sent_by, sent_len, IsFrontOf, Keeps}
 use Rattle.replica_keeper.proofs.Readings.{enough, IsFrontReading, front_read, joined, joins, IsTold, one_read, length-record}
 
 -- ---- groups

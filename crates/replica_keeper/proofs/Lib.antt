@@ -9,3 +9,4 @@ pub mod Durables
 pub mod Replays
 pub mod Steps
 pub mod Starts
+pub mod Left

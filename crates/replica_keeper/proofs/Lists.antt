@@ -19,8 +19,9 @@ use Rattle.replica_core.specs.Rules.{StandsFor, local_of}
 use Rattle.replica_node.specs.Nodes.{state_by}
 use Rattle.replica_node.specs.Rules.{noting}
 use Rattle.store_io.specs.Keeping.{Leaves}
-use Rattle.replica_keeper.specs.Records.{record_of, records_of, Settings, kept_prefix}
-use Rattle.replica_keeper.specs.Keeping.{groups_of, with_group, within_bytes, IsFrontOf, Keeps}
+use Rattle.world_model.specs.Records.{record_of, records_of, Settings, kept_prefix}
+use Rattle.world_model.specs.Stops.{within_bytes}
+use Rattle.replica_keeper.specs.Keeping.{groups_of, with_group, IsFrontOf, Keeps}
 use Rattle.replica_keeper.specs.Open.{NotedNode, settings_by}
 use Rattle.replica_keeper.specs.Calls.{local_list, beat_list, receive_list}
 use Rattle.replica_keeper.proofs.Readings.{length-record}

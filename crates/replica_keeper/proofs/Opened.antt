@@ -14,8 +14,9 @@ use Rattle.replica_core.specs.Rules.{StandsFor, SameSettings, IsDraft}
 use Rattle.replica_core.proofs.Own.{draft_fits, draft_is_carried}
 use Rattle.replica_node.specs.Nodes.{state_by}
 use Rattle.store_io.specs.Keeping.{Leaves}
-use Rattle.replica_keeper.specs.Records.{record_of, records_of}
-use Rattle.replica_keeper.specs.Keeping.{groups_of, is_send, IsFrontOf, Keeps}
+use Rattle.world_model.specs.Records.{record_of, records_of}
+use Rattle.world_model.specs.Stops.{is_send}
+use Rattle.replica_keeper.specs.Keeping.{groups_of, IsFrontOf, Keeps}
 use Rattle.replica_keeper.specs.Open.{NotedNode, settings_by, IsOpen}
 use Rattle.replica_keeper.proofs.Kept.{Opens, records_more, sent_len-le, sent_len-more, IsNoted, left_more, keeps_more}
 use Rattle.replica_keeper.proofs.Told.{sent_told, kept_told}
@@ -65,10 +66,11 @@ pub opened_left : (node : NotedNode) (held : List ℕ) (synced : ℕ) (group : L
     → (left : List ℕ) → Leaves (held ++ record_of node.inner.n group) synced left → IsFrontOf (settings_by node) (groups_of node.journal.notes ++ group ∷ []) synced left
 opened_left node held synced group opened told left l = left_more (settings_by node) node.journal.notes group held synced left opened.keeps told l
 
-same_open : (old new : NotedNode) (notes : List Note) (held held' : List ℕ) (synced : ℕ) → SameSettings old.inner new.inner → new.first ≡ old.first → old.first ≡ (old.inner.me, old.inner.n) → new.journal.notes ≡ notes → held' ≡ held
+same_open : (old new : NotedNode) (notes : List Note) (held held' : List ℕ) (synced : ℕ) → SameSettings old.inner new.inner → new.first ≡ old.first → old.first ≡ (old.inner.me, old.inner.n) → old.inner.epoch ≡ 0 → new.journal.notes ≡ notes → held' ≡ held
     → Keeps (settings_by old) notes held synced → IsOpen new held' synced
-same_open old new notes held held' synced s f first n h k = record {
+same_open old new notes held held' synced s f first e n h k = record {
   first = f ∙ first ∙ rw (s.me, s.n) refl;
+  epoch = s.epoch ∙ e;
   keeps = rw (same_settings old new s, n, h) k;
 }
 
@@ -82,7 +84,7 @@ opened_synced old new group held held' synced synced' opened told opens s f n h 
     let size : synced' ≡ length (held ++ record_of n' group) = y ∙ ap length h in
     let k = keeps_more (settings_by old) old.journal.notes group held synced synced' opened.keeps told opens
     (let le = sent_len-le n' (groups_of old.journal.notes ++ group ∷ []) in let e = ap length all in omega (arith, le, e, size)) (omega (arith, size)) in
-    same_open old new (old.journal.notes ++ group) (held ++ record_of n' group) held' synced' s f opened.first n h k
+    same_open old new (old.journal.notes ++ group) (held ++ record_of n' group) held' synced' s f opened.first opened.epoch n h k
 
 -- a group that sends nothing, with no more synced
 pub opened_kept : (old new : NotedNode) (group : List Note) (held held' : List ℕ) (synced synced' : ℕ) → IsOpen old held synced → IsNoted (settings_by old) old.journal.notes group → Opens group → is_send group ≡ false
@@ -92,4 +94,4 @@ opened_kept old new group held held' synced synced' opened told opens other s f 
     let sent = sent_len-more n' (groups_of old.journal.notes) group other in
     let k = keeps_more (settings_by old) old.journal.notes group held synced synced opened.keeps told opens
     (omega (arith, sent, opened.keeps.sent)) (omega (arith, opened.keeps.within, length-append held (record_of n' group))) in
-    subst (λ y. IsOpen new held' y) (sym y) (same_open old new (old.journal.notes ++ group) (held ++ record_of n' group) held' synced s f opened.first n h k)
+    subst (λ y. IsOpen new held' y) (sym y) (same_open old new (old.journal.notes ++ group) (held ++ record_of n' group) held' synced s f opened.first opened.epoch n h k)

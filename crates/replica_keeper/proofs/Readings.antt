@@ -10,8 +10,8 @@ use Rattle.std.specs.Cmp.Lexicographic.{same_text as texts_same}
 use Rattle.causal_model.specs.Journal.{state_noted, state_after, notes_of}
 use Rattle.causal_model.specs.State.{State}
 use Rattle.causal_model.specs.declared.note.Note.{Note}
-use Rattle.replica_keeper.specs.Records.{content_of, record_with, record_of, Front, torn, misfit, whole, front_of, group_told, notes_told, Reading, read_none, read_group, read_told, read_front, reading_within}
-use Rattle.replica_keeper.specs.Keeping.{within_bytes}
+use Rattle.world_model.specs.Records.{content_of, record_with, record_of, Front, torn, misfit, whole, front_of, group_told, notes_told, Reading, read_none, read_group, read_told, read_front, reading_within}
+use Rattle.world_model.specs.Stops.{within_bytes}
 use Rattle.replica_keeper.proofs.Fronts.{le_or_lt, IsWhole, Says, says, whole_front, whole_torn, whole_take, whole_more, record_whole, torn_take}
 
 length-whole : (bytes content rest : List ℕ) → IsWhole bytes content rest → length bytes ≡ length content + 4 + length rest

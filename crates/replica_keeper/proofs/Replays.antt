@@ -25,7 +25,7 @@ use Rattle.frame_codec.specs.declared.fault.FrameFault.{FrameFault}
 use Rattle.frame_codec.specs.declared.version.Version.{Version}
 use Rattle.frame_codec.specs.declared.version.Version.TheVariants.{Two}
 use Rattle.replica_node.specs.Nodes.{state_by}
-use Rattle.replica_keeper.specs.Records.{group_if, notes_sent, notes_by}
+use Rattle.world_model.specs.Records.{group_if, notes_sent, notes_by}
 use Rattle.replica_keeper.specs.Open.{NotedNode}
 use Rattle.replica_keeper.specs.Replaying.{told_to, Replays}
 use Rattle.replica_keeper.proofs.Kept.{Opens, kept_opens}

@@ -5,8 +5,9 @@ use Rattle.std.proofs.lemmas.List.{length-take-le}
 use Rattle.std.proofs.lemmas.Option.{none-some}
 use Rattle.causal_model.specs.declared.note.Note.{Note}
 use Rattle.store_io.specs.Keeping.{Leaves, LeavesEither}
-use Rattle.replica_keeper.specs.Records.{record_of, records_of, Reading, Settings, kept_reading, kept_prefix, kept_fault, fault_by}
-use Rattle.replica_keeper.specs.Keeping.{groups_of, within_bytes, IsFrontOf, Keeps}
+use Rattle.world_model.specs.Records.{record_of, records_of, Reading, Settings, kept_reading, kept_prefix, kept_fault, fault_by}
+use Rattle.world_model.specs.Stops.{within_bytes}
+use Rattle.replica_keeper.specs.Keeping.{groups_of, IsFrontOf, Keeps}
 use Rattle.replica_keeper.specs.Open.{NotedNode, settings_by, IsOpen}
 use Rattle.replica_keeper.specs.Starting.{MayLeave}
 use Rattle.std.proofs.Math.Seq.{take-add}

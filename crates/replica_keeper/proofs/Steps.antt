@@ -6,10 +6,11 @@ use Rattle.std.proofs.lemmas.List.{length-take-le, take_rest}
 use Rattle.std.proofs.Math.Seq.{take-append_seam, take-add}
 use Rattle.causal_model.specs.Journal.{replay}
 use Rattle.replica_node.specs.Nodes.{state_by}
-use Rattle.replica_keeper.specs.Records.{content_of, record_with, record_of, Front, whole, front_of, group_told, Reading, read_none, read_fault, read_front, read_told, reading_within, kept_reading, kept_fault, fault_by}
+use Rattle.world_model.specs.Records.{content_of, record_with, record_of, Front, whole, front_of, group_told, Reading, read_none, read_fault, read_front, read_told, reading_within, kept_reading, kept_fault, fault_by}
 use Rattle.replica_keeper.specs.Keeping.{groups_of}
 use Rattle.replica_keeper.specs.Open.{NotedNode, settings_by, IsOpen}
-use Rattle.replica_keeper.specs.Replaying.{told_to, HasReplayed, IsSame}
+use Rattle.replica_keeper.specs.Replaying.{told_to, HasReplayed}
+use Rattle.replica_keeper.specs.Open.{IsSame}
 use Rattle.replica_keeper.specs.Reads.{IsHeadOf, HasRead, read_at}
 use Rattle.replica_keeper.specs.declared.reading.Unread.{Unread}
 use Rattle.replica_keeper.specs.declared.reading.Unread.TheVariants.{NoMemory, Damaged}

@@ -25,7 +25,7 @@ use Rattle.frame_codec.specs.Message.{frame_read}
 use Rattle.frame_codec.specs.declared.version.Version.TheVariants.{Two}
 use Rattle.frame_codec.proofs.Read.{frames_are_read}
 use Rattle.frame_codec.proofs.Spelled.{length-number_fields}
-use Rattle.replica_keeper.specs.Records.{content_of, group_if, notes_sent, notes_by}
+use Rattle.world_model.specs.Records.{content_of, group_if, notes_sent, notes_by}
 use Rattle.replica_keeper.proofs.Readings.{IsTold}
 
 -- ---- a frame

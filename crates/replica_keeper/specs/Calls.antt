@@ -7,7 +7,7 @@ use Rattle.causal_model.specs.Receiving.{receive_rule}
 use Rattle.causal_model.specs.Sending.{local_rule, beat_rule}
 use Rattle.causal_model.specs.State.{State}
 use Rattle.causal_model.specs.declared.note.Note.{Note}
-use Rattle.replica_keeper.specs.Records.{Settings}
+use Rattle.world_model.specs.Records.{Settings}
 use Rattle.replica_keeper.specs.Keeping.{groups_of, with_group}
 
 -- the state that a journal of a first epoch gives

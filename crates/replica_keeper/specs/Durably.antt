@@ -1,6 +1,6 @@
 -- What a durable replica's call answered.
 use Rattle.std.specs.Prelude.{ℕ}
-use Rattle.replica_keeper.specs.Records.{Settings}
+use Rattle.world_model.specs.Records.{Settings}
 use Rattle.replica_keeper.specs.declared.durably.Durably.{Durably}
 use Rattle.replica_keeper.specs.declared.durably.Durably.TheVariants.{Done, KeeperFault, Closed}
 

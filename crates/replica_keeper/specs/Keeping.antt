@@ -3,7 +3,8 @@ use Rattle.std.specs.Prelude.{◌≡◌, ℕ, zero, suc, ◌+◌, ◌-◌, ◌�
 use Rattle.causal_model.specs.Journal.{notes_of}
 use Rattle.causal_model.specs.declared.note.Note.{Note}
 use Rattle.causal_model.specs.declared.note.Note.TheVariants.{Sent, Kept, Took, Crook, Regroup}
-use Rattle.replica_keeper.specs.Records.{record_of, records_of, Settings, kept_reading, kept_prefix, kept_fault}
+use Rattle.world_model.specs.Records.{record_of, records_of, Settings, kept_reading, kept_prefix, kept_fault}
+use Rattle.world_model.specs.Stops.{is_send, within_bytes}
 
 -- ---- groups
 
@@ -40,15 +41,6 @@ with_group groups (note ∷ notes) = groups ++ (note ∷ notes) ∷ []
 
 -- ---- what is synced
 
--- whether a group sends
-abbrev pub is_send : List Note → Bool
-is_send [] = false
-is_send (Sent m ∷ notes) = true
-is_send (Kept m ∷ notes) = false
-is_send (Took id ∷ notes) = false
-is_send (Crook id ∷ notes) = false
-is_send (Regroup epoch n me ∷ notes) = false
-
 -- how many bytes the records of groups have up to the last that sends
 abbrev pub sent_by : ℕ → Bool → ℕ → ℕ
 sent_by len send zero = if send then len else 0
@@ -57,12 +49,6 @@ sent_by len send (suc later) = len + suc later
 abbrev pub sent_len : ℕ → List (List Note) → ℕ
 sent_len n [] = 0
 sent_len n (group ∷ groups) = sent_by (length (record_of n group)) (is_send group) (sent_len n groups)
-
--- the first groups whose records have at most so many bytes together
-abbrev pub within_bytes : ℕ → ℕ → List (List Note) → List (List Note)
-within_bytes n b [] = []
-within_bytes n b (group ∷ groups) =
-    if nat_le (length (record_of n group)) b then group ∷ within_bytes n (b - length (record_of n group)) groups else []
 
 -- ---- what a stop leaves
 

@@ -1,4 +1,3 @@
-pub mod Records
 pub mod Keeping
 pub mod Open
 pub mod Calls
@@ -6,3 +5,4 @@ pub mod Durably
 pub mod Replaying
 pub mod Reads
 pub mod Starting
+pub mod Laws

@@ -2,7 +2,7 @@
 use Rattle.std.specs.Prelude.{◌≡◌, ℕ, suc, ◌+◌, ◌≤◌, List, [], ◌∷◌, ◌++◌, length, take, drop, Some}
 use Rattle.causal_model.specs.declared.note.Note.{Note}
 use Rattle.replica_node.specs.Nodes.{state_by}
-use Rattle.replica_keeper.specs.Records.{content_of, record_of, torn, misfit, whole, front_of, group_told, Reading, read_none, read_fault, reading_within}
+use Rattle.world_model.specs.Records.{content_of, record_of, torn, misfit, whole, front_of, group_told, Reading, read_none, read_fault, reading_within}
 use Rattle.replica_keeper.specs.Keeping.{cut_of}
 use Rattle.replica_keeper.specs.Open.{NotedNode}
 use Rattle.replica_keeper.specs.declared.reading.Head.{Head}

@@ -2,8 +2,7 @@
 use Rattle.std.specs.Prelude.{◌≡◌, ℕ, Bool, true, false, List, [], ◌∷◌, ◌++◌, Option, Some, None}
 use Rattle.causal_model.specs.declared.note.Note.{Note}
 use Rattle.replica_node.specs.Nodes.{state_by}
-use Rattle.replica_core.specs.Rules.{SameSettings}
-use Rattle.replica_keeper.specs.Records.{group_told}
+use Rattle.world_model.specs.Records.{group_told}
 use Rattle.replica_keeper.specs.Keeping.{cut_of}
 use Rattle.replica_keeper.specs.Open.{NotedNode}
 
@@ -22,8 +21,3 @@ pub record HasReplayed (before after : NotedNode) (content : List ℕ) : Type 0 
 abbrev pub Replays : NotedNode → NotedNode → List ℕ → Bool → Type 0
 Replays before after content true = HasReplayed before after content
 Replays before after content false = told_to before content ≡ None
-
--- a node keeps its numbers and where its journal began
-pub record IsSame (before after : NotedNode) : Type 0 where
-  pub settings : SameSettings before.inner after.inner
-  pub first : after.first ≡ before.first

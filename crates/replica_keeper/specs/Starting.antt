@@ -1,7 +1,7 @@
 -- What a stop at any moment of a start may leave.
 use Rattle.std.specs.Prelude.{◌≡◌, ℕ, List, None}
 use Rattle.store_io.specs.Keeping.{Leaves}
-use Rattle.replica_keeper.specs.Records.{Settings, kept_prefix, kept_fault}
+use Rattle.world_model.specs.Records.{Settings, kept_prefix, kept_fault}
 use Rattle.replica_keeper.specs.Keeping.{IsFrontOf}
 
 -- of bytes without a fault a front of their groups, and of others a front of the bytes

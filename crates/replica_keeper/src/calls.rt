@@ -1,12 +1,12 @@
 //! The calls of a replica whose groups are kept: as the node's, and the record of what a call notes comes behind the others.
 
-ghost use Rattle.std.specs.Prelude.{◌≡◌, ◌≢◌, ◌<◌, ℕ, List, length, IsTrue, IfOk, OnOk, OnErr, true};
+ghost use Rattle.std.specs.Prelude.{◌≡◌, ◌≢◌, ◌<◌, ℕ, List, length, All, IsTrue, IfOk, OnOk, OnErr, true, false};
 ghost use Rattle.op_base.specs.Message.{fits};
 ghost use Rattle.causal_model.specs.Counts.{is_carried};
 ghost use Rattle.causal_model.specs.Follows.{Follows};
 ghost use Rattle.causal_model.specs.Journal.{local_notes, beat_notes, receive_notes};
 ghost use Rattle.causal_model.specs.Receiving.{is_accepted, receive_rule};
-ghost use Rattle.causal_model.specs.Sending.{is_sent, is_beat, local_rule, beat_rule};
+ghost use Rattle.causal_model.specs.Sending.{is_sent, is_beat, local_messages, beat_messages, local_rule, beat_rule};
 ghost use Rattle.causal_model.specs.declared.note.Note.{Note as ANote};
 ghost use Rattle.replica_core.specs.Rules.{SameSettings};
 ghost use Rattle.replica_node.specs.Rules.{noting};
@@ -34,6 +34,8 @@ pub(crate) fn local<K: Keeper>(
     ensures answer { IfOk result (λ answer. Follows (λ (there ns : List ANote). there ≡ ns) Local.NoMemory is_sent (noting node.old.first local_notes (local_rule node.old.inner.w node.old.inner.limit update.now)) node.old.journal.notes answer node.new.journal.notes) }
     ensures list { IfOk result (λ answer. answer ≢ Local.NoMemory → groups_of node.new.journal.notes ≡ local_list (settings_by node.old) node.old.journal.notes update.now) }
     ensures synced { IfOk result (λ answer. IsTrue (is_sent answer) → K.synced keeper.new ≡ length (K.held keeper.new)) }
+    ensures fits { IfOk result (λ answer. All (λ m. IsTrue (fits node.old.inner.n m)) (local_messages answer)) }
+    ensures unsynced { IfOk result (λ answer. is_sent answer ≡ false → K.synced keeper.new ≡ K.synced keeper.old) }
     ensures steady { OnOk result (K.faults keeper.new ≡ K.faults keeper.old) }
     ensures fault { OnErr result (K.faults keeper.old < K.faults keeper.new) }
     ensures settings { SameSettings node.old.inner node.new.inner }
@@ -61,6 +63,8 @@ pub(crate) fn beat<K: Keeper>(
     ensures answer { IfOk result (λ answer. Follows (λ (there ns : List ANote). there ≡ ns) Beat.NoMemory is_beat (noting node.old.first beat_notes (beat_rule node.old.inner.w node.old.inner.limit)) node.old.journal.notes answer node.new.journal.notes) }
     ensures list { IfOk result (λ answer. answer ≢ Beat.NoMemory → groups_of node.new.journal.notes ≡ beat_list (settings_by node.old) node.old.journal.notes) }
     ensures synced { IfOk result (λ answer. IsTrue (is_beat answer) → K.synced keeper.new ≡ length (K.held keeper.new)) }
+    ensures fits { IfOk result (λ answer. All (λ m. IsTrue (fits node.old.inner.n m)) (beat_messages answer)) }
+    ensures unsynced { IfOk result (λ answer. is_beat answer ≡ false → K.synced keeper.new ≡ K.synced keeper.old) }
     ensures steady { OnOk result (K.faults keeper.new ≡ K.faults keeper.old) }
     ensures fault { OnErr result (K.faults keeper.old < K.faults keeper.new) }
     ensures settings { SameSettings node.old.inner node.new.inner }
@@ -91,6 +95,7 @@ pub(crate) fn receive<K: Keeper>(
     ensures open { OnOk result (IsOpen node.new (K.held keeper.new) (K.synced keeper.new)) }
     ensures answer { IfOk result (λ answer. Follows (λ (there ns : List ANote). there ≡ ns) Receive.NoMemory is_accepted (noting node.old.first (receive_notes message) (receive_rule node.old.inner.w message)) node.old.journal.notes answer node.new.journal.notes) }
     ensures list { IfOk result (λ answer. answer ≢ Receive.NoMemory → groups_of node.new.journal.notes ≡ receive_list (settings_by node.old) node.old.journal.notes message) }
+    ensures unsynced { OnOk result (K.synced keeper.new ≡ K.synced keeper.old) }
     ensures steady { OnOk result (K.faults keeper.new ≡ K.faults keeper.old) }
     ensures fault { OnErr result (K.faults keeper.old < K.faults keeper.new) }
     ensures settings { SameSettings node.old.inner node.new.inner }

@@ -1,21 +1,22 @@
 //! A replica that outlives stops: what it let out is never forgotten.
 
-ghost use Rattle.std.specs.Prelude.{◌≡◌, ◌≢◌, ◌↔◌, ◌<◌, List, length, IsTrue, Some, None};
+ghost use Rattle.std.specs.Prelude.{◌≡◌, ◌≢◌, ◌↔◌, ◌<◌, List, length, All, IsTrue, false, true, Some, None};
 ghost use Rattle.std.specs.Option.{IfSome, IsSome, option_copied};
 ghost use Rattle.op_base.specs.Message.{fits};
 ghost use Rattle.causal_model.specs.Counts.{is_carried};
 ghost use Rattle.causal_model.specs.Follows.{Follows};
 ghost use Rattle.causal_model.specs.Journal.{local_notes, beat_notes, receive_notes};
 ghost use Rattle.causal_model.specs.Receiving.{is_accepted, receive_rule};
-ghost use Rattle.causal_model.specs.Sending.{is_sent, is_beat, local_rule, beat_rule};
+ghost use Rattle.causal_model.specs.Sending.{is_sent, is_beat, local_messages, beat_messages, local_rule, beat_rule};
 ghost use Rattle.causal_model.specs.declared.note.Note.{Note as ANote};
+ghost use Rattle.replica_core.specs.Numbers.{are_numbers};
 ghost use Rattle.replica_node.specs.Rules.{noting};
 ghost use Rattle.store_io.specs.Keeping.{LeavesOnly};
 ghost use Rattle.replica_keeper.specs.Calls.{local_list, beat_list, receive_list};
 ghost use Rattle.replica_keeper.specs.Durably.{IfDone, numbers};
 ghost use Rattle.replica_keeper.specs.Keeping.{groups_of, IsFrontOf};
-ghost use Rattle.replica_keeper.specs.Open.{NotedNode, IsKept, notes_in};
-ghost use Rattle.replica_keeper.specs.Records.{records_of};
+ghost use Rattle.replica_keeper.specs.Open.{NotedNode, GoesOn, IsKept, notes_in};
+ghost use Rattle.world_model.specs.Records.{records_of};
 
 use crate::calls::{beat, local, receive};
 use crate::durably::Durably;
@@ -44,6 +45,8 @@ pub struct Durable<K: Keeper> {
     pub keeper: K,
     /// The replica with its journal, while it is open.
     pub node: Option<Node<Journal>>,
+    /// The numbers are in their ranges.
+    pub ghost in_range: { are_numbers me n w limit ≡ true },
     /// While it is open, the node has the four numbers, and the bytes held are the records of its groups, with each that sends
     /// among those synced.
     pub ghost kept: { (is : NotedNode) → node ≡ Some is → IsKept (numbers me n w limit) is (K.held keeper) (K.synced keeper) },
@@ -60,10 +63,13 @@ impl<K: Keeper> Durable<K> {
         ensures steady { IfDone result (λ _. K.faults self.new.keeper ≡ K.faults self.old.keeper) }
         ensures shut { result ≡ Durably.KeeperFault → self.new.node ≡ None }
         ensures open { IfDone result (λ _. IsSome self.new.node) }
+        ensures same { IfDone result (λ _. GoesOn self.old.node self.new.node) }
         ensures answer { IfDone result (λ answer. Follows (λ (there ns : List ANote). there ≡ ns) Local.NoMemory is_sent (noting (self.old.me, self.old.n) local_notes (local_rule self.old.w self.old.limit update.now)) (notes_in self.old.node) answer (notes_in self.new.node)) }
         ensures list { IfDone result (λ answer. answer ≢ Local.NoMemory → groups_of (notes_in self.new.node) ≡ local_list (numbers self.old.me self.old.n self.old.w self.old.limit) (notes_in self.old.node) update.now) }
         ensures held { IfSome self.new.node (λ node. K.held self.new.keeper ≡ records_of self.new.n (groups_of node.journal.notes)) }
         ensures synced { IfDone result (λ answer. IsTrue (is_sent answer) → K.synced self.new.keeper ≡ length (K.held self.new.keeper)) }
+        ensures fits { IfDone result (λ answer. All (λ m. IsTrue (fits self.old.n m)) (local_messages answer)) }
+        ensures unsynced { IfDone result (λ answer. is_sent answer ≡ false → K.synced self.new.keeper ≡ K.synced self.old.keeper) }
         ensures settings { numbers self.new.me self.new.n self.new.w self.new.limit ≡ numbers self.old.me self.old.n self.old.w self.old.limit }
         ensures any_moment { IsSome self.old.node → LeavesOnly K.moment K.left_since self.old.keeper self.new.keeper
             (IsFrontOf (numbers self.old.me self.old.n self.old.w self.old.limit) (local_list (numbers self.old.me self.old.n self.old.w self.old.limit) (notes_in self.old.node) update.now) (K.synced self.old.keeper)) }
@@ -90,10 +96,13 @@ impl<K: Keeper> Durable<K> {
         ensures steady { IfDone result (λ _. K.faults self.new.keeper ≡ K.faults self.old.keeper) }
         ensures shut { result ≡ Durably.KeeperFault → self.new.node ≡ None }
         ensures open { IfDone result (λ _. IsSome self.new.node) }
+        ensures same { IfDone result (λ _. GoesOn self.old.node self.new.node) }
         ensures answer { IfDone result (λ answer. Follows (λ (there ns : List ANote). there ≡ ns) Beat.NoMemory is_beat (noting (self.old.me, self.old.n) beat_notes (beat_rule self.old.w self.old.limit)) (notes_in self.old.node) answer (notes_in self.new.node)) }
         ensures list { IfDone result (λ answer. answer ≢ Beat.NoMemory → groups_of (notes_in self.new.node) ≡ beat_list (numbers self.old.me self.old.n self.old.w self.old.limit) (notes_in self.old.node)) }
         ensures held { IfSome self.new.node (λ node. K.held self.new.keeper ≡ records_of self.new.n (groups_of node.journal.notes)) }
         ensures synced { IfDone result (λ answer. IsTrue (is_beat answer) → K.synced self.new.keeper ≡ length (K.held self.new.keeper)) }
+        ensures fits { IfDone result (λ answer. All (λ m. IsTrue (fits self.old.n m)) (beat_messages answer)) }
+        ensures unsynced { IfDone result (λ answer. is_beat answer ≡ false → K.synced self.new.keeper ≡ K.synced self.old.keeper) }
         ensures settings { numbers self.new.me self.new.n self.new.w self.new.limit ≡ numbers self.old.me self.old.n self.old.w self.old.limit }
         ensures any_moment { IsSome self.old.node → LeavesOnly K.moment K.left_since self.old.keeper self.new.keeper
             (IsFrontOf (numbers self.old.me self.old.n self.old.w self.old.limit) (beat_list (numbers self.old.me self.old.n self.old.w self.old.limit) (notes_in self.old.node)) (K.synced self.old.keeper)) }
@@ -123,9 +132,11 @@ impl<K: Keeper> Durable<K> {
         ensures steady { IfDone result (λ _. K.faults self.new.keeper ≡ K.faults self.old.keeper) }
         ensures shut { result ≡ Durably.KeeperFault → self.new.node ≡ None }
         ensures open { IfDone result (λ _. IsSome self.new.node) }
+        ensures same { IfDone result (λ _. GoesOn self.old.node self.new.node) }
         ensures answer { IfDone result (λ answer. Follows (λ (there ns : List ANote). there ≡ ns) Receive.NoMemory is_accepted (noting (self.old.me, self.old.n) (receive_notes message) (receive_rule self.old.w message)) (notes_in self.old.node) answer (notes_in self.new.node)) }
         ensures list { IfDone result (λ answer. answer ≢ Receive.NoMemory → groups_of (notes_in self.new.node) ≡ receive_list (numbers self.old.me self.old.n self.old.w self.old.limit) (notes_in self.old.node) message) }
         ensures held { IfSome self.new.node (λ node. K.held self.new.keeper ≡ records_of self.new.n (groups_of node.journal.notes)) }
+        ensures unsynced { IfDone result (λ _. K.synced self.new.keeper ≡ K.synced self.old.keeper) }
         ensures settings { numbers self.new.me self.new.n self.new.w self.new.limit ≡ numbers self.old.me self.old.n self.old.w self.old.limit }
         ensures any_moment { IsSome self.old.node → LeavesOnly K.moment K.left_since self.old.keeper self.new.keeper
             (IsFrontOf (numbers self.old.me self.old.n self.old.w self.old.limit) (receive_list (numbers self.old.me self.old.n self.old.w self.old.limit) (notes_in self.old.node) message) (K.synced self.old.keeper)) }

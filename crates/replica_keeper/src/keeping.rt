@@ -63,6 +63,7 @@ pub(crate) fn send<K: Keeper>(
     ensures synced { OnOk result (K.synced keeper.new ≡ length (K.held keeper.new)) }
     ensures unchanged { result ≡ Err Unkept.NoMemory → IsOpen node.new (K.held keeper.new) (K.synced keeper.new) }
     ensures unnoted { result ≡ Err Unkept.NoMemory → node.new.journal.notes ≡ node.old.journal.notes }
+    ensures unsynced { result ≡ Err Unkept.NoMemory → K.synced keeper.new ≡ K.synced keeper.old }
     ensures steady { result ≢ Err Unkept.Failed → K.faults keeper.new ≡ K.faults keeper.old }
     ensures fault { result ≡ Err Unkept.Failed → K.faults keeper.old < K.faults keeper.new }
     ensures settings { SameSettings node.old.inner node.new.inner }
@@ -93,6 +94,7 @@ pub(crate) fn accept<K: Keeper>(
     ensures kept { OnOk result (IsOpen node.new (K.held keeper.new) (K.synced keeper.new)) }
     ensures unchanged { result ≡ Err Unkept.NoMemory → IsOpen node.new (K.held keeper.new) (K.synced keeper.new) }
     ensures unnoted { result ≡ Err Unkept.NoMemory → node.new.journal.notes ≡ node.old.journal.notes }
+    ensures unsynced { result ≢ Err Unkept.Failed → K.synced keeper.new ≡ K.synced keeper.old }
     ensures steady { result ≢ Err Unkept.Failed → K.faults keeper.new ≡ K.faults keeper.old }
     ensures fault { result ≡ Err Unkept.Failed → K.faults keeper.old < K.faults keeper.new }
     ensures settings { SameSettings node.old.inner node.new.inner }

@@ -8,6 +8,7 @@ mod calls;
 mod durable;
 mod durably;
 mod keeping;
+mod laws;
 mod reading;
 mod record;
 mod replay;
@@ -15,6 +16,7 @@ mod start;
 
 pub use durable::Durable;
 pub use durably::Durably;
+pub use laws::{a_front_of_bytes_is_read_as_a_front, what_was_sent_outlives_stops};
 pub use start::StartFault;
 
 #[cfg(test)]

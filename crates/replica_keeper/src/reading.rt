@@ -3,9 +3,9 @@
 ghost use Rattle.std.specs.Prelude.{◌≡◌, ◌≤◌, [], ℕ, length, take, IfOk, OnErr, Err, Some, false};
 ghost use Rattle.replica_keeper.specs.Keeping.{groups_of};
 ghost use Rattle.replica_keeper.specs.Open.{settings_by, IsOpen};
-ghost use Rattle.replica_keeper.specs.Records.{kept_reading, kept_fault};
+ghost use Rattle.world_model.specs.Records.{kept_reading, kept_fault};
 ghost use Rattle.replica_keeper.specs.Reads.{IsHead, IsReadAs};
-ghost use Rattle.replica_keeper.specs.Replaying.{IsSame};
+ghost use Rattle.replica_keeper.specs.Open.{IsSame};
 
 use crate::replay::replay_content;
 use byteorder::{BigEndian, ByteOrder};

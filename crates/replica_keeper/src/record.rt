@@ -5,7 +5,7 @@ ghost use Rattle.op_base.specs.Message.{fits};
 ghost use Rattle.op_base.specs.Valid.{is_valid};
 ghost use Rattle.frame_codec.specs.Grammar.{frame_of};
 ghost use Rattle.frame_codec.specs.declared.version.Version.TheVariants as versions;
-ghost use Rattle.replica_keeper.specs.Records.{record_with};
+ghost use Rattle.world_model.specs.Records.{record_with};
 
 use frame_codec::encode;
 use op_base::{Message, NoMemory};

@@ -11,7 +11,8 @@ ghost use Rattle.frame_codec.specs.Grammar.{frame_of};
 ghost use Rattle.frame_codec.specs.Message.{frame_read};
 ghost use Rattle.frame_codec.specs.declared.version.Version.TheVariants as versions;
 ghost use Rattle.replica_core.specs.Rules.{StandsFor, IsDraft};
-ghost use Rattle.replica_keeper.specs.Replaying.{Replays, IsSame};
+ghost use Rattle.replica_keeper.specs.Replaying.{Replays};
+ghost use Rattle.replica_keeper.specs.Open.{IsSame};
 
 use crate::record::{ACCEPTED, SENT};
 use causal_model::Local;

@@ -4,9 +4,9 @@ ghost use Rattle.std.specs.Prelude.{◌≡◌, ◌≢◌, ◌<◌, ◌≤◌, �
 ghost use Rattle.store_io.specs.Keeping.{Leaves, LeavesEither, LeavesOnly};
 ghost use Rattle.replica_keeper.specs.Keeping.{groups_of};
 ghost use Rattle.replica_keeper.specs.Open.{settings_by, IsOpen};
-ghost use Rattle.replica_keeper.specs.Replaying.{IsSame};
+ghost use Rattle.replica_keeper.specs.Open.{IsSame};
 ghost use Rattle.replica_keeper.specs.Starting.{MayLeave};
-ghost use Rattle.replica_keeper.specs.Records.{kept_prefix, kept_fault};
+ghost use Rattle.world_model.specs.Records.{kept_prefix, kept_fault};
 
 use crate::durable::Durable;
 use crate::keeping::Unkept;

@@ -10,6 +10,7 @@ mod memory_keeper;
 mod past;
 mod standard;
 mod steady;
+mod steady_keeper;
 mod traits;
 
 pub use gates::{Gate, OpenGate};
@@ -18,6 +19,7 @@ pub use memory::{MemorySink, MemorySource};
 pub use memory_keeper::MemoryKeeper;
 pub use standard::{StdinSource, StdoutSink};
 pub use steady::SteadySource;
+pub use steady_keeper::SteadyKeeper;
 pub use traits::{Failed, Sink, Source, write_whole};
 
 #[cfg(test)]

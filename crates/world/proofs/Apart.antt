@@ -31,7 +31,7 @@ use Rattle.world.specs.Shows.{NotedNode, state_of, Shows}
 use Rattle.world.proofs.Growing.{journal_there}
 
 -- what is of each item by its place is so of the list
-by_place : {X Y : Type 0} (d : Y) (f : X → Y) (g : ℕ → Y) (xs : List X) → ((r : ℕ) (x : X) → slice_get xs r ≡ Some x → r < length xs → slice_index_or xs r x ≡ x → f x ≡ g r) → map f xs ≡ map g (members (length xs))
+pub by_place : {X Y : Type 0} (d : Y) (f : X → Y) (g : ℕ → Y) (xs : List X) → ((r : ℕ) (x : X) → slice_get xs r ≡ Some x → r < length xs → slice_index_or xs r x ≡ x → f x ≡ g r) → map f xs ≡ map g (members (length xs))
 by_place d f g xs each = ext_get_or d (map f xs) (map g (members (length xs))) (length-map xs f ∙ sym (length-map-range_with_len g 0 (length xs))) (λ i l.
     let low : i < length xs = omega (arith, l, length-map xs f) in
     elim (slice_get_cases xs i).1 [

@@ -15,5 +15,5 @@ mod settling;
 mod tests;
 mod world;
 
-pub use world::{FrameTable, NodeList, World};
+pub use world::{FrameTable, NodeList, World, empty_rows};
 pub use world_model::{Given, RawGot, Regroup, Resent, Settle};

@@ -130,7 +130,7 @@ fn open_nodes(alloc: Global, n: u8, w: u8, limit: u32) -> Result<NodeList, NoMem
 }
 
 /// An empty row for each of `n` members.
-pub(crate) fn empty_rows(alloc: Global, n: u8) -> Result<FrameTable, NoMemory>
+pub fn empty_rows(alloc: Global, n: u8) -> Result<FrameTable, NoMemory>
     ensures { IfOk result (λ rows. map (λ row. row.items) rows.items ≡ are_empty n) }
 {
     let mut rows = Vec::with_capacity(alloc, n as usize)?;

@@ -10,6 +10,9 @@ pub mod Honest
 pub mod EventOrder
 pub mod CausallyStable
 pub mod Journals
+pub mod Records
+pub mod Stops
 pub mod Laws
 pub mod Worked
 pub mod WorkedEpochs
+pub mod WorkedStops

@@ -8,6 +8,7 @@ mod laws;
 mod outcome;
 mod worked;
 mod worked_epochs;
+mod worked_stops;
 
 pub use laws::{
     a_member_lags_where_a_message_is_unstable, an_opening_is_a_world, commands_keep_worlds,
@@ -22,3 +23,4 @@ pub use worked::{
 pub use worked_epochs::{
     frames_of_an_epoch_that_is_over_are_none, members_change_at_a_settled_moment,
 };
+pub use worked_stops::{records_are_read_up_to_the_first_fault, stops_lose_what_is_not_synced};

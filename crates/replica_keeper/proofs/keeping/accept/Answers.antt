@@ -5,7 +5,7 @@ use Rattle.causal_model.specs.declared.note.Note.TheVariants as notes
 use Rattle.replica_node.specs.Nodes.{state_by}
 use Rattle.replica_keeper.specs.Keeping.{groups_of, IsFrontOf}
 use Rattle.replica_keeper.specs.Open.{settings_by}
-use Rattle.replica_keeper.specs.Records.{record_of}
+use Rattle.world_model.specs.Records.{record_of}
 use Rattle.replica_keeper.proofs.Kept.{kept_opens}
 use Rattle.replica_keeper.proofs.Moments.{begun, roomy, longer}
 use Rattle.replica_keeper.proofs.Opened.{accepted_noted, opened_left, opened_kept}

@@ -3,7 +3,7 @@ use Rattle.causal_model.specs.declared.note.Note.TheVariants as notes
 use Rattle.replica_core.proofs.Own.{draft_fits}
 use Rattle.replica_keeper.specs.Keeping.{groups_of, IsFrontOf}
 use Rattle.replica_keeper.specs.Open.{settings_by}
-use Rattle.replica_keeper.specs.Records.{record_of}
+use Rattle.world_model.specs.Records.{record_of}
 use Rattle.replica_keeper.proofs.Moments.{begun, roomy, grown}
 use Rattle.replica_keeper.proofs.Opened.{draft_noted, opened_left, opened_synced}
 use Rattle.replica_keeper.proofs.keeping.send.Goals as goal

@@ -1,6 +1,6 @@
 use Rattle.std.proofs.Common.{◌-◌, false, length, take, drop, Some, sym, ap, subst, ◌∙◌, arith, length-drop}
 use Rattle.replica_keeper.specs.Keeping.{groups_of}
-use Rattle.replica_keeper.specs.Records.{kept_reading, kept_fault}
+use Rattle.world_model.specs.Records.{kept_reading, kept_fault}
 use Rattle.replica_keeper.specs.Reads.{HasRead, IsReadAs}
 use Rattle.replica_keeper.specs.declared.reading.Read.TheVariants.{End, Fault}
 use Rattle.replica_keeper.proofs.Opened.{same_settings}

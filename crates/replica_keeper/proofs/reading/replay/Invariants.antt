@@ -1,6 +1,6 @@
 use Rattle.std.proofs.Common.{◌≤◌, ◌-◌, length, take}
 use Rattle.replica_keeper.specs.Open.{IsOpen}
-use Rattle.replica_keeper.specs.Replaying.{IsSame}
+use Rattle.replica_keeper.specs.Open.{IsSame}
 use Rattle.replica_keeper.proofs.reading.replay.Given as goal
 
 abbrev pub invariant-records : goal.invariant-records

@@ -1,7 +1,7 @@
 use Rattle.std.proofs.Common.{ℕ, ◌≡◌, Some, Result, Ok, Err, min, take, ap, subst, ◌∙◌}
 use Rattle.store_io.specs.Keeping.{Leaves, LeavesEither}
 use Rattle.replica_keeper.specs.Open.{settings_by}
-use Rattle.replica_keeper.specs.Records.{kept_fault}
+use Rattle.world_model.specs.Records.{kept_fault}
 use Rattle.replica_keeper.specs.Starting.{MayLeave}
 use Rattle.replica_keeper.specs.declared.start.StartFault.{StartFault}
 use Rattle.replica_keeper.specs.declared.start.StartFault.TheVariants.{BadNumbers, Damaged, KeeperFault, NoMemory}

@@ -1,10 +1,12 @@
-use Rattle.std.proofs.Common.{sym, ◌∙◌}
+use Rattle.std.proofs.Common.{sym, ◌∙◌, All, IsTrue, subst}
 use Rattle.causal_model.specs.Journal.{local_notes}
 use Rattle.causal_model.specs.Sending.{is_sent, local_rule}
 use Rattle.causal_model.specs.declared.outcome.Local.TheVariants as local
 use Rattle.replica_keeper.specs.Calls.{local_list}
 use Rattle.replica_keeper.specs.Durably.{numbers}
-use Rattle.replica_keeper.proofs.Durables.{moments, listed, answered}
+use Rattle.op_base.specs.Message.{fits}
+use Rattle.causal_model.specs.Sending.{local_messages}
+use Rattle.replica_keeper.proofs.Durables.{moments, listed, answered, goes_on}
 use Rattle.replica_keeper.proofs.durable.Durable.local.Goals as goal
 
 pub local-requires : goal.local-requires
@@ -51,3 +53,17 @@ returns-in-Err-clause-any_moment g c =
     let held = g.K.Keeper.held it.keeper in let synced = g.K.Keeper.synced it.keeper in
     let k = it.kept node is_node in
     λ _. moments of it.node node held synced is_node k g.K.Keeper.moment g.K.Keeper.left_since it.keeper c.local.new.keeper (λ o ns. local_list o ns c.args.update.now) c.local.ensures.any_moment
+
+pub returns-in-Ok-clause-same : goal.returns-in-Ok-clause-same
+returns-in-Ok-clause-same g c =
+    let it = c.args.self.now in
+    let node = c.in-Some.node in
+    let of = numbers it.me it.n it.w it.limit in
+    let is_node = sym c.take.ensures.value ∙ c.in-Some.is in
+    goes_on of it.node node c.local.new.node (g.K.Keeper.held it.keeper) _ (g.K.Keeper.synced it.keeper) _ is_node (it.kept node is_node) c.local.ensures.settings c.in-Ok.ensures.open
+
+pub returns-in-Ok-clause-fits : goal.returns-in-Ok-clause-fits
+returns-in-Ok-clause-fits g c =
+    let it = c.args.self.now in
+    let node = c.in-Some.node in
+    subst (λ n. All (λ m. IsTrue (fits n m)) (local_messages c.in-Ok.answer)) (it.kept node (sym c.take.ensures.value ∙ c.in-Some.is)).n c.in-Ok.ensures.fits

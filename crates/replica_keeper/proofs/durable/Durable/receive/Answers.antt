@@ -6,7 +6,7 @@ use Rattle.causal_model.specs.Receiving.{is_accepted, receive_rule}
 use Rattle.causal_model.specs.declared.outcome.Receive.TheVariants as receive
 use Rattle.replica_keeper.specs.Calls.{receive_list}
 use Rattle.replica_keeper.specs.Durably.{numbers}
-use Rattle.replica_keeper.proofs.Durables.{moments, listed, answered, kept_on, kept_alone, records_are}
+use Rattle.replica_keeper.proofs.Durables.{moments, listed, answered, kept_on, kept_alone, records_are, goes_on}
 use Rattle.replica_keeper.proofs.durable.Durable.receive.Goals as goal
 
 pub receive-requires-clause-open : goal.receive-requires-clause-open
@@ -34,7 +34,7 @@ invariant_of-self-in-Ok g c =
     let is_node = sym c.take.ensures.value ∙ c.in-Some.is in
     let held = g.K.Keeper.held it.keeper in let synced = g.K.Keeper.synced it.keeper in
     let k = it.kept node is_node in
-    record { kept = kept_alone of c.receive.new.node _ _ (kept_on of node c.receive.new.node held _ synced _ k c.receive.ensures.settings c.in-Ok.ensures.open) }
+    record { in_range = it.in_range; kept = kept_alone of c.receive.new.node _ _ (kept_on of node c.receive.new.node held _ synced _ k c.receive.ensures.settings c.in-Ok.ensures.open) }
 
 pub returns-in-Ok-clause-held : goal.returns-in-Ok-clause-held
 returns-in-Ok-clause-held g c =
@@ -85,3 +85,11 @@ returns-in-Err-clause-any_moment g c =
     let held = g.K.Keeper.held it.keeper in let synced = g.K.Keeper.synced it.keeper in
     let k = it.kept node is_node in
     λ _. moments of it.node node held synced is_node k g.K.Keeper.moment g.K.Keeper.left_since it.keeper c.receive.new.keeper (λ o ns. receive_list o ns c.args.message) c.receive.ensures.any_moment
+
+pub returns-in-Ok-clause-same : goal.returns-in-Ok-clause-same
+returns-in-Ok-clause-same g c =
+    let it = c.args.self.now in
+    let node = c.in-Some.node in
+    let of = numbers it.me it.n it.w it.limit in
+    let is_node = sym c.take.ensures.value ∙ c.in-Some.is in
+    goes_on of it.node node c.receive.new.node (g.K.Keeper.held it.keeper) _ (g.K.Keeper.synced it.keeper) _ is_node (it.kept node is_node) c.receive.ensures.settings c.in-Ok.ensures.open
