@@ -10,3 +10,7 @@ pub mod Replays
 pub mod Steps
 pub mod Starts
 pub mod Left
+pub mod Showing
+pub mod KeepCalls
+pub mod KeepStops
+pub mod Calling

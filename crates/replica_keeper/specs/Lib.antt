@@ -5,4 +5,7 @@ pub mod Durably
 pub mod Replaying
 pub mod Reads
 pub mod Starting
+pub mod ShowsKeep
+pub mod Worlds
+pub mod Called
 pub mod Laws

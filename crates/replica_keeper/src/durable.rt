@@ -53,6 +53,21 @@ pub struct Durable<K: Keeper> {
 }
 
 impl<K: Keeper> Durable<K> {
+    /// A closed one, with these numbers.
+    pub(crate) fn closed(me: u8, n: u8, w: u8, limit: u32, keeper: K) -> Durable<K>
+        requires { are_numbers me n w limit ≡ true }
+        ensures settings { numbers result.me result.n result.w result.limit ≡ numbers me n w limit }
+    {
+        Durable {
+            me,
+            n,
+            w,
+            limit,
+            keeper,
+            node: None,
+        }
+    }
+
     /// Sends an update: as the replica's call, and the message is handed out once its record is synced. Every refusal of the
     /// replica's, and want of memory, leaves it as it was.
     pub fn local(&mut self, alloc: Global, update: &Update) -> Durably<Local>
