@@ -9,6 +9,7 @@ use Rattle.causal_model.specs.State.{State, start}
 use Rattle.causal_model.specs.declared.note.Note.{Note}
 use Rattle.causal_model.specs.declared.note.Note.TheVariants.{Sent, Kept, Took, Crook, Regroup}
 use Rattle.world_model.specs.Journals.{sent_in}
+use Rattle.honest_worlds.proofs.ClosedJournals.{sent_in-append}
 use Rattle.world_model.specs.Records.{content_of, record_of, records_of, Front, torn, misfit, whole, front_of, group_told, Reading, read_told, read_front, reading_within, Settings, kept_prefix}
 use Rattle.world_model.specs.Stops.{is_send, within_bytes}
 use Rattle.replica_keeper.specs.Keeping.{Cut, cut_at, cut_of, groups_of, sent_by, sent_len}
@@ -109,15 +110,6 @@ prefix_front of bytes c =
     ap (λ (r : Reading). r.groups) same ∙ reading_front of.n of.w of.limit (length bytes) c (start of.n of.me) bytes
 
 -- ---- what notes sent
-
--- what notes sent, one after the other
-sent_in-append : (a b : List Note) → sent_in (a ++ b) ≡ sent_in a ++ sent_in b
-sent_in-append [] b = refl
-sent_in-append (Sent m ∷ a) b = ap (λ ms. m ∷ ms) (sent_in-append a b)
-sent_in-append (Kept m ∷ a) b = sent_in-append a b
-sent_in-append (Took id ∷ a) b = sent_in-append a b
-sent_in-append (Crook id ∷ a) b = sent_in-append a b
-sent_in-append (Regroup epoch n me ∷ a) b = sent_in-append a b
 
 -- notes that sent nothing have no message that was sent
 lacks_sent : (notes : List Note) (m : Message) → sent_in notes ≡ [] → Contains notes (Sent m) → ⊥
