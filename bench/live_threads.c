@@ -1,12 +1,15 @@
 /* Tells how long a process had threads beside its first, for `bench/live`: from the first one's start to the last one's end, in
-   seconds, in the file that LIVE_THREADS names. It stands before the C library's pthread_create, by LD_PRELOAD. */
+   seconds, in the file that LIVE_THREADS names. It stands before the C library's pthread_create, by LD_PRELOAD, and before its
+   _exit, by which a program that had threads may end. */
 #define _GNU_SOURCE
 #include <dlfcn.h>
 #include <pthread.h>
 #include <stdatomic.h>
 #include <stdio.h>
 #include <stdlib.h>
+#include <sys/syscall.h>
 #include <time.h>
+#include <unistd.h>
 
 static _Atomic long long first, last;
 
@@ -49,10 +52,20 @@ int pthread_create(pthread_t *thread, const pthread_attr_t *attributes, void *(*
     return create(thread, attributes, timed, work);
 }
 
-__attribute__((destructor)) static void tell(void) {
+static void tell(void) {
     const char *path = getenv("LIVE_THREADS");
     FILE *file = path && atomic_load(&last) ? fopen(path, "w") : NULL;
     if (!file) return;
     fprintf(file, "%.9f\n", (atomic_load(&last) - atomic_load(&first)) / 1e9);
     fclose(file);
+}
+
+__attribute__((destructor)) static void at_end(void) {
+    tell();
+}
+
+void _exit(int status) {
+    tell();
+    syscall(SYS_exit_group, status);
+    __builtin_unreachable();
 }
