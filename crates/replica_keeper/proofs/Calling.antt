@@ -1,5 +1,5 @@
 -- What a call at a durable replica notes, where it is refused, and of a message that comes.
-use Rattle.std.proofs.Common.{◌≡◌, ℕ, ◌==◌, Bool, true, false, not, if◌then◌else◌, List, [], ◌∷◌, ◌++◌, map, Option, Some, None, refl, sym, ap, subst, append-nil}
+use Rattle.std.proofs.Common.{◌≡◌, ℕ, ◌==◌, Bool, true, false, not, if◌then◌else◌, List, [], ◌∷◌, map, Option, Some, None, refl, sym, subst, append-nil}
 use Rattle.std.specs.Option.{is_some}
 use Rattle.std.proofs.lemmas.Bool.{false≢true}
 use Rattle.op_base.specs.declared.message.Message.{Message}
@@ -23,7 +23,7 @@ use Rattle.causal_model.proofs.Outcomes.{notes_of_refused}
 use Rattle.op_base.specs.declared.outcome.Step.{Step}
 use Rattle.world_model.specs.Stops.{is_send}
 use Rattle.replica_keeper.specs.Called.{HasNoted}
-use Rattle.replica_keeper.specs.Open.{NotedNode, GoesOn, IsSame}
+use Rattle.replica_keeper.specs.Open.{NotedNode, GoesOn}
 use Rattle.replica_keeper.specs.ShowsKeep.{SteadyDurable}
 
 -- what the id refuses is refused

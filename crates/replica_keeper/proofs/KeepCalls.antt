@@ -1,12 +1,12 @@
 -- What calls at a durable replica answer and leave at the plain keep world that is shown.
-use Rattle.std.proofs.Common.{◌≡◌, ◌≢◌, ◌⊎◌, inl, inr, ℕ, ◌+◌, ◌-◌, ◌<◌, ◌≤◌, Bool, false, IsTrue, List, [], ◌++◌, length, map, take, drop, slice_index_or, slice_set, Option, Some, None, refl, sym, ap, subst, ◌∙◌, arith}
+use Rattle.std.proofs.Common.{◌≡◌, ◌≢◌, ◌⊎◌, inl, inr, ℕ, ◌-◌, ◌<◌, ◌≤◌, Bool, false, IsTrue, List, ◌++◌, length, map, slice_index_or, slice_set, Option, Some, None, refl, sym, ap, subst, ◌∙◌, arith}
 use Rattle.std.proofs.lemmas.Bool.{false≢true}
 use Rattle.op_base.specs.Message.{fits}
 use Rattle.op_base.specs.Valid.{is_valid_update}
 use Rattle.op_base.specs.declared.message.Message.{Message}
 use Rattle.op_base.specs.declared.operation.Update.{Update}
 use Rattle.causal_model.specs.Counts.{is_carried}
-use Rattle.causal_model.specs.Journal.{replay, notes_of, local_notes, beat_notes, receive_notes}
+use Rattle.causal_model.specs.Journal.{notes_of, local_notes, beat_notes, receive_notes}
 use Rattle.causal_model.specs.Receiving.{is_accepted, receive_rule}
 use Rattle.causal_model.specs.Sending.{is_sent, is_beat, local_messages, beat_messages, local_rule, beat_rule}
 use Rattle.causal_model.specs.State.{State}
@@ -33,7 +33,7 @@ use Rattle.world.proofs.Follow.{Comes}
 use Rattle.world.proofs.Givings.{IsGiven, message_given}
 use Rattle.world.proofs.Nodes.{alike}
 use Rattle.world.proofs.Replies.{Notes, replies_offer, replies_local, replies_beat}
-use Rattle.replica_keeper.specs.Called.{settings_of, state_in, HasNoted, ComesTo}
+use Rattle.replica_keeper.specs.Called.{state_in, HasNoted, ComesTo}
 use Rattle.replica_keeper.specs.Open.{GoesOn, IsSame, notes_in}
 use Rattle.replica_keeper.specs.ShowsKeep.{SteadyDurable, ShowsKeep}
 use Rattle.replica_keeper.proofs.Calling.{received_wants_none}

@@ -1,5 +1,5 @@
 -- A world of durable replicas before anything is sent, and after one was stopped and started again.
-use Rattle.std.proofs.Common.{◌≡◌, ℕ, zero, suc, ◌+◌, ◌-◌, ◌<◌, ◌≤◌, IsTrue, List, [], ◌∷◌, ◌++◌, length, map, take, drop, slice_index_or, slice_set, inl, inr, true, Some, unwrap_or, refl, sym, ap, subst, ◌∙◌, arith}
+use Rattle.std.proofs.Common.{◌≡◌, ℕ, zero, suc, ◌+◌, ◌-◌, ◌<◌, IsTrue, List, [], ◌∷◌, ◌++◌, length, map, take, slice_index_or, slice_set, inl, inr, true, Some, unwrap_or, refl, sym, ap, subst, ◌∙◌, arith}
 use Rattle.std.specs.Option.{is_some}
 use Rattle.std.proofs.lemmas.Bool.{cases_eq}
 use Rattle.std.proofs.lemmas.List.{get_or-set_same, get_or_append_left, get_or-append_right, length-append, take_all}
@@ -8,7 +8,7 @@ use Rattle.std.proofs.lemmas.Option.{slice_get_cases}
 use Rattle.causal_model.specs.Counts.{members}
 use Rattle.causal_model.specs.History.{epoch_of}
 use Rattle.causal_model.specs.Journal.{replay, notes_of}
-use Rattle.causal_model.specs.State.{State, start}
+use Rattle.causal_model.specs.State.{start}
 use Rattle.causal_model.specs.declared.note.Note.{Note}
 use Rattle.replica_core.specs.Numbers.{are_numbers}
 use Rattle.replica_node.specs.Nodes.{state_by}
@@ -19,7 +19,7 @@ use Rattle.world_model.specs.Worlds.{IsWorld, KeepsWorld}
 use Rattle.honest_worlds.specs.Stops.{KeepsKeep}
 use Rattle.world_model.proofs.Worlds.{opening_has_size}
 use Rattle.honest_worlds.proofs.Stops.{kept_is_honest, opening_is_kept, stop_is_kept}
-use Rattle.world.specs.Shows.{NotedNode, state_of, Shows}
+use Rattle.world.specs.Shows.{NotedNode, state_of}
 use Rattle.world.specs.Steps.{SameNode, AreNodesOf, are_empty}
 use Rattle.world.proofs.Apart.{by_place}
 use Rattle.world.proofs.Changes.{changed_shows}

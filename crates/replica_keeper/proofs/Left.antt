@@ -1,5 +1,5 @@
 -- What a stop leaves of records, exactly, and of what was sent.
-use Rattle.std.proofs.Common.{◌≡◌, ⊎_elim, ℕ, zero, suc, ◌+◌, ◌-◌, ◌<◌, ◌≤◌, Bool, true, false, nat_le, List, [], ◌∷◌, ◌++◌, length, get_or, take, drop, All, Contains, Option, Some, None, refl, sym, ap, subst, ◌∙◌, arith, zero-add, append-nil, append_assoc, length-append, length-take, take-append-drop, if◌then◌else◌, true≢false}
+use Rattle.std.proofs.Common.{◌≡◌, ⊎_elim, ℕ, zero, suc, ◌+◌, ◌-◌, ◌<◌, ◌≤◌, Bool, true, false, nat_le, List, [], ◌∷◌, ◌++◌, length, get_or, take, drop, All, Contains, Option, Some, None, refl, sym, ap, subst, ◌∙◌, arith, zero-add, append-nil, length-append, length-take, take-append-drop, if◌then◌else◌, true≢false}
 use Rattle.std.proofs.lemmas.Bool.{le-leb, lt-leb, leb-true, leb-false}
 use Rattle.std.proofs.lemmas.Grind.{flat_map-append}
 use Rattle.std.proofs.lemmas.List.Elements.{All-nil, All-cons, All-head, All-tail, Contains-append_left, Contains-append_cases}
@@ -10,7 +10,7 @@ use Rattle.causal_model.specs.declared.note.Note.{Note}
 use Rattle.causal_model.specs.declared.note.Note.TheVariants.{Sent, Kept, Took, Crook, Regroup}
 use Rattle.world_model.specs.Journals.{sent_in}
 use Rattle.honest_worlds.proofs.ClosedJournals.{sent_in-append}
-use Rattle.world_model.specs.Records.{content_of, record_of, records_of, Front, torn, misfit, whole, front_of, group_told, Reading, read_told, read_front, reading_within, Settings, kept_prefix}
+use Rattle.world_model.specs.Records.{content_of, record_of, records_of, Front, torn, misfit, whole, front_of, group_told, Reading, read_told, read_front, reading_within, kept_prefix}
 use Rattle.world_model.specs.Stops.{is_send, within_bytes}
 use Rattle.replica_keeper.specs.Keeping.{Cut, cut_at, cut_of, groups_of, sent_by, sent_len}
 use Rattle.replica_keeper.specs.Laws.{FrontsAreRead, StaysSent, WhatWasSentStays}

@@ -1,24 +1,21 @@
 -- A world of durable replicas, of which one has noted something, or was started again.
-use Rattle.std.proofs.Common.{◌≡◌, ◌≢◌, ◌⊎◌, inl, inr, ℕ, ◌+◌, ◌<◌, ◌≤◌, Bool, true, false, IsTrue, List, [], ◌∷◌, ◌++◌, length, map, take, slice_index_or, slice_set, if◌then◌else◌, Option, Some, None, unwrap_or, refl, sym, ap, subst, ◌∙◌, arith}
-use Rattle.std.specs.Prelude.{slice_get}
+use Rattle.std.proofs.Common.{◌≡◌, ◌≢◌, inl, inr, ℕ, ◌+◌, ◌<◌, ◌≤◌, Bool, true, false, List, [], ◌∷◌, ◌++◌, length, map, take, slice_index_or, slice_set, if◌then◌else◌, Option, Some, None, unwrap_or, refl, sym, ap, subst, ◌∙◌, arith}
 use Rattle.std.specs.Option.{is_some}
 use Rattle.std.proofs.lemmas.Bool.{cases_eq, false≢true}
 use Rattle.std.proofs.lemmas.List.{length-set, get_or-set_same, get_or-set_other, take_all, take-append-le, length-append}
 use Rattle.std.proofs.lemmas.Option.{slice_get_cases}
 use Rattle.causal_model.specs.State.{State}
 use Rattle.causal_model.specs.declared.note.Note.{Note}
-use Rattle.causal_model.specs.declared.note.Note.TheVariants.{Sent, Kept, Took, Crook, Regroup}
 use Rattle.replica_node.specs.Nodes.{state_by}
 use Rattle.world_model.specs.Records.{Settings, records_of}
 use Rattle.world_model.specs.Stops.{KeptGroups, none_kept, PlainKeep, is_send, with_notes, kept_by, keep_noted}
 use Rattle.world_model.specs.World.{PlainWorld, size_of, replica_of}
-use Rattle.honest_worlds.specs.Stops.{IsKeep, KeepsKeep}
+use Rattle.honest_worlds.specs.Stops.{KeepsKeep}
 use Rattle.world.specs.Shows.{NotedNode, state_of, Shows}
 use Rattle.world.specs.Steps.{SameNode}
 use Rattle.world.proofs.Changes.{rows_within}
 use Rattle.world.proofs.Nodes.{StandsAt, size_shown, state_shown, alike}
 use Rattle.replica_keeper.specs.Called.{settings_of, state_in, synced_by, HasNoted}
-use Rattle.replica_keeper.specs.Durably.{numbers}
 use Rattle.replica_keeper.specs.Keeping.{groups_of, with_group}
 use Rattle.replica_keeper.specs.Open.{GoesOn, IsSame, IsKept, notes_in}
 use Rattle.replica_keeper.specs.ShowsKeep.{SteadyDurable, KeepsGroups, ShowsKeep}

@@ -1,20 +1,12 @@
-use Rattle.std.proofs.Common.{◌≡◌, ◌<◌, Bool, true, false, IsTrue, List, [], ◌++◌, length, Option, Some, None, if◌then◌else◌, inl, inr, refl, sym, ap, subst, ◌∙◌, append-nil, arith}
+use Rattle.std.proofs.Common.{◌≡◌, length, Some, inl, inr, refl, sym, ap, subst, ◌∙◌, arith}
 use Rattle.std.specs.Option.{option_copied}
-use Rattle.op_base.specs.Message.{id_of}
 use Rattle.op_base.specs.declared.message.Message.{Message}
-use Rattle.causal_model.specs.Journal.{step_note, receive_notes}
-use Rattle.causal_model.specs.Receiving.{is_accepted, steps_of, refused, receive_by, receive_rule, refusal_of, refusal_by_id}
-use Rattle.causal_model.specs.State.{State}
-use Rattle.causal_model.specs.declared.note.Note.TheVariants.{Kept}
-use Rattle.causal_model.specs.declared.outcome.Receive.{Receive}
+use Rattle.causal_model.specs.Journal.{receive_notes}
+use Rattle.causal_model.specs.Receiving.{refused, receive_by, receive_rule, refusal_by_id}
 use Rattle.causal_model.specs.declared.outcome.Receive.TheVariants as receive
-use Rattle.causal_model.specs.declared.outcome.Refusal.{Refusal}
-use Rattle.world_model.specs.Stops.{is_send}
 use Rattle.world_model.specs.World.{wants_frame}
 use Rattle.world.proofs.Givings.{frame_is_carried, accepted_is_read}
 use Rattle.replica_keeper.specs.Called.{state_in, synced_by, HasNoted, ComesTo}
-use Rattle.replica_keeper.specs.Open.{GoesOn}
-use Rattle.replica_keeper.specs.ShowsKeep.{SteadyDurable}
 use Rattle.replica_keeper.proofs.Calling.{refused_by_id, receive_is_no_send, received_wants_none, nothing_noted}
 use Rattle.replica_keeper.proofs.Showing.{state_in_is}
 use Rattle.replica_keeper.proofs.steady.offer_frame.Goals as goal

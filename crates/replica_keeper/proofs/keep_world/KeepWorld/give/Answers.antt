@@ -1,7 +1,7 @@
-use Rattle.std.proofs.Common.{rules, ◌≡◌, ◌⊎◌, inl, inr, ◌<◌, ◌≤◌, ◌-◌, ℕ, IsTrue, List, length, map, slice_index_or, refl, sym, ap, subst, ◌∙◌, arith}
+use Rattle.std.proofs.Common.{rules, ◌≡◌, inl, inr, ◌<◌, ◌≤◌, ◌-◌, ℕ, List, length, map, slice_index_or, refl, sym, ap, subst, ◌∙◌, arith}
 use Rattle.std.proofs.Props.{props}
 use Rattle.std.proofs.Math.Logic.{∥∥₁_elim, ∥∥₁_map}
-use Rattle.world_model.specs.Stops.{PlainKeep, keep_give_at}
+use Rattle.world_model.specs.Stops.{keep_give_at}
 use Rattle.world_model.specs.World.{sent_message}
 use Rattle.world_model.specs.declared.outcome.Given.TheVariants as given
 use Rattle.world.proofs.Givings.{none_at_0, none_is_past}

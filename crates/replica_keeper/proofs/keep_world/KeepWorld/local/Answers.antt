@@ -1,12 +1,11 @@
-use Rattle.std.proofs.Common.{◌≡◌, ◌⊎◌, inl, inr, rules, false, IsTrue, List, map, length, ◌<◌, refl, sym, ◌∙◌}
+use Rattle.std.proofs.Common.{inl, inr, rules, map, length, ◌<◌, refl, sym, ◌∙◌}
 use Rattle.std.proofs.Props.{props}
 use Rattle.std.proofs.Math.Logic.{∥∥₁_elim, ∥∥₁_map}
-use Rattle.world_model.specs.Stops.{PlainKeep, keep_local_at}
+use Rattle.world_model.specs.Stops.{keep_local_at}
 use Rattle.world_model.specs.World.{replica_of}
 use Rattle.replica_keeper.proofs.Calling.{sent_wants_none, not_ended}
 use Rattle.replica_keeper.proofs.KeepCalls.{local_keep}
 use Rattle.replica_keeper.proofs.Showing.{is_open, row_within}
-use Rattle.replica_keeper.specs.ShowsKeep.{ShowsKeep}
 use Rattle.replica_keeper.proofs.keep_world.KeepWorld.local.Goals as goal
 
 pub index_mut-frames-requires : goal.index_mut-frames-requires

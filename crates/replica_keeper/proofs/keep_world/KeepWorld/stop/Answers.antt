@@ -1,9 +1,7 @@
-use Rattle.std.proofs.Common.{◌≡◌, ◌⊎◌, map, length, Option, Some, None, true, refl, sym, ap, ◌∙◌}
-use Rattle.std.specs.Option.{is_some}
+use Rattle.std.proofs.Common.{map, length, refl, sym, ap, ◌∙◌}
 use Rattle.std.proofs.Props.{props}
 use Rattle.std.proofs.Math.Logic.{∥∥₁_elim, ∥∥₁_map}
-use Rattle.world_model.specs.Stops.{PlainKeep, keep_stop_at}
-use Rattle.world.specs.Shows.{NotedNode}
+use Rattle.world_model.specs.Stops.{keep_stop_at}
 use Rattle.replica_keeper.specs.Keeping.{groups_of}
 use Rattle.replica_keeper.specs.Open.{notes_in}
 use Rattle.replica_keeper.proofs.KeepStops.{notes_are, stop_keep}
