@@ -1,5 +1,5 @@
 -- A world of durable replicas before anything is sent, and after one was stopped and started again.
-use Rattle.std.proofs.Common.{◌≡◌, ℕ, zero, suc, ◌+◌, ◌-◌, ◌<◌, IsTrue, List, [], ◌∷◌, ◌++◌, length, map, take, slice_index_or, slice_set, inl, inr, true, Some, unwrap_or, refl, sym, ap, subst, ◌∙◌, arith}
+use Rattle.std.proofs.Common.{◌≡◌, ℕ, zero, suc, ◌+◌, ◌-◌, ◌<◌, IsTrue, List, [], ◌∷◌, ◌++◌, length, map, take, slice_index_or, slice_set, inl, inr, true, Some, None, unwrap_or, refl, sym, ap, subst, ◌∙◌, arith}
 use Rattle.std.specs.Option.{is_some}
 use Rattle.std.proofs.lemmas.Bool.{cases_eq}
 use Rattle.std.proofs.lemmas.List.{get_or-set_same, get_or_append_left, get_or-append_right, length-append, take_all}
@@ -12,7 +12,8 @@ use Rattle.causal_model.specs.State.{start}
 use Rattle.causal_model.specs.declared.note.Note.{Note}
 use Rattle.replica_core.specs.Numbers.{are_numbers}
 use Rattle.replica_node.specs.Nodes.{state_by}
-use Rattle.world_model.specs.Records.{Settings, records_of, kept_prefix}
+use Rattle.store_io.specs.Keeping.{Leaves}
+use Rattle.world_model.specs.Records.{Settings, records_of, kept_prefix, kept_fault}
 use Rattle.world_model.specs.Stops.{KeptGroups, none_kept, PlainKeep, keep_opening, kept_by, within_bytes, groups_left, keep_stop_at}
 use Rattle.world_model.specs.World.{PlainWorld, size_of, replica_of, epoch_in, with_state}
 use Rattle.world_model.specs.Worlds.{IsWorld, KeepsWorld}
@@ -30,16 +31,29 @@ use Rattle.replica_keeper.specs.Durably.{numbers}
 use Rattle.replica_keeper.specs.Keeping.{groups_of, Keeps}
 use Rattle.replica_keeper.specs.Open.{settings_by, IsKept, notes_in}
 use Rattle.replica_keeper.specs.ShowsKeep.{SteadyDurable, KeepsGroups, ShowsKeep}
+use Rattle.replica_keeper.proofs.Kept.{left_front}
 use Rattle.replica_keeper.proofs.Left.{prefix_front, within_synced}
 use Rattle.replica_keeper.proofs.Showing.{some_node, StandsThere, member, stands_there, changed_keep}
+
+-- what a durable replica keeps, by its numbers
+kept_by_numbers : (of : Settings) (node : NotedNode) (held : List ℕ) (synced : ℕ) → IsKept of node held synced → Keeps of node.journal.notes held synced
+kept_by_numbers of node held synced kept =
+    let of_is : settings_by node ≡ of = let named : settings_by node ≡ record { me = of.me; n = of.n; w = of.w; limit = of.limit } = rw (kept.me, kept.n, kept.w, kept.limit) refl in named in
+    subst (λ o. Keeps o node.journal.notes held synced) of_is kept.opened.keeps
 
 -- what the bytes of a replica are read as that lie within those synced and b more
 left_groups : (of : Settings) (node : NotedNode) (held : List ℕ) (synced : ℕ) (kept : IsKept of node held synced) (k : KeptGroups) (b : ℕ) → groups_of node.journal.notes ≡ k.groups → synced ≡ length (records_of of.n (take k.synced k.groups))
     → kept_prefix of (take (synced + b) held) ≡ groups_left of.n b k
 left_groups of node held synced kept k b groups is =
-    let of_is : settings_by node ≡ of = let named : settings_by node ≡ record { me = of.me; n = of.n; w = of.w; limit = of.limit } = rw (kept.me, kept.n, kept.w, kept.limit) refl in named in
-    let all : Keeps of node.journal.notes held synced = subst (λ o. Keeps o node.journal.notes held synced) of_is kept.opened.keeps in
+    let all = kept_by_numbers of node held synced kept in
     prefix_front of held (synced + b) ∙ ap (within_bytes of.n (synced + b)) (all.groups ∙ groups) ∙ ap (λ s. within_bytes of.n (s + b) k.groups) is ∙ within_synced of.n k.synced b k.groups
+
+-- what a stop leaves of an open replica has no fault
+pub left_is_faultless : (it : SteadyDurable) → is_some it.node ≡ true → (left : List ℕ) → Leaves it.keeper.held it.keeper.synced left → kept_fault (settings_of it) left ≡ None
+left_is_faultless it opened left leaves =
+    let one = some_node it.node opened in
+    let all = kept_by_numbers (settings_of it) one.0 it.keeper.held it.keeper.synced (it.kept one.0 one.1) in
+    (left_front (settings_of it) it.keeper.held (groups_of one.0.journal.notes) it.keeper.synced left all.faultless all.groups leaves).faultless
 
 module _ (replicas : List SteadyDurable) (rows : List (List (List ℕ))) (keep : PlainKeep) (shows : ShowsKeep replicas rows keep) (r : ℕ) (low : r < length replicas) (it : SteadyDurable) (at : it ≡ slice_index_or replicas r it)
     (new : SteadyDurable) (b : ℕ) (settings : settings_of new ≡ settings_of it) (left : NotedNode) (opened : new.node ≡ Some left)

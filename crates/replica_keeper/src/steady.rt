@@ -20,6 +20,7 @@ ghost use Rattle.replica_keeper.specs.Open.{notes_in};
 use crate::durable::Durable;
 use crate::durably::Durably;
 use crate::keep_world::DurableList;
+use crate::start::StartFault;
 use causal_model::{Beat, Local, Receive};
 use frame_codec::{decode, encode};
 use op_base::{ByteList, Message, MessageId, NoMemory, Update};
@@ -171,8 +172,18 @@ pub(crate) fn restart(
             *replica = it;
             Ok(count)
         }
-        // What is left is read without a fault, and no call of the keeper fails: so only memory can be wanting.
-        Err(_) => Err(NoMemory),
+        // The numbers are right, what is left is read without a fault, and no call of the keeper fails.
+        Err((fault, _)) => Err(want_of_memory(fault)),
+    }
+}
+
+/// The one fault that may come where bytes that a stop left are opened.
+fn want_of_memory(fault: StartFault) -> NoMemory
+    requires { fault ≡ StartFault.NoMemory }
+{
+    match fault {
+        StartFault::NoMemory => NoMemory,
+        _ => unreachable!(),
     }
 }
 
