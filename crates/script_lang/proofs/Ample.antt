@@ -4,7 +4,7 @@ use Rattle.std.specs.Prelude.{Result, Ok, Err, IsTrue}
 use Rattle.std.proofs.lemmas.Bool.{cond-false}
 use Rattle.script_lang.specs.Words.{is_passed_over}
 use Rattle.script_lang.specs.Fault.{number_of_fault}
-use Rattle.script_lang.specs.Commands.{command_of, line_of, bad_line, run_or_bad}
+use Rattle.script_lang.specs.Commands.{command_of, line_in, bad_line, run_or_bad}
 use Rattle.script_lang.specs.LiveCommands.{live_command_of, live_line_of, bad_live_line}
 use Rattle.script_lang.specs.LiveCommands as live
 use Rattle.script_lang.specs.Memory.{takes_memory, keeps, line_takes_memory, live_keeps, live_line_takes_memory}
@@ -12,6 +12,7 @@ use Rattle.script_lang.specs.declared.command.Command.{Command}
 use Rattle.script_lang.specs.declared.command.Line.TheVariants as line
 use Rattle.script_lang.specs.declared.live.LiveCommand.{LiveCommand}
 use Rattle.script_lang.specs.declared.live.LiveLine.TheVariants as live_line
+use Rattle.script_lang.specs.declared.header.Mode.{Mode}
 use Rattle.script_lang.specs.declared.fault.Fault.{Fault}
 use Rattle.script_lang.specs.declared.fault.Fault.TheVariants.{TooLong, Verb, Words, Member, Object, Operation, Value, Number, NoMemory}
 
@@ -63,10 +64,10 @@ takes_live (Err Value) h = h
 takes_live (Err Number) h = h
 takes_live (Err NoMemory) h = h
 
-pub line_ample : (n : ℕ) (text : List ℕ) (fault : Fault) → is_passed_over text ≡ false → (fault ≡ NoMemory → IsTrue (takes_memory keeps (command_of n text)))
-    → bad_line (number_of_fault fault) ≡ line.NoMemory → IsTrue (line_takes_memory (line_of n text))
-line_ample n text fault passed ample e =
-    subst (λ l. IsTrue (line_takes_memory l)) (sym (cond-false _ _ _ passed)) (takes (command_of n text) (ample (lacks fault e)))
+pub line_ample : (mode : Mode) (n : ℕ) (text : List ℕ) (fault : Fault) → is_passed_over text ≡ false → (fault ≡ NoMemory → IsTrue (takes_memory keeps (command_of mode n text)))
+    → bad_line (number_of_fault fault) ≡ line.NoMemory → IsTrue (line_takes_memory (line_in mode n text))
+line_ample mode n text fault passed ample e =
+    subst (λ l. IsTrue (line_takes_memory l)) (sym (cond-false _ _ _ passed)) (takes (command_of mode n text) (ample (lacks fault e)))
 
 pub live_line_ample : (n clients : ℕ) (text : List ℕ) (fault : Fault) → is_passed_over text ≡ false → (fault ≡ NoMemory → IsTrue (takes_memory live_keeps (live_command_of n clients text)))
     → bad_live_line (number_of_fault fault) ≡ live_line.NoMemory → IsTrue (live_line_takes_memory (live_line_of n clients text))

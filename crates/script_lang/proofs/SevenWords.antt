@@ -11,8 +11,9 @@ use Rattle.script_lang.specs.Commands.{verb_of, words_behind, command_words, com
 use Rattle.script_lang.specs.LiveCommands.{live_words, live_command_of}
 use Rattle.script_lang.specs.LiveCommands as live
 use Rattle.script_lang.specs.declared.command.Verb.{Verb}
-use Rattle.script_lang.specs.declared.command.Verb.TheVariants.{Do, Ask, Beat, Give, Resend, Raw, Settle, Members, Log, Size, Stable, Seen, Noops, Lags}
+use Rattle.script_lang.specs.declared.command.Verb.TheVariants.{Do, Ask, Beat, Give, Resend, Raw, Settle, Members, Log, Size, Stable, Seen, Noops, Lags, Stop}
 use Rattle.script_lang.specs.declared.fault.Fault.TheVariants as fault
+use Rattle.script_lang.specs.declared.header.Mode.{Mode}
 use Rattle.script_lang.specs.declared.live.LiveCommand.{LiveCommand}
 
 header_by_seven : (words : List (List ℕ)) → header_words (take 7 words) ≡ header_words words
@@ -43,16 +44,17 @@ too_many n (Some Stable) a b c d e f words = refl
 too_many n (Some Seen) a b c d e f words = refl
 too_many n (Some Noops) a b c d e f words = refl
 too_many n (Some Lags) a b c d e f words = refl
+too_many n (Some Stop) a b c d e f words = refl
 
-command_by_seven : (n : ℕ) (words : List (List ℕ)) → command_words n (take 7 words) ≡ command_words n words
-command_by_seven n [] = refl
-command_by_seven n (v ∷ []) = refl
-command_by_seven n (v ∷ a ∷ []) = refl
-command_by_seven n (v ∷ a ∷ b ∷ []) = refl
-command_by_seven n (v ∷ a ∷ b ∷ c ∷ []) = refl
-command_by_seven n (v ∷ a ∷ b ∷ c ∷ d ∷ []) = refl
-command_by_seven n (v ∷ a ∷ b ∷ c ∷ d ∷ e ∷ []) = refl
-command_by_seven n (v ∷ a ∷ b ∷ c ∷ d ∷ e ∷ f ∷ words) = too_many n (verb_of v) a b c d e f words
+command_by_seven : (mode : Mode) (n : ℕ) (words : List (List ℕ)) → command_words mode n (take 7 words) ≡ command_words mode n words
+command_by_seven mode n [] = refl
+command_by_seven mode n (v ∷ []) = refl
+command_by_seven mode n (v ∷ a ∷ []) = refl
+command_by_seven mode n (v ∷ a ∷ b ∷ []) = refl
+command_by_seven mode n (v ∷ a ∷ b ∷ c ∷ []) = refl
+command_by_seven mode n (v ∷ a ∷ b ∷ c ∷ d ∷ []) = refl
+command_by_seven mode n (v ∷ a ∷ b ∷ c ∷ d ∷ e ∷ []) = refl
+command_by_seven mode n (v ∷ a ∷ b ∷ c ∷ d ∷ e ∷ f ∷ words) = too_many n (verb_of mode v) a b c d e f words
 
 -- six words and more behind a client's name are too many
 too_many_live : (clients : ℕ) (c : Option (List ℕ)) (v a b d e f : List ℕ) (words : List (List ℕ))
@@ -79,8 +81,8 @@ not_long line short = grind (arith, nat_tests)
 pub header_of_line : (line : List ℕ) (words : List (List ℕ)) → length line ≤ 16384 → words ≡ take 7 (words_of line) → header_words words ≡ header_of line
 header_of_line line words short first = ap header_words first ∙ header_by_seven (words_of line) ∙ sym (cond-false _ _ _ (not_long line short))
 
-pub command_of_line : (n : ℕ) (line : List ℕ) (words : List (List ℕ)) → length line ≤ 16384 → words ≡ take 7 (words_of line) → command_words n words ≡ command_of n line
-command_of_line n line words short first = ap (command_words n) first ∙ command_by_seven n (words_of line) ∙ sym (cond-false _ _ _ (not_long line short))
+pub command_of_line : (mode : Mode) (n : ℕ) (line : List ℕ) (words : List (List ℕ)) → length line ≤ 16384 → words ≡ take 7 (words_of line) → command_words mode n words ≡ command_of mode n line
+command_of_line mode n line words short first = ap (command_words mode n) first ∙ command_by_seven mode n (words_of line) ∙ sym (cond-false _ _ _ (not_long line short))
 
 pub live_command_of_line : (n clients : ℕ) (line : List ℕ) (words : List (List ℕ)) → length line ≤ 16384 → words ≡ take 7 (words_of line)
     → live_words n clients words ≡ live_command_of n clients line

@@ -11,7 +11,7 @@ use Rattle.op_base.specs.declared.outcome.Answer.TheVariants.{Values, Flag, Sum}
 use Rattle.op_base.specs.declared.outcome.Step.{Step}
 use Rattle.op_base.specs.declared.outcome.Step.TheVariants as step
 use Rattle.script_lang.specs.declared.reply.Reply.{Reply}
-use Rattle.script_lang.specs.declared.reply.Reply.TheVariants.{Sent, Busy, End, Quiet, Held, Is, Unsent, Old, Again, Far, Kept, Took, Nothing, BadFrame, Settled, Unsettled, Epoch, Last, Log, Size, Stable, Seen, Noops, Lags, Bad}
+use Rattle.script_lang.specs.declared.reply.Reply.TheVariants.{Sent, Busy, End, Quiet, Held, Is, Unsent, Old, Again, Far, Kept, Took, Nothing, BadFrame, Settled, Unsettled, Epoch, Last, Log, Size, Stable, Seen, Noops, Lags, Open, Bad}
 use Rattle.script_lang.specs.Replies.{joined, id_word, step_word, answer_words, reply_words, reply_line}
 use Rattle.script_lang.specs.Laws.{IsId, IsStep, IsTag, IsAnswer, IsReply, HaveOneForm, cause_of, AreAlike}
 use Rattle.script_lang.proofs.Parted.{lacks, split-joined}
@@ -66,6 +66,7 @@ reply_as word words =
     else if same_text word (codes "seen") then Seen (length words) (map (λ w. digits_value 10 w) words)
     else if same_text word (codes "noops") then Noops (digits_value 10 (first words))
     else if same_text word (codes "lags") then Lags (lagging_of (first words))
+    else if same_text word (codes "open") then Open (digits_value 10 (first words))
     else bad_of words
 
 abbrev reply_of : List (List ℕ) → Reply
@@ -112,6 +113,7 @@ reply-read (Lags None) h = refl
 reply-read (Lags (Some member)) h =
     line-read (codes "lags") (decimal member ∷ []) _ (rw (number-lacks member h) refl)
     (ap Lags (ap (λ digits. if digits then Some (digits_value 10 (decimal member)) else None) (decimal-lacks 110 member no_n (omega arith)) ∙ ap Some (decimal-value member (omega arith))))
+reply-read (Open count) h = line-read (codes "open") (decimal count ∷ []) _ (rw (number-lacks count h) refl) (ap Open (decimal-value count (omega arith)))
 reply-read (Bad fault) h = line-read (codes "bad") (decimal fault ∷ []) _ (rw (number-lacks fault h) refl) (ap Bad (decimal-value fault (omega arith)))
 reply-read r h = refl
 

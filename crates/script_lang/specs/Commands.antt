@@ -1,5 +1,6 @@
 -- The commands of a script. Each `..._words` is the command of the words behind its first.
 use Rattle.std.specs.Prelude.{◌≡◌, ◌⊎◌, ℕ, Bool, true, false, nat_lt, List, [], ◌∷◌, length, Result, Ok, Err, Option, Some, None, codes, if◌then◌else◌}
+use Rattle.std.specs.Option.{option_or}
 use Rattle.op_base.specs.Name.{same_text}
 use Rattle.script_lang.specs.Words.{words_of, is_passed_over}
 use Rattle.script_lang.specs.Fault.{◌>>=◌, most_line_bytes, number_of_fault}
@@ -8,12 +9,14 @@ use Rattle.script_lang.specs.Acts.{update_in}
 use Rattle.script_lang.specs.declared.fault.Fault.{Fault}
 use Rattle.script_lang.specs.declared.fault.Fault.TheVariants as fault
 use Rattle.script_lang.specs.declared.command.Command.{Command}
-use Rattle.script_lang.specs.declared.command.Command.TheVariants.{Do, Ask, Beat, Give, Resend, Raw, Settle, Members, Log, Size, Stable, Seen, Noops, Lags}
+use Rattle.script_lang.specs.declared.command.Command.TheVariants.{Do, Ask, Beat, Give, Resend, Raw, Settle, Members, Log, Size, Stable, Seen, Noops, Lags, Stop}
 use Rattle.script_lang.specs.declared.command.Verb.{Verb}
 use Rattle.script_lang.specs.declared.command.Verb.TheVariants as verbs
 use Rattle.script_lang.specs.declared.command.Line.{Line}
 use Rattle.script_lang.specs.declared.command.Line.TheVariants.{Skip, Run, Bad}
 use Rattle.script_lang.specs.declared.command.Line.TheVariants as lines
+use Rattle.script_lang.specs.declared.header.Mode.{Mode}
+use Rattle.script_lang.specs.declared.header.Mode.TheVariants as mode
 
 abbrev pub do_command : ℕ → List ℕ → List ℕ → List ℕ → Option (List ℕ) → Result Command Fault
 do_command n r object operation argument =
@@ -67,6 +70,14 @@ abbrev pub members_words : List (List ℕ) → Result Command Fault
 members_words (m ∷ []) = size_in m >>= λ n. Ok (Members n)
 members_words words = Err fault.Words
 
+abbrev pub stop_command : ℕ → List ℕ → List ℕ → Result Command Fault
+stop_command n r b = member_of n r >>= λ r. amount_in b >>= λ b. Ok (Stop r b)
+
+-- r b
+abbrev pub stop_words : ℕ → List (List ℕ) → Result Command Fault
+stop_words n (r ∷ b ∷ []) = stop_command n r b
+stop_words n words = Err fault.Words
+
 -- r, and nothing behind it
 abbrev pub lone_member : ℕ → List (List ℕ) → Result ℕ Fault
 lone_member n (r ∷ []) = member_of n r
@@ -88,6 +99,7 @@ has_lone_member verbs.Stable = true
 has_lone_member verbs.Seen = true
 has_lone_member verbs.Noops = true
 has_lone_member verbs.Lags = true
+has_lone_member verbs.Stop = false
 
 -- the word of a verb
 abbrev pub verb_word : Verb → List ℕ
@@ -105,10 +117,14 @@ verb_word verbs.Stable = codes "stable"
 verb_word verbs.Seen = codes "seen"
 verb_word verbs.Noops = codes "noops"
 verb_word verbs.Lags = codes "lags"
+verb_word verbs.Stop = codes "stop"
 
-abbrev pub all_verbs : List Verb
-all_verbs =
-    verbs.Do ∷ verbs.Ask ∷ verbs.Beat ∷ verbs.Give ∷ verbs.Resend ∷ verbs.Raw ∷ verbs.Settle ∷ verbs.Members ∷ verbs.Log ∷ verbs.Size ∷ verbs.Stable ∷ verbs.Seen ∷ verbs.Noops ∷ verbs.Lags ∷ []
+-- the verbs of what changes a replica, and of what is asked of one
+abbrev pub doing_verbs : List Verb
+doing_verbs = verbs.Do ∷ verbs.Beat ∷ verbs.Give ∷ verbs.Resend ∷ verbs.Raw ∷ verbs.Settle ∷ verbs.Members ∷ verbs.Stop ∷ []
+
+abbrev pub asking_verbs : List Verb
+asking_verbs = verbs.Ask ∷ verbs.Log ∷ verbs.Size ∷ verbs.Stable ∷ verbs.Seen ∷ verbs.Noops ∷ verbs.Lags ∷ []
 
 -- the verb of a list whose word this is
 abbrev pub verb_among : List Verb → List ℕ → Option Verb
@@ -116,8 +132,30 @@ verb_among [] word = None
 verb_among (verb ∷ others) word = if same_text (verb_word verb) word then Some verb else verb_among others word
 
 -- the verb whose word this is
-abbrev pub verb_of : List ℕ → Option Verb
-verb_of word = verb_among all_verbs word
+abbrev pub verb_named : List ℕ → Option Verb
+verb_named word = option_or (verb_among doing_verbs word) (verb_among asking_verbs word)
+
+-- Whether scripts of a mode have a verb. Where replicas can be stopped, nothing is resent, offered as bytes, settled or asked of
+-- no-ops, nor do the members change.
+abbrev pub has_verb : Mode → Verb → Bool
+has_verb mode.Store verbs.Stop = false
+has_verb mode.Store verb = true
+has_verb mode.Keep verbs.Resend = false
+has_verb mode.Keep verbs.Raw = false
+has_verb mode.Keep verbs.Settle = false
+has_verb mode.Keep verbs.Members = false
+has_verb mode.Keep verbs.Noops = false
+has_verb mode.Keep verbs.Lags = false
+has_verb mode.Keep verb = true
+
+-- a verb that scripts of a mode have
+abbrev pub verb_in : Mode → Option Verb → Option Verb
+verb_in mode None = None
+verb_in mode (Some verb) = if has_verb mode verb then Some verb else None
+
+-- the verb of a mode whose word this is
+abbrev pub verb_of : Mode → List ℕ → Option Verb
+verb_of mode word = verb_in mode (verb_named word)
 
 -- the command of a verb and the words behind it, at one of n members
 abbrev pub verb_words : ℕ → Verb → List (List ℕ) → Result Command Fault
@@ -135,20 +173,21 @@ verb_words n verbs.Stable words = lone_member n words >>= λ r. Ok (Stable r)
 verb_words n verbs.Seen words = lone_member n words >>= λ r. Ok (Seen r)
 verb_words n verbs.Noops words = lone_member n words >>= λ r. Ok (Noops r)
 verb_words n verbs.Lags words = lone_member n words >>= λ r. Ok (Lags r)
+verb_words n verbs.Stop words = stop_words n words
 
 -- the command of the words behind a first word
 abbrev pub words_behind : ℕ → Option Verb → List (List ℕ) → Result Command Fault
 words_behind n None words = Err fault.Verb
 words_behind n (Some verb) words = verb_words n verb words
 
--- the command that words are, at one of n members
-abbrev pub command_words : ℕ → List (List ℕ) → Result Command Fault
-command_words n [] = Err fault.Verb
-command_words n (verb ∷ words) = words_behind n (verb_of verb) words
+-- the command that words are in a script of a mode, at one of n members
+abbrev pub command_words : Mode → ℕ → List (List ℕ) → Result Command Fault
+command_words mode n [] = Err fault.Verb
+command_words mode n (verb ∷ words) = words_behind n (verb_of mode verb) words
 
 -- the command that a line is
-abbrev pub command_of : ℕ → List ℕ → Result Command Fault
-command_of n line = if nat_lt most_line_bytes (length line) then Err fault.TooLong else command_words n (words_of line)
+abbrev pub command_of : Mode → ℕ → List ℕ → Result Command Fault
+command_of mode n line = if nat_lt most_line_bytes (length line) then Err fault.TooLong else command_words mode n (words_of line)
 
 -- a line that is no command, by the number of its fault
 abbrev pub bad_line : Option ℕ → Line
@@ -159,9 +198,16 @@ abbrev pub run_or_bad : Result Command Fault → Line
 run_or_bad (Ok command) = Run command
 run_or_bad (Err fault) = bad_line (number_of_fault fault)
 
--- what a line of a script is, in a store of n members
+-- what a line of a script of a mode is, in a store of n members
+abbrev pub line_in : Mode → ℕ → List ℕ → Line
+line_in mode n line = if is_passed_over line then Skip else run_or_bad (command_of mode n line)
+
+-- behind a header store, and behind a header keep
 abbrev pub line_of : ℕ → List ℕ → Line
-line_of n line = if is_passed_over line then Skip else run_or_bad (command_of n line)
+line_of n line = line_in mode.Store n line
+
+abbrev pub keep_line_of : ℕ → List ℕ → Line
+keep_line_of n line = line_in mode.Keep n line
 
 -- a line was read as this, unless memory ran out
 abbrev pub IsLineOrNoMemory : Line → Line → Type 0

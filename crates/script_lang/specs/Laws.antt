@@ -8,7 +8,7 @@ use Rattle.op_base.specs.declared.outcome.Step.{Step}
 use Rattle.op_base.specs.declared.outcome.Step.TheVariants as step
 use Rattle.op_base.specs.declared.tag.MessageId.{MessageId}
 use Rattle.script_lang.specs.declared.reply.Reply.{Reply}
-use Rattle.script_lang.specs.declared.reply.Reply.TheVariants.{Sent, Is, Took, BadFrame, Epoch, Log, Size, Stable, Seen, Noops, Lags, Bad}
+use Rattle.script_lang.specs.declared.reply.Reply.TheVariants.{Sent, Is, Took, BadFrame, Epoch, Log, Size, Stable, Seen, Noops, Lags, Open, Bad}
 use Rattle.script_lang.specs.Replies.{reply_line}
 
 -- ---- which replies can come
@@ -46,6 +46,7 @@ IsReply (Stable n tag) = IsTag n tag
 IsReply (Seen n tag) = IsTag n tag
 IsReply (Noops count) = IsNumber count
 IsReply (Lags member) = IfSome member IsNumber
+IsReply (Open count) = IsNumber count
 IsReply (Bad fault) = IsNumber fault
 IsReply reply = Unit {0}
 

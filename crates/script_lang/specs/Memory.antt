@@ -52,6 +52,7 @@ keeps (command.Stable r) = false
 keeps (command.Seen r) = false
 keeps (command.Noops r) = false
 keeps (command.Lags r) = false
+keeps (command.Stop r b) = false
 
 -- whether memory may run out at a line: at a command that keeps something, and at one whose fault is 5 or more
 abbrev pub line_takes_memory : Line → Bool

@@ -25,6 +25,7 @@ IsWithin n (command.Stable r) = r < n
 IsWithin n (command.Seen r) = r < n
 IsWithin n (command.Noops r) = r < n
 IsWithin n (command.Lags r) = r < n
+IsWithin n (command.Stop r b) = r < n
 
 abbrev pub LineIsWithin : ℕ → Line → Type 0
 LineIsWithin n line.Skip = Unit {0}

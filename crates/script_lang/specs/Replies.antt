@@ -8,7 +8,7 @@ use Rattle.op_base.specs.declared.outcome.Step.{Step}
 use Rattle.op_base.specs.declared.outcome.Step.TheVariants as step
 use Rattle.op_base.specs.declared.tag.MessageId.{MessageId}
 use Rattle.script_lang.specs.declared.reply.Reply.{Reply}
-use Rattle.script_lang.specs.declared.reply.Reply.TheVariants.{Sent, Busy, End, Quiet, Held, Is, Unsent, Old, Again, Far, Kept, Took, Nothing, BadFrame, Settled, Unsettled, Epoch, Last, Log, Size, Stable, Seen, Noops, Lags, Bad}
+use Rattle.script_lang.specs.declared.reply.Reply.TheVariants.{Sent, Busy, End, Quiet, Held, Is, Unsent, Old, Again, Far, Kept, Took, Nothing, BadFrame, Settled, Unsettled, Epoch, Last, Log, Size, Stable, Seen, Noops, Lags, Open, Bad}
 
 -- words, each behind a space
 abbrev pub spaced : List (List ℕ) → List ℕ
@@ -65,6 +65,7 @@ reply_words (Stable n tag) = codes "stable" ∷ map decimal tag
 reply_words (Seen n tag) = codes "seen" ∷ map decimal tag
 reply_words (Noops count) = codes "noops" ∷ decimal count ∷ []
 reply_words (Lags member) = codes "lags" ∷ lagging_word member ∷ []
+reply_words (Open count) = codes "open" ∷ decimal count ∷ []
 reply_words (Bad fault) = codes "bad" ∷ decimal fault ∷ []
 
 -- the line of a reply

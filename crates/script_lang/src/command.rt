@@ -1,12 +1,13 @@
 //! The commands of a script.
 
 ghost use Rattle.std.specs.Prelude.{◌≡◌, ℕ, ◌<◌, IfOk, IsTrue, map, option_copied};
-ghost use Rattle.script_lang.specs.Commands.{do_command, do_words, ask_command, ask_words, give_command, give_words, resend_command, resend_words, raw_command, raw_words, settle_words, members_words, has_lone_member, lone_member, verb_of, verb_words, command_words, command_of, line_of, bad_line, IsLineOrNoMemory};
+ghost use Rattle.script_lang.specs.Commands.{do_command, do_words, ask_command, ask_words, give_command, give_words, resend_command, resend_words, raw_command, raw_words, settle_words, members_words, stop_command, stop_words, has_lone_member, lone_member, has_verb, doing_verbs, asking_verbs, verb_among, verb_named, verb_of, verb_words, command_words, command_of, line_of, keep_line_of, line_in, bad_line, IsLineOrNoMemory};
 ghost use Rattle.script_lang.specs.Memory.{Reads, IsAmple, keeps, line_takes_memory};
 ghost use Rattle.script_lang.specs.Ranges.{IsWithin, LineIsWithin};
 
 use crate::act::read_update;
 use crate::fault::{Fault, MOST_LINE_BYTES};
+use crate::header::Mode;
 use crate::name::{read_amount, read_hex, read_member, read_object, read_size};
 use crate::word::{MOST_WORDS, find_words, is_passed_over};
 use op_base::{ByteList, ObjectId, Update};
@@ -43,6 +44,8 @@ pub enum Command {
     Noops { r: u8 },
     /// The least member that member `r` waits for.
     Lags { r: u8 },
+    /// Member `r` is stopped, so that `b` of its bytes outlive it behind those synced, and opened again.
+    Stop { r: u8, b: u64 },
 }
 
 /// What a line of a script is.
@@ -75,19 +78,39 @@ enum Verb {
     Seen,
     Noops,
     Lags,
+    Stop,
 }
 
-/// What a line of a script is, in a store of `n` members. The line is without its newline and one carriage return at
-/// its end.
+/// What a line of a script is behind a header `store`, of a store of `n` members. The line is without its newline and one
+/// carriage return at its end.
 pub fn read_line(alloc: Global, line: &[u8], n: u8) -> Line
     ensures line { IsLineOrNoMemory (line_of n line.now) result }
     ensures within { LineIsWithin n result }
     ensures ample { result ≡ Line.NoMemory → IsTrue (line_takes_memory (line_of n line.now)) }
 {
+    read_line_in(alloc, Mode::Store, line, n)
+}
+
+/// The same behind a header `keep`: replicas can be stopped there, and nothing is resent, offered as bytes, settled or asked of
+/// no-ops, nor do the members change.
+pub fn read_keep_line(alloc: Global, line: &[u8], n: u8) -> Line
+    ensures line { IsLineOrNoMemory (keep_line_of n line.now) result }
+    ensures within { LineIsWithin n result }
+    ensures ample { result ≡ Line.NoMemory → IsTrue (line_takes_memory (keep_line_of n line.now)) }
+{
+    read_line_in(alloc, Mode::Keep, line, n)
+}
+
+/// What a line of a script of a mode is.
+fn read_line_in(alloc: Global, mode: Mode, line: &[u8], n: u8) -> Line
+    ensures line { IsLineOrNoMemory (line_in mode n line.now) result }
+    ensures within { LineIsWithin n result }
+    ensures ample { result ≡ Line.NoMemory → IsTrue (line_takes_memory (line_in mode n line.now)) }
+{
     if is_passed_over(line) {
         return Line::Skip;
     }
-    match read_command(alloc, line, n) {
+    match read_command(alloc, mode, line, n) {
         Ok(command) => Line::Run(command),
         Err(fault) => bad_line(fault.number()),
     }
@@ -104,9 +127,9 @@ fn bad_line(number: Option<u8>) -> Line
 }
 
 /// The command that a line is.
-fn read_command(alloc: Global, line: &[u8], n: u8) -> Result<Command, Fault>
-    ensures command { Reads (command_of n line.now) result }
-    ensures ample { IsAmple keeps (command_of n line.now) result }
+fn read_command(alloc: Global, mode: Mode, line: &[u8], n: u8) -> Result<Command, Fault>
+    ensures command { Reads (command_of mode n line.now) result }
+    ensures ample { IsAmple keeps (command_of mode n line.now) result }
     ensures within { IfOk result (IsWithin n) }
 {
     if line.len() > MOST_LINE_BYTES {
@@ -114,22 +137,69 @@ fn read_command(alloc: Global, line: &[u8], n: u8) -> Result<Command, Fault>
     }
     let mut parts = [&line[..0]; MOST_WORDS];
     let count = find_words(line, &mut parts);
-    read_words(alloc, &parts[..count], n)
+    read_words(alloc, mode, &parts[..count], n)
+}
+
+/// Whether scripts of a mode have a verb.
+fn has_verb(mode: Mode, verb: Verb) -> bool
+    ensures { result ≡ has_verb mode verb }
+{
+    match (mode, verb) {
+        (Mode::Store, Verb::Stop) => false,
+        (Mode::Store, _) => true,
+        (
+            Mode::Keep,
+            Verb::Resend | Verb::Raw | Verb::Settle | Verb::Members | Verb::Noops | Verb::Lags,
+        ) => false,
+        (Mode::Keep, _) => true,
+    }
+}
+
+/// The verb of a mode whose word this is.
+fn read_verb(mode: Mode, word: &[u8]) -> Option<Verb>
+    ensures { result ≡ verb_of mode word.now }
+{
+    let verb = verb_named(word)?;
+    if has_verb(mode, verb) {
+        Some(verb)
+    } else {
+        None
+    }
 }
 
 /// The verb whose word this is.
-fn read_verb(word: &[u8]) -> Option<Verb>
-    ensures { result ≡ verb_of word.now }
+fn verb_named(word: &[u8]) -> Option<Verb>
+    ensures { result ≡ verb_named word.now }
+{
+    match doing_verb(word) {
+        Some(verb) => Some(verb),
+        None => asking_verb(word),
+    }
+}
+
+/// The verb of what changes a replica whose word this is.
+fn doing_verb(word: &[u8]) -> Option<Verb>
+    ensures { result ≡ verb_among doing_verbs word.now }
 {
     match word {
         b"do" => Some(Verb::Do),
-        b"ask" => Some(Verb::Ask),
         b"beat" => Some(Verb::Beat),
         b"give" => Some(Verb::Give),
         b"resend" => Some(Verb::Resend),
         b"raw" => Some(Verb::Raw),
         b"settle" => Some(Verb::Settle),
         b"members" => Some(Verb::Members),
+        b"stop" => Some(Verb::Stop),
+        _ => None,
+    }
+}
+
+/// The verb of what is asked of a replica whose word this is.
+fn asking_verb(word: &[u8]) -> Option<Verb>
+    ensures { result ≡ verb_among asking_verbs word.now }
+{
+    match word {
+        b"ask" => Some(Verb::Ask),
         b"log" => Some(Verb::Log),
         b"size" => Some(Verb::Size),
         b"stable" => Some(Verb::Stable),
@@ -141,15 +211,15 @@ fn read_verb(word: &[u8]) -> Option<Verb>
 }
 
 /// The command that words are.
-fn read_words(alloc: Global, words: &[&[u8]], n: u8) -> Result<Command, Fault>
-    ensures command { Reads (command_words n (map (λ word. word.now) words.now)) result }
-    ensures ample { IsAmple keeps (command_words n (map (λ word. word.now) words.now)) result }
+fn read_words(alloc: Global, mode: Mode, words: &[&[u8]], n: u8) -> Result<Command, Fault>
+    ensures command { Reads (command_words mode n (map (λ word. word.now) words.now)) result }
+    ensures ample { IsAmple keeps (command_words mode n (map (λ word. word.now) words.now)) result }
     ensures within { IfOk result (IsWithin n) }
 {
     let [verb, words @ ..] = words else {
         return Err(Fault::Verb);
     };
-    match read_verb(verb) {
+    match read_verb(mode, verb) {
         Some(verb) => read_arguments(alloc, verb, words, n),
         None => Err(Fault::Verb),
     }
@@ -176,6 +246,7 @@ fn read_arguments(alloc: Global, verb: Verb, words: &[&[u8]], n: u8) -> Result<C
         Verb::Seen => read_lone(n, Verb::Seen, words),
         Verb::Noops => read_lone(n, Verb::Noops, words),
         Verb::Lags => read_lone(n, Verb::Lags, words),
+        Verb::Stop => read_stop(n, words),
     }
 }
 
@@ -201,7 +272,8 @@ fn read_lone(n: u8, verb: Verb, words: &[&[u8]]) -> Result<Command, Fault>
         | Verb::Resend
         | Verb::Raw
         | Verb::Settle
-        | Verb::Members => unreachable!(),
+        | Verb::Members
+        | Verb::Stop => unreachable!(),
     }
 }
 
@@ -349,6 +421,28 @@ fn read_members(words: &[&[u8]]) -> Result<Command, Fault>
         [m] => Ok(Command::Members { n: read_size(m)? }),
         _ => Err(Fault::Words),
     }
+}
+
+/// The words behind `stop`.
+#[inline(never)]
+fn read_stop(n: u8, words: &[&[u8]]) -> Result<Command, Fault>
+    ensures command { result ≡ stop_words n (map (λ word. word.now) words.now) }
+    ensures within { IfOk result (IsWithin n) }
+{
+    match words {
+        [r, b] => stop_command(n, r, b),
+        _ => Err(Fault::Words),
+    }
+}
+
+fn stop_command(n: u8, r: &[u8], b: &[u8]) -> Result<Command, Fault>
+    ensures command { result ≡ stop_command n r.now b.now }
+    ensures within { IfOk result (IsWithin n) }
+{
+    Ok(Command::Stop {
+        r: read_member(n, r)?,
+        b: u64::from(read_amount(b)?),
+    })
 }
 
 /// The member that words are, where they are one word.

@@ -1,7 +1,7 @@
 //! The headers of scripts and of live inputs.
 
 ghost use Rattle.std.specs.Prelude.{◌≡◌, IfSome, IsTrue, map};
-ghost use Rattle.script_lang.specs.Headers.{is_from_to, is_in_range, in_range, store_header, live_header, header_words, header_of};
+ghost use Rattle.script_lang.specs.Headers.{is_from_to, are_in_range, is_in_range, in_range, script_header, sized_header, live_header, header_words, header_of};
 
 use crate::fault::MOST_LINE_BYTES;
 use crate::number::read_number;
@@ -10,12 +10,27 @@ use crate::word::split;
 /// How many messages a member may send where the header doesn't say.
 pub const USUAL_LIMIT: u32 = 10000;
 
+/// How a script is run.
+#[derive(Clone, Copy, Debug, PartialEq, Eq)]
+pub enum Mode {
+    /// On replicas that last as long as the script, behind a header `store`.
+    Store,
+    /// On durable replicas, which can be stopped, behind a header `keep`.
+    Keep,
+}
+
 /// What an input begins with.
 #[derive(Clone, Copy, Debug, PartialEq, Eq)]
 pub enum Header {
     /// A script, at a store of `n` members, 1 to 16, with a window of `w`, 1 to 64, and a limit of 1 to 1000000
     /// messages a member.
     Store {
+        n: u8,
+        w: u8,
+        limit: u32,
+    },
+    /// A script at durable replicas, which can be stopped, with numbers of the same ranges.
+    Keep {
         n: u8,
         w: u8,
         limit: u32,
@@ -49,20 +64,21 @@ fn header_words(words: &[&[u8]]) -> Option<Header>
     ensures in_range { IfSome result (λ h. IsTrue (is_in_range h)) }
 {
     match words {
-        [b"store", words @ ..] => store_header(words),
+        [b"store", words @ ..] => sized_header(Mode::Store, words),
+        [b"keep", words @ ..] => sized_header(Mode::Keep, words),
         [b"live", words @ ..] => live_header(words),
         _ => None,
     }
 }
 
-/// The header of the words behind `store`.
-fn store_header(words: &[&[u8]]) -> Option<Header>
-    ensures header { result ≡ store_header (map (λ word. word.now) words.now) }
+/// The header of the words behind that of a script's mode.
+fn sized_header(mode: Mode, words: &[&[u8]]) -> Option<Header>
+    ensures header { result ≡ sized_header mode (map (λ word. word.now) words.now) }
     ensures in_range { IfSome result (λ h. IsTrue (is_in_range h)) }
 {
     match words {
-        [n, w] => store(read_number(n)?, read_number(w)?, USUAL_LIMIT),
-        [n, w, limit] => store(read_number(n)?, read_number(w)?, read_number(limit)?),
+        [n, w] => script_header(mode, read_number(n)?, read_number(w)?, USUAL_LIMIT),
+        [n, w, limit] => script_header(mode, read_number(n)?, read_number(w)?, read_number(limit)?),
         _ => None,
     }
 }
@@ -91,17 +107,17 @@ pub fn is_from_to(least: u32, most: u32, x: u32) -> bool
     least <= x && x <= most
 }
 
-/// The header of a store with these numbers, where they are in range.
-fn store(n: u32, w: u32, limit: u32) -> Option<Header>
-    ensures { result ≡ in_range (Header.Store n w limit) }
+/// The header of a script of a mode with these numbers, where they are in range.
+fn script_header(mode: Mode, n: u32, w: u32, limit: u32) -> Option<Header>
+    ensures { result ≡ in_range (script_header mode n w limit) }
 {
     if !(is_from_to(1, 16, n) && is_from_to(1, 64, w) && is_from_to(1, 1_000_000, limit)) {
         return None;
     }
-    Some(Header::Store {
-        n: n as u8,
-        w: w as u8,
-        limit,
+    let (n, w) = (n as u8, w as u8);
+    Some(match mode {
+        Mode::Store => Header::Store { n, w, limit },
+        Mode::Keep => Header::Keep { n, w, limit },
     })
 }
 

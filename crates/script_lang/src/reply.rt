@@ -5,6 +5,7 @@ ghost use Rattle.std.specs.Fmt.{decimal};
 ghost use Rattle.script_lang.specs.Replies.{joined, spaced, answer_words, reply_words, reply_line, HasItsEntries};
 
 use crate::listed::{put_all, put_number, put_spaced_number};
+use itoa::Integer;
 use op_base::{Answer, IdList, NoMemory, StepList, Tag, Text};
 
 /// What is replied to a command line.
@@ -59,6 +60,8 @@ pub enum Reply {
     /// The least member that isn't known to have the oldest own message that isn't known to be everywhere; none where all
     /// are.
     Lags(Option<u8>),
+    /// A replica was stopped and opened again, and has so many notes.
+    Open(u64),
     /// The line is no command, with the number of its fault.
     Bad(u8),
 }
@@ -125,13 +128,14 @@ fn put_words(reply: &Reply, out: &mut Text) -> Result<(), NoMemory>
         Reply::Noops(count) => put_numbered(b"noops ", *count, out),
         Reply::Lags(Some(member)) => put_numbered(b"lags ", u32::from(*member), out),
         Reply::Lags(None) => out.extend_from_slice(b"lags none"),
+        Reply::Open(count) => put_numbered(b"open ", *count, out),
         Reply::Bad(fault) => put_numbered(b"bad ", u32::from(*fault), out),
     }
 }
 
 /// Puts words with a space at their end, and a number.
-fn put_numbered(words: &[u8], number: u32, out: &mut Text) -> Result<(), NoMemory>
-    ensures ok { OnOk result (out.new ≡ out.old ++ (words.now ++ decimal number)) }
+fn put_numbered<I: Integer>(words: &[u8], number: I, out: &mut Text) -> Result<(), NoMemory>
+    ensures ok { OnOk result (out.new ≡ out.old ++ (words.now ++ I.text number)) }
     ensures err { OnErr result (take (length out.old) out.new ≡ out.old) }
 {
     out.extend_from_slice(words)?;

@@ -100,6 +100,7 @@ fn plain_replies_have_their_lines(rt: HostRuntime) -> Result<(), Fail> {
     is_printed(&rt, alloc, Reply::Noops(3), b"noops 3\n")?;
     is_printed(&rt, alloc, Reply::Lags(Some(15)), b"lags 15\n")?;
     is_printed(&rt, alloc, Reply::Lags(None), b"lags none\n")?;
+    is_printed(&rt, alloc, Reply::Open(4294967296), b"open 4294967296\n")?;
     is_printed(&rt, alloc, Reply::Bad(8), b"bad 8\n")
 }
 

@@ -1,6 +1,9 @@
 //! Tables of lines: each fault with its causes, each command, headers at their limits, and how fast a line is read.
 
-use crate::{Command, Header, Line, LiveCommand, LiveLine, read_header, read_line, read_live_line};
+use crate::{
+    Command, Header, Line, LiveCommand, LiveLine, read_header, read_keep_line, read_line,
+    read_live_line,
+};
 use op_base::{Act, ByteList};
 use std::alloc::{AllocError, Global};
 use std::test::Fail;
@@ -60,7 +63,7 @@ fn the_first_fault_of_a_line_is_told(rt: HostRuntime) -> Result<(), Fail> {
         (b"member 2", 2),
         (b"ids 0 list:l", 2),
         (b"tombs 0", 2),
-        (b"stop", 2),
+        (b"stop 0 0", 2),
         (b"store 1 1", 2),
         (b"x # y", 2),
         (b"a b c d e f g h i j", 2),
@@ -119,6 +122,42 @@ fn the_first_fault_of_a_line_is_told(rt: HostRuntime) -> Result<(), Fail> {
     ];
     for (line, wanted) in cases {
         assert_eq!(rt; code(&read_line(alloc, line, 2)), wanted);
+    }
+    Ok(())
+}
+
+#[test]
+fn a_script_of_durable_replicas_has_lines_of_its_own(rt: HostRuntime) -> Result<(), Fail> {
+    let alloc = rt.alloc();
+    let cases: [(&[u8], u8); 24] = [
+        (b" # stop", 0),
+        (b"do 0 awset:s add x", 100),
+        (b"ask 1 dwflag:f", 100),
+        (b"beat 0", 100),
+        (b"give 0 1 4294967295", 100),
+        (b"log 0", 100),
+        (b"size 0", 100),
+        (b"stable 0", 100),
+        (b"seen 1", 100),
+        (b"stop 1 4294967295", 100),
+        // What these scripts don't have, whatever stands behind it.
+        (b"resend 0 1", 2),
+        (b"raw 0 00fF9A", 2),
+        (b"settle", 2),
+        (b"members 3", 2),
+        (b"noops 0", 2),
+        (b"lags", 2),
+        (b"stops 0 0", 2),
+        (b"stop", 3),
+        (b"stop 0", 3),
+        (b"stop 9 0 0", 3),
+        (b"stop 2 0", 4),
+        (b"stop 2 x", 4),
+        (b"stop 0 x", 8),
+        (b"stop 0 4294967296", 8),
+    ];
+    for (line, wanted) in cases {
+        assert_eq!(rt; code(&read_keep_line(alloc, line, 2)), wanted);
     }
     Ok(())
 }
@@ -208,6 +247,8 @@ fn numbers_are_read_as_they_stand(rt: HostRuntime) -> Result<(), Fail> {
     let alloc = rt.alloc();
     let give = Command::Give { r: 0, k: 1, s: 7 };
     assert_eq!(rt; read_line(alloc, b"give 0 1 007", 2), Line::Run(give));
+    let stop = Command::Stop { r: 1, b: 27 };
+    assert_eq!(rt; read_keep_line(alloc, b"stop 1 0027", 2), Line::Run(stop));
     let client = LiveCommand::Client { c: 1, r: 2 };
     assert_eq!(rt;
         read_live_line(alloc, b"client 1 2", 3, 2),
@@ -265,7 +306,7 @@ fn headers_keep_their_ranges(rt: HostRuntime) -> Result<(), Fail> {
         turns: 10000,
         loss: 1000000,
     };
-    let cases: [(&[u8], Option<Header>); 22] = [
+    let cases: [(&[u8], Option<Header>); 25] = [
         (
             b"store 1 1",
             Some(Header::Store {
@@ -290,6 +331,16 @@ fn headers_keep_their_ranges(rt: HostRuntime) -> Result<(), Fail> {
                 limit: 1,
             }),
         ),
+        (
+            b"keep 16 64 1000000",
+            Some(Header::Keep {
+                n: 16,
+                w: 64,
+                limit: 1000000,
+            }),
+        ),
+        (b"keep 2 2 1000001", None),
+        (b"keep 1 1 1 0 0", None),
         (b"live 1 1 1 0 0", Some(least)),
         (b"live 16 64 8 10000 1000000", Some(most)),
         (b"", None),

@@ -1,5 +1,0 @@
-use Rattle.script_lang.proofs.Ample.{line_ample}
-use Rattle.script_lang.proofs.command.read_line.Goals as goal
-
-pub returns-in-Err-clause-ample : goal.returns-in-Err-clause-ample
-returns-in-Err-clause-ample c = λ none. line_ample c.args.n c.args.line.now c.in-Err.fault (cc) c.in-Err.ensures.ample (cc)
