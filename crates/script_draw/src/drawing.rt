@@ -20,7 +20,7 @@ const LEAST_WIDTH: u32 = 720;
 const BAND: u32 = 18;
 
 /// What explains the shapes, in their order.
-const EXPLAINED: [(Shape, &str); 11] = [
+const EXPLAINED: [(Shape, &str); 12] = [
     (Shape::Mark(Mark::Operation), "sends an operation"),
     (Shape::Mark(Mark::NoOp), "sends a no-op"),
     (Shape::Mark(Mark::Delivered), "delivers a message"),
@@ -30,6 +30,7 @@ const EXPLAINED: [(Shape, &str); 11] = [
     (Shape::Raw, "delivers what raw bytes say"),
     (Shape::Mark(Mark::Answer), "answers"),
     (Shape::Mark(Mark::Refusal), "refuses, or has nothing to do"),
+    (Shape::Mark(Mark::Stop), "is stopped, and opened again"),
     (Shape::Epoch, "the next epoch begins"),
     (Shape::Leaving, "is no member any more"),
 ];
@@ -171,7 +172,7 @@ fn shape_of(event: &Event) -> Shape {
 /// The style of an event's labels.
 fn style_of(mark: Mark) -> Style {
     match mark {
-        Mark::Operation | Mark::NoOp | Mark::Delivered => Style::Plain,
+        Mark::Operation | Mark::NoOp | Mark::Delivered | Mark::Stop => Style::Plain,
         Mark::Repeated => Style::Id,
         Mark::Early => Style::Early,
         Mark::Answer => Style::Answer,

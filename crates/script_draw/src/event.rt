@@ -23,6 +23,8 @@ pub enum Mark {
     Answer,
     /// A command was refused, or found nothing to do.
     Refusal,
+    /// A replica was stopped and opened again.
+    Stop,
 }
 
 /// A place in a picture: a replica's line, and how far to the right, in pixels.

@@ -9,7 +9,7 @@ use crate::plan::Plan;
 use crate::replies::{Told, first_word, is_word, members_by, numbers_in, read_step};
 use crate::script::{DrawFault, Opened, open, reply_to};
 use op_base::{MessageId, NoMemory};
-use script_lang::{is_passed_over, read_number, split};
+use script_lang::{Mode, is_passed_over, read_number, split};
 use script_net::Runner;
 use std::alloc::Global;
 
@@ -23,6 +23,7 @@ pub fn play(alloc: Global, script: &[u8]) -> Result<Plan, DrawFault>
 {
     let Opened {
         n,
+        mode,
         mut runner,
         passed,
         lines,
@@ -32,7 +33,7 @@ pub fn play(alloc: Global, script: &[u8]) -> Result<Plan, DrawFault>
     for line in lines.iter() {
         number = number.saturating_add(1);
         if !is_passed_over(line) {
-            play_line(alloc, &mut runner, line, number, &mut plan)?;
+            play_line(alloc, mode, &mut runner, line, number, &mut plan)?;
         }
         if plan.is_cut {
             break;
@@ -44,6 +45,7 @@ pub fn play(alloc: Global, script: &[u8]) -> Result<Plan, DrawFault>
 /// Runs a line and notes its marks.
 fn play_line(
     alloc: Global,
+    mode: Mode,
     runner: &mut Runner,
     line: &[u8],
     number: usize,
@@ -51,7 +53,9 @@ fn play_line(
 ) -> Result<(), NoMemory> {
     let words = split(line);
     let words = words.as_slice();
-    if let [b"settle"] = words {
+    if mode == Mode::Store
+        && let [b"settle"] = words
+    {
         return play_settling(alloc, runner, line, number, plan);
     }
     let reply = reply_to(alloc, runner, line)?;
@@ -209,10 +213,12 @@ fn note_reply(
     match (*command, first) {
         (b"do", b"ok") => note_sending(alloc, r, Mark::Operation, told, rest, plan),
         (b"beat", b"ok") => note_sending(alloc, r, Mark::NoOp, told, &[], plan),
-        (_, b"took") => note_steps(alloc, r, told, plan),
+        (b"give", b"took") => note_steps(alloc, r, id_of(rest), told, plan),
+        (_, b"took") => note_steps(alloc, r, None, told, plan),
         (b"give", b"kept" | b"again" | b"old") => note_offer(alloc, r, rest, first, plan),
         (_, b"kept") => note_early(alloc, r, words, reply, plan),
         (b"ask", b"=") => note_answer(alloc, r, rest, reply, plan),
+        (b"stop", b"open") => note_stop(alloc, r, rest, reply, plan),
         (b"do", _) => note_refused(alloc, r, rest, reply, plan),
         (b"beat" | b"give" | b"resend", _) => note_refused(alloc, r, words, reply, plan),
         (b"raw", _) => note_bare(r, Mark::Refusal, labels_of(alloc, command, reply)?, plan),
@@ -248,6 +254,26 @@ fn note_answer(
 ) -> Result<(), NoMemory> {
     match rest {
         [object, ..] => note_bare(r, Mark::Answer, labels_of(alloc, object, reply)?, plan),
+        [] => Ok(()),
+    }
+}
+
+/// Notes that a replica was stopped, with how many bytes outlived it, and with how many notes it was opened again.
+fn note_stop(
+    alloc: Global,
+    r: u8,
+    rest: &[&[u8]],
+    reply: &[u8],
+    plan: &mut Plan,
+) -> Result<(), NoMemory> {
+    match rest {
+        [bytes, ..] => {
+            let labels = Labels {
+                upper: label_of_words(alloc, &[b"stop", bytes])?,
+                lower: label_of(alloc, reply)?,
+            };
+            note_bare(r, Mark::Stop, labels, plan)
+        }
         [] => Ok(()),
     }
 }
@@ -319,11 +345,28 @@ fn note_sending(
     })
 }
 
-/// Notes the steps of a reply, one behind the other.
-fn note_steps(alloc: Global, r: u8, steps: &[u8], plan: &mut Plan) -> Result<(), NoMemory> {
+/// The message that words name by its member and its number.
+fn id_of(words: &[&[u8]]) -> Option<MessageId> {
+    match words {
+        [k, s, ..] => Some(MessageId {
+            origin: replica_of(k),
+            seq: read_number(s).unwrap_or(0),
+        }),
+        _ => None,
+    }
+}
+
+/// Notes the steps of a reply, one behind the other. One message may have been given by the command itself.
+fn note_steps(
+    alloc: Global,
+    r: u8,
+    given: Option<MessageId>,
+    steps: &[u8],
+    plan: &mut Plan,
+) -> Result<(), NoMemory> {
     for word in steps.split(|b| *b == b' ') {
         if let Some(told) = read_step(word) {
-            note_step(alloc, r, told, plan)?;
+            note_step(alloc, r, given, told, plan)?;
         }
         if plan.is_cut {
             break;
@@ -332,9 +375,19 @@ fn note_steps(alloc: Global, r: u8, steps: &[u8], plan: &mut Plan) -> Result<(),
     Ok(())
 }
 
-/// Notes a step: at the end of an arrow from the sending, or at the end of a wait, or of bytes that nobody sent.
-fn note_step(alloc: Global, r: u8, told: Told, plan: &mut Plan) -> Result<(), NoMemory> {
-    let early = plan.early_of(r, told.id);
+/// Notes a step: at the end of an arrow from the sending, or at the end of a wait, or of bytes that nobody sent. What was given
+/// now didn't wait, though it may have come early before a stop.
+fn note_step(
+    alloc: Global,
+    r: u8,
+    given: Option<MessageId>,
+    told: Told,
+    plan: &mut Plan,
+) -> Result<(), NoMemory> {
+    let early = match given {
+        Some(id) if id == told.id => None,
+        _ => plan.early_of(r, told.id),
+    };
     let sent = plan.sending_of(told.id);
     let (mark, label) = if told.is_dropped {
         (Mark::Dropped, b"dropped".as_slice())
@@ -361,12 +414,8 @@ fn note_offer(
     reply: &[u8],
     plan: &mut Plan,
 ) -> Result<(), NoMemory> {
-    let [k, s, ..] = rest else {
+    let Some(id) = id_of(rest) else {
         return Ok(());
-    };
-    let id = MessageId {
-        origin: replica_of(k),
-        seq: read_number(s).unwrap_or(0),
     };
     let mark = if is_word(reply, b"kept") {
         Mark::Early

@@ -29,6 +29,7 @@ pub fn table(alloc: Global, script: &[u8]) -> Result<String, DrawFault>
 {
     let Opened {
         mut n,
+        mode: _,
         mut runner,
         passed: _,
         lines,

@@ -4,16 +4,14 @@ ghost use Rattle.std.specs.Prelude.{◌≡◌, ◌↔◌, true, false, Some, Err
 ghost use Rattle.std.specs.List.{slice_split};
 ghost use Rattle.std.specs.Str.Lines.{strip_carriage_return};
 ghost use Rattle.script_lang.specs.Headers.{header_of};
-ghost use Rattle.world_model.specs.World.{PlainWorld};
 ghost use Rattle.script_net.specs.Lines.{is_newline, lines_of, from_command};
 ghost use Rattle.script_net.specs.Runs.{RunsIn};
-ghost use Rattle.script_net.specs.Transcript.{opened, text_of_line, world_of_line};
-ghost use Rattle.script_draw.specs.Opening.{opens_store, has_header};
+ghost use Rattle.script_net.specs.Transcript.{AnyPlain, opened, text_of_line, world_of_line};
+ghost use Rattle.script_draw.specs.Opening.{opens_script, has_header};
 ghost use Rattle.script_draw.specs.Runs.{StandsBehind, without_newline};
 
 use op_base::{NoMemory, Text};
-use replica_core::CreateFault;
-use script_lang::{Header, is_passed_over, read_header};
+use script_lang::{Header, Mode, is_passed_over, read_header};
 use script_net::Runner;
 use std::alloc::{AllocError, Global};
 
@@ -52,6 +50,7 @@ impl From<AllocError> for DrawFault {
 #[derive(Drop)]
 pub struct Opened<'a> {
     pub n: u8,
+    pub mode: Mode,
     pub runner: Runner,
     /// How many lines the header is behind, itself among them.
     pub passed: usize,
@@ -101,18 +100,24 @@ fn from_command<'a, 'b>(lines: &'b [&'a [u8]]) -> &'b [&'a [u8]]
     rest
 }
 
-/// The store that a header opens.
-fn run_of(alloc: Global, line: &[u8]) -> Result<(u8, Runner), DrawFault>
-    ensures bad_header { IsErrOf result DrawFault.BadHeader ↔ (opens_store (header_of line.now) ≡ false) }
-    ensures opens { IfOk result (λ run. (plain : PlainWorld) × (opened (header_of line.now) ≡ Some plain) × RunsIn run.1 plain) }
+/// How the script of a header is run, and by how many members.
+fn members_of(line: &[u8]) -> (Mode, u8) {
+    match read_header(line) {
+        Some(Header::Keep { n, .. }) => (Mode::Keep, n),
+        Some(Header::Store { n, .. } | Header::Live { n, .. }) => (Mode::Store, n),
+        None => (Mode::Store, 1),
+    }
+}
+
+/// The run that a header opens.
+fn run_of(alloc: Global, line: &[u8]) -> Result<Runner, DrawFault>
+    ensures bad_header { IsErrOf result DrawFault.BadHeader ↔ (opens_script (header_of line.now) ≡ false) }
+    ensures opens { IfOk result (λ runner. (plain : AnyPlain) × (opened (header_of line.now) ≡ Some plain) × RunsIn runner plain) }
 {
-    let Some(Header::Store { n, w, limit }) = read_header(line) else {
-        return Err(DrawFault::BadHeader);
-    };
-    match Runner::create(alloc, n, w, limit) {
-        Ok(runner) => Ok((n, runner)),
-        Err(CreateFault::BadNumbers) => unreachable!(),
-        Err(CreateFault::NoMemory) => Err(DrawFault::NoMemory),
+    match Runner::open(alloc, line) {
+        Ok(Some(runner)) => Ok(runner),
+        Ok(None) => Err(DrawFault::BadHeader),
+        Err(NoMemory) => Err(DrawFault::NoMemory),
     }
 }
 
@@ -127,9 +132,11 @@ pub fn open(alloc: Global, script: &[u8]) -> Result<Opened<'_>, DrawFault>
     let [header, rest @ ..] = command_lines else {
         return Err(DrawFault::BadHeader);
     };
-    let (n, runner) = run_of(alloc, header)?;
+    let runner = run_of(alloc, header)?;
+    let (mode, n) = members_of(header);
     Ok(Opened {
         n,
+        mode,
         runner,
         passed: lines.len().saturating_sub(rest.len()),
         lines: rest.to_vec(alloc)?,
@@ -138,8 +145,8 @@ pub fn open(alloc: Global, script: &[u8]) -> Result<Opened<'_>, DrawFault>
 
 /// Runs a line. Its reply, without its newline; nothing where the line is passed over.
 pub fn reply_to(alloc: Global, runner: &mut Runner, line: &[u8]) -> Result<Vec<u8>, NoMemory>
-    ensures reply { (plain : PlainWorld) → RunsIn runner.old plain → IfOk result (λ reply. reply.items ≡ without_newline (text_of_line plain line.now)) }
-    ensures world { (plain : PlainWorld) → RunsIn runner.old plain → OnOk result (RunsIn runner.new (world_of_line plain line.now)) }
+    ensures reply { (plain : AnyPlain) → RunsIn runner.old plain → IfOk result (λ reply. reply.items ≡ without_newline (text_of_line plain line.now)) }
+    ensures world { (plain : AnyPlain) → RunsIn runner.old plain → OnOk result (RunsIn runner.new (world_of_line plain line.now)) }
 {
     let mut text = Text::new(alloc);
     runner.line(alloc, line, &mut text)?;

@@ -126,6 +126,13 @@ pub fn put_shape(x: u32, y: u32, shape: Shape, out: &mut String) -> Result<(), N
             out,
             "<path d=\"M{x},{y}m0,-6v12\" stroke=\"#c22\" stroke-width=\"3\"/>\n"
         )?,
+        Shape::Mark(Mark::Stop) => {
+            let (left, top) = (x.saturating_sub(3), y.saturating_sub(7));
+            write!(
+                out,
+                "<rect x=\"{left}\" y=\"{top}\" width=\"6\" height=\"14\" fill=\"#fff\"/>\n<path d=\"M{left},{top}v14m6,0v-14\" stroke=\"#234\" stroke-width=\"2\" fill=\"none\"/>\n"
+            )?;
+        }
         Shape::Raw => write!(
             out,
             "<path d=\"M{x},{y}m-6,0l6,-6l6,6l-6,6z\" fill=\"#8040a0\"/>\n"

@@ -75,6 +75,27 @@ fn lines_begin_and_end_with_epochs(rt: HostRuntime) -> Result<(), Fail> {
 }
 
 #[test]
+fn a_stop_is_drawn_and_no_settling_where_there_is_none(rt: HostRuntime) -> Result<(), Fail> {
+    shows(
+        &rt,
+        "keep 3 4\ndo 0 mvreg:r write a\ngive 1 0 1\ndo 1 mvreg:r write b\ngive 2 1 1\nstop 2 0\nsettle\ngive 2 0 1\ngive 2 1 1\n",
+        &[
+            "class=\"e\">kept</text>",
+            "class=\"p\">stop 0</text>",
+            "class=\"p\">open 0</text>",
+            "is stopped, and opened again",
+            "class=\"r\">bad 2</text>",
+        ],
+    )?;
+    let script =
+        b"keep 3 4\ndo 0 mvreg:r write a\ngive 1 0 1\ndo 1 mvreg:r write b\ngive 2 1 1\nstop 2 0\ngive 2 0 1\ngive 2 1 1\n";
+    let picture = picture(rt.alloc(), script).map_err(|_| Fail::from("no picture"))?;
+    // What came early before the stop and was lost didn't wait.
+    assert!(rt; !picture.contains("#f0b850"));
+    Ok(())
+}
+
+#[test]
 fn a_wait_is_of_its_epoch(rt: HostRuntime) -> Result<(), Fail> {
     let script =
         b"store 3 4\ndo 0 mvreg:r write a\ngive 1 0 1\ndo 1 mvreg:r write b\ngive 2 1 1\nsettle\nmembers 2\nmembers 3\ndo 1 mvreg:r write c\ngive 2 1 1\n";
@@ -135,6 +156,7 @@ fn what_has_no_header_is_not_drawn(rt: HostRuntime) {
         "ask 0 counter:c\n",
         "store 17 1\n",
         "live 2 4 1 1 0\n",
+        "keep 2 65\n",
     ] {
         assert!(rt;
             matches!(

@@ -61,9 +61,9 @@ pub enum Line {
     NoMemory,
 }
 
-/// The first word of a command.
+/// The first word of a command, of which there is one for each.
 #[derive(Clone, Copy, Debug, PartialEq, Eq)]
-enum Verb {
+pub enum Verb {
     Do,
     Ask,
     Beat,

@@ -22,7 +22,7 @@ mod reply;
 mod word;
 
 pub use act::{Operation, read_update};
-pub use command::{Command, Line, read_keep_line, read_line};
+pub use command::{Command, Line, Verb, read_keep_line, read_line};
 pub use fault::{Fault, MOST_LINE_BYTES};
 pub use header::{Header, Mode, USUAL_LIMIT, read_header};
 pub use laws::replies_can_be_read_back;

@@ -15,6 +15,7 @@ use Rattle.script_lang.specs.declared.command.Command.{Command}
 use Rattle.script_lang.specs.declared.command.Command.TheVariants as command
 use Rattle.script_lang.specs.declared.command.Line.{Line}
 use Rattle.script_lang.specs.declared.command.Line.TheVariants as line
+use Rattle.script_lang.specs.declared.header.Mode.TheVariants as mode
 use Rattle.script_lang.specs.declared.reply.Reply.TheVariants as reply
 use Rattle.world_model.specs.World.{PlainWorld, size_of, epoch_in, opening, replica_of}
 use Rattle.world_model.specs.Showing.{entries_at}
@@ -28,8 +29,8 @@ use Rattle.world_model.proofs.Rounds.{settling_keeps_world}
 use Rattle.world_model.proofs.Shown.{same_events_are_answered_alike}
 use Rattle.world_model.proofs.Worlds.{opening_is_world, world_keeps_itself}
 use Rattle.script_net.specs.Commands.{local_reply, regroup_reply, command_at}
-use Rattle.script_net.specs.Laws.{world_by, ScriptsKeepWorlds, MembersAreAsked, MembersStay, LogsAreBounded, BusyIsExact, EqualEventsAnswerAlike}
-use Rattle.script_net.specs.Transcript.{line_world, line_reply, reply_text, world_of_line, world_after, changes_members}
+use Rattle.script_net.specs.Laws.{line_world, line_reply, store_of_line, store_after, world_by, ScriptsKeepWorlds, MembersAreAsked, MembersStay, LogsAreBounded, BusyIsExact, EqualEventsAnswerAlike}
+use Rattle.script_net.specs.Transcript.{reply_text, changes_members}
 use Rattle.script_net.proofs.Opened.{header_in_range}
 use Rattle.script_net.proofs.Ranges.{CanRun, line_can_run}
 
@@ -38,7 +39,7 @@ command_keeps : (world : PlainWorld) (c : Command) → IsWorld world → CanRun 
 command_keeps world (command.Do r update) is can stay = sending_keeps_world world r update is can.0 can.1
 command_keeps world (command.Ask r object) is can stay = world_keeps_itself world is
 command_keeps world (command.Beat r) is can stay = beating_keeps_world world r is can
-command_keeps world (command.Give r k s) is can stay = giving_keeps_world world r k s is can
+command_keeps world (command.Give r k s) is can stay = giving_keeps_world world r k s is can.0
 command_keeps world (command.Resend r k) is can stay = resending_keeps_world world r k is can
 command_keeps world (command.Raw r bytes) is can stay = rawing_keeps_world world r bytes is can.0 can.1
 command_keeps world command.Settle is can stay = settling_keeps_world world is
@@ -49,6 +50,7 @@ command_keeps world (command.Stable r) is can stay = world_keeps_itself world is
 command_keeps world (command.Seen r) is can stay = world_keeps_itself world is
 command_keeps world (command.Noops r) is can stay = world_keeps_itself world is
 command_keeps world (command.Lags r) is can stay = world_keeps_itself world is
+command_keeps world (command.Stop r b) is can stay = world_keeps_itself world is
 
 line_keeps : (world : PlainWorld) (l : Line) → IsWorld world → ((c : Command) → l ≡ line.Run c → CanRun (size_of world) c) → changes_members l ≡ false → KeepsWorld world (line_world world l)
 line_keeps world line.Skip is can stay = world_keeps_itself world is
@@ -62,11 +64,11 @@ line_keeps_store world (line.Run (command.Members n)) is can = let within = can 
 line_keeps_store world l is can = let kept = line_keeps world l is can refl in record { is_world = kept.is_world; w = kept.w; limit = kept.limit }
 
 -- so does every list of lines
-lines_keep_store : (world : PlainWorld) (lines : List (List ℕ)) → IsWorld world → KeepsStore world (world_after world lines)
+lines_keep_store : (world : PlainWorld) (lines : List (List ℕ)) → IsWorld world → KeepsStore world (store_after world lines)
 lines_keep_store world [] is = record { is_world = is; w = refl; limit = refl }
 lines_keep_store world (bytes ∷ lines) is =
-    let first = line_keeps_store world (line_of (size_of world) bytes) is (line_can_run (size_of world) bytes) in
-    let rest = lines_keep_store (world_of_line world bytes) lines first.is_world in
+    let first = line_keeps_store world (line_of (size_of world) bytes) is (line_can_run (size_of world) mode.Store bytes) in
+    let rest = lines_keep_store (store_of_line world bytes) lines first.is_world in
     record { is_world = rest.is_world; w = rest.w ∙ first.w; limit = rest.limit ∙ first.limit }
 
 pub scripts_keep_worlds : ScriptsKeepWorlds
@@ -78,7 +80,7 @@ scripts_keep_worlds header lines n w limit e =
 pub members_are_asked : MembersAreAsked
 members_are_asked header lines bytes n w limit m epoch e one told =
     let world = world_by n w limit lines in
-    let within = line_can_run (size_of world) bytes (command.Members m) one in
+    let within = line_can_run (size_of world) mode.Store bytes (command.Members m) one in
     let is = (scripts_keep_worlds header lines n w limit e).0 in
     let began = next_epoch_begins world m epoch is within.0 within.1 (by_epoch (regroup_at m world).0 (sym (ap (line_reply world) one) ∙ told)) in
     let after = ap (line_world world) one in
@@ -92,7 +94,7 @@ members_are_asked header lines bytes n w limit m epoch e one told =
 pub members_stay : MembersStay
 members_stay header lines bytes n w limit e stay =
     let world = world_by n w limit lines in
-    let kept = line_keeps world (line_of (size_of world) bytes) (scripts_keep_worlds header lines n w limit e).0 (line_can_run (size_of world) bytes) stay in
+    let kept = line_keeps world (line_of (size_of world) bytes) (scripts_keep_worlds header lines n w limit e).0 (line_can_run (size_of world) mode.Store bytes) stay in
     (kept.size, kept.epoch)
 
 pub logs_are_bounded : LogsAreBounded
@@ -115,7 +117,7 @@ pub busy_is_exact : BusyIsExact
 busy_is_exact header lines bytes n w limit r update e one =
     let kept = scripts_keep_worlds header lines n w limit e in
     let world = world_by n w limit lines in
-    let is = kept.0.replicas r (line_can_run (size_of world) bytes (command.Do r update) one).0 in
+    let is = kept.0.replicas r (line_can_run (size_of world) mode.Store bytes (command.Do r update) one).0 in
     let p = (replica_of world r).history.present in
     let read = ap (line_reply world) one in
     let told = busy_is_told (unstable_operations p.n p.me p.messages p.me == world.w) (count_of p.messages p.me == world.limit) (own_message p.n p.me p.messages (op.Update update)) in
@@ -131,7 +133,7 @@ equal_events_answer_alike header lines others first second n w limit r k object 
     let also = scripts_keep_worlds header others n w limit e in
     let world = world_by n w limit lines in
     let other = world_by n w limit others in
-    let within_r = line_can_run (size_of world) first (command.Ask r object) one in
-    let within_k = line_can_run (size_of other) second (command.Ask k object) two in
+    let within_r = line_can_run (size_of world) mode.Store first (command.Ask r object) one in
+    let within_k = line_can_run (size_of other) mode.Store second (command.Ask k object) two in
     let answers = same_events_are_answered_alike world other r k object kept.0 also.0 (kept.1 ∙ sym also.1) within_r within_k same in
     ap (λ l. reply_text (line_reply world l)) one ∙ ap (λ answer. reply_text (Some (reply.Is answer))) answers ∙ sym (ap (λ l. reply_text (line_reply other l)) two)

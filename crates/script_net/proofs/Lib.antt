@@ -1,4 +1,6 @@
 pub mod Shown
+pub mod KeepShown
+pub mod AnyWorlds
 pub mod Told
 pub mod Ranges
 pub mod Replied

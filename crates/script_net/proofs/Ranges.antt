@@ -1,6 +1,6 @@
 -- What a line of a script asks for is in range: the members are of the store, the update is valid, the bytes are bytes.
 use Rattle.std.proofs.Common.{◌≡◌, ℕ, ◌<◌, ◌≤◌, Bool, true, false, cond, nat_lt, nat_le, IsTrue, List, [], ◌∷◌, length, Option, Some, None, Result, Ok, Err, refl, subst, arith}
-use Rattle.std.specs.Prelude.{IfOk, ok_or, codes, All, ◌==◌, ◌%◌, if◌then◌else◌}
+use Rattle.std.specs.Prelude.{IfOk, ok_or, All, ◌==◌, ◌%◌, if◌then◌else◌}
 use Rattle.std.specs.Result.{result_ok}
 use Rattle.std.proofs.lemmas.List.{get_or_default}
 use Rattle.std.proofs.lemmas.Bool.{and_parts, and_from, ltb-true, leb-true}
@@ -8,7 +8,7 @@ use Rattle.hex.specs.Hex.{decode_of, decode_pairs}
 use Rattle.hex.specs.declared.error.FromHexError.{FromHexError}
 use Rattle.hex.specs.declared.error.FromHexError.TheVariants.{OddLength}
 use Rattle.hex.proofs.HexLemmas.{decode_pairs-ok}
-use Rattle.op_base.specs.Name.{same_text, is_key, is_value, kind_of, kind_part, key_part}
+use Rattle.op_base.specs.Name.{is_key, is_value, kind_of, kind_part, key_part}
 use Rattle.op_base.specs.Operation.{has_act}
 use Rattle.op_base.specs.Reading.{object_with, where_true}
 use Rattle.op_base.specs.Valid.{is_valid_act, is_valid_update}
@@ -17,7 +17,7 @@ use Rattle.op_base.specs.declared.name.Kind.TheVariants as kind
 use Rattle.op_base.specs.declared.name.ObjectId.{ObjectId}
 use Rattle.op_base.specs.declared.operation.Act.{Act}
 use Rattle.op_base.specs.declared.operation.Act.TheVariants as act
-use Rattle.script_lang.specs.Commands.{do_command, do_words, ask_words, give_words, resend_words, raw_words, settle_words, members_words, lone_member, words_behind, command_words, command_of, bad_line, run_or_bad, line_of}
+use Rattle.script_lang.specs.Commands.{do_command, do_words, ask_words, give_words, resend_words, raw_words, settle_words, members_words, stop_words, lone_member, verb_of, verb_words, words_behind, command_words, command_of, bad_line, run_or_bad, line_in}
 use Rattle.script_lang.specs.Fault.{◌>>=◌, most_line_bytes, number_of_fault}
 use Rattle.script_lang.specs.Names.{below, member_of, object_in, value_in, bytes_in, amount_in, size_in}
 use Rattle.script_lang.specs.Acts.{operation_in, set_act, flag_act, register_act, counter_act, clearable_act, kind_act, update_in}
@@ -31,13 +31,16 @@ use Rattle.script_lang.specs.declared.fault.Fault.TheVariants as fault
 use Rattle.script_lang.specs.declared.command.Command.{Command}
 use Rattle.script_lang.specs.declared.command.Command.TheVariants as command
 use Rattle.script_lang.specs.declared.command.Line.TheVariants as line
+use Rattle.script_lang.specs.declared.command.Verb.{Verb}
+use Rattle.script_lang.specs.declared.command.Verb.TheVariants as verbs
+use Rattle.script_lang.specs.declared.header.Mode.{Mode}
 
 -- a command can be run in a store of n members
 abbrev pub CanRun : ℕ → Command → Type 0
 CanRun n (command.Do r update) = (r < n) × IsTrue (is_valid_update update)
 CanRun n (command.Ask r object) = r < n
 CanRun n (command.Beat r) = r < n
-CanRun n (command.Give r k s) = r < n
+CanRun n (command.Give r k s) = (r < n) × (k < n)
 CanRun n (command.Resend r k) = r < n
 CanRun n (command.Raw r bytes) = (r < n) × All (λ b. b < 256) bytes
 CanRun n command.Settle = Unit {0}
@@ -48,13 +51,9 @@ CanRun n (command.Stable r) = r < n
 CanRun n (command.Seen r) = r < n
 CanRun n (command.Noops r) = r < n
 CanRun n (command.Lags r) = r < n
+CanRun n (command.Stop r b) = r < n
 
 -- ---- results that are read one behind another
-
--- of two verbs, by a test
-either_verb : {V : Type 0} (n : ℕ) (by : V → List (List ℕ) → Result Command Fault) (words : List (List ℕ)) (b : Bool) (x y : V) → IfOk (by x words) (CanRun n) → IfOk (by y words) (CanRun n) → IfOk (by (cond b x y) words) (CanRun n)
-either_verb n by words true x y p q = p
-either_verb n by words false x y p q = q
 
 module _ {A : Type 0} (P : A → Type 0) where
   -- of two results, by a test
@@ -211,7 +210,7 @@ module _ (n : ℕ) where
   give_can_run (a ∷ b ∷ []) = tt
   give_can_run (r ∷ k ∷ s ∷ []) =
       given Below (CanRun n) (member_of n r) _ (member n r) (λ r l. given Below (CanRun n) (member_of n k) _ (member n k) (λ k m.
-      given (λ a. IsTrue (nat_lt a 4294967296)) (CanRun n) (amount_in s) _ (amount s) (λ s t. l)))
+      given (λ a. IsTrue (nat_lt a 4294967296)) (CanRun n) (amount_in s) _ (amount s) (λ s t. (l, m))))
   give_can_run (a ∷ b ∷ c ∷ d ∷ words) = tt
 
   resend_can_run : (words : List (List ℕ)) → IfOk (resend_words n words) (CanRun n)
@@ -242,25 +241,41 @@ module _ (n : ℕ) where
   lone (r ∷ []) = member n r
   lone (a ∷ b ∷ words) = tt
 
+  stop_can_run : (words : List (List ℕ)) → IfOk (stop_words n words) (CanRun n)
+  stop_can_run [] = tt
+  stop_can_run (a ∷ []) = tt
+  stop_can_run (r ∷ b ∷ []) =
+      given Below (CanRun n) (member_of n r) _ (member n r) (λ r l. given (λ a. IsTrue (nat_lt a 4294967296)) (CanRun n) (amount_in b) _ (amount b) (λ b t. l))
+  stop_can_run (a ∷ b ∷ c ∷ words) = tt
+
+  lone_can_run : (make : ℕ → Command) → ((r : ℕ) → r < n → CanRun n (make r)) → (words : List (List ℕ)) → IfOk (lone_member n words >>= λ r. Ok (make r)) (CanRun n)
+  lone_can_run make can words = given Below (CanRun n) (lone_member n words) _ (lone words) can
+
   -- the words behind each verb
-  words_can_run : (words : List (List ℕ)) → IfOk (command_words n words) (CanRun n)
-  words_can_run [] = tt
-  words_can_run (word ∷ words) =
-      either_verb n (words_behind n) words (same_text (codes "do") word) _ _ (do_can_run words)
-      (either_verb n (words_behind n) words (same_text (codes "ask") word) _ _ (ask_can_run words)
-      (either_verb n (words_behind n) words (same_text (codes "beat") word) _ _ (given Below (CanRun n) (lone_member n words) _ (lone words) (λ r l. l))
-      (either_verb n (words_behind n) words (same_text (codes "give") word) _ _ (give_can_run words)
-      (either_verb n (words_behind n) words (same_text (codes "resend") word) _ _ (resend_can_run words)
-      (either_verb n (words_behind n) words (same_text (codes "raw") word) _ _ (raw_can_run words)
-      (either_verb n (words_behind n) words (same_text (codes "settle") word) _ _ (settle_can_run words)
-      (either_verb n (words_behind n) words (same_text (codes "members") word) _ _ (members_can_run words)
-      (either_verb n (words_behind n) words (same_text (codes "log") word) _ _ (given Below (CanRun n) (lone_member n words) _ (lone words) (λ r l. l))
-      (either_verb n (words_behind n) words (same_text (codes "size") word) _ _ (given Below (CanRun n) (lone_member n words) _ (lone words) (λ r l. l))
-      (either_verb n (words_behind n) words (same_text (codes "stable") word) _ _ (given Below (CanRun n) (lone_member n words) _ (lone words) (λ r l. l))
-      (either_verb n (words_behind n) words (same_text (codes "seen") word) _ _ (given Below (CanRun n) (lone_member n words) _ (lone words) (λ r l. l))
-      (either_verb n (words_behind n) words (same_text (codes "noops") word) _ _ (given Below (CanRun n) (lone_member n words) _ (lone words) (λ r l. l))
-      (either_verb n (words_behind n) words (same_text (codes "lags") word) _ _ (given Below (CanRun n) (lone_member n words) _ (lone words) (λ r l. l))
-      tt)))))))))))))
+  verb_can_run : (verb : Verb) (words : List (List ℕ)) → IfOk (verb_words n verb words) (CanRun n)
+  verb_can_run verbs.Do words = do_can_run words
+  verb_can_run verbs.Ask words = ask_can_run words
+  verb_can_run verbs.Beat words = lone_can_run command.Beat (λ r l. l) words
+  verb_can_run verbs.Give words = give_can_run words
+  verb_can_run verbs.Resend words = resend_can_run words
+  verb_can_run verbs.Raw words = raw_can_run words
+  verb_can_run verbs.Settle words = settle_can_run words
+  verb_can_run verbs.Members words = members_can_run words
+  verb_can_run verbs.Log words = lone_can_run command.Log (λ r l. l) words
+  verb_can_run verbs.Size words = lone_can_run command.Size (λ r l. l) words
+  verb_can_run verbs.Stable words = lone_can_run command.Stable (λ r l. l) words
+  verb_can_run verbs.Seen words = lone_can_run command.Seen (λ r l. l) words
+  verb_can_run verbs.Noops words = lone_can_run command.Noops (λ r l. l) words
+  verb_can_run verbs.Lags words = lone_can_run command.Lags (λ r l. l) words
+  verb_can_run verbs.Stop words = stop_can_run words
+
+  behind_can_run : (verb : Option Verb) (words : List (List ℕ)) → IfOk (words_behind n verb words) (CanRun n)
+  behind_can_run None words = tt
+  behind_can_run (Some verb) words = verb_can_run verb words
+
+  words_can_run : (mode : Mode) (words : List (List ℕ)) → IfOk (command_words mode n words) (CanRun n)
+  words_can_run mode [] = tt
+  words_can_run mode (word ∷ words) = behind_can_run (verb_of mode word) words
 
   not_bad : (o : Option ℕ) (c : Command) → bad_line o ≡ line.Run c → CanRun n c
   not_bad None c e = cc
@@ -272,6 +287,7 @@ module _ (n : ℕ) where
   runs false (Err why) c can e = not_bad (number_of_fault why) c e
 
   -- a line that is read as a command can be run
-  pub line_can_run : (bytes : List ℕ) (c : Command) → line_of n bytes ≡ line.Run c → CanRun n c
-  line_can_run bytes c e =
-      runs (is_passed_over bytes) (command_of n bytes) c (either (CanRun n) (nat_lt most_line_bytes (length bytes)) (Err fault.TooLong) (command_words n (words_of bytes)) tt (words_can_run (words_of bytes))) e
+  pub line_can_run : (mode : Mode) (bytes : List ℕ) (c : Command) → line_in mode n bytes ≡ line.Run c → CanRun n c
+  line_can_run mode bytes c e =
+      runs (is_passed_over bytes) (command_of mode n bytes) c
+      (either (CanRun n) (nat_lt most_line_bytes (length bytes)) (Err fault.TooLong) (command_words mode n (words_of bytes)) tt (words_can_run mode (words_of bytes))) e

@@ -14,12 +14,13 @@ use Rattle.world_model.specs.Offering.{offered_between, resent_of}
 use Rattle.world_model.specs.Raw.{read_at, raw_of}
 use Rattle.world_model.specs.Regrouping.{last_epoch, is_at_rest, next_world}
 use Rattle.world_model.specs.Settling.{world_settled, is_quiescent}
+use Rattle.world_model.specs.Stops.{PlainKeep, keep_give_of}
 use Rattle.world_model.specs.World.{PlainWorld, epoch_in, replica_of, sent_message, give_of}
 use Rattle.world_model.specs.declared.outcome.Regroup.{Regroup}
 use Rattle.world_model.specs.declared.outcome.Regroup.TheVariants as regroup
 use Rattle.world_model.specs.declared.outcome.Settle.TheVariants as settle
 use Rattle.script_net.specs.Commands.{local_reply, beat_reply, receive_reply, given_reply, resent_reply, raw_reply, settle_reply, regroup_reply}
-use Rattle.script_net.specs.Laws.{CommandsAreRepliedTo}
+use Rattle.script_net.specs.Laws.{CommandsAreRepliedTo, KeepCommandsAreRepliedTo}
 
 -- something is replied
 is_there : (reply : Reply) → Some reply ≢ None
@@ -86,3 +87,25 @@ commands_are_replied_to (command.Stable r) world = is_there _
 commands_are_replied_to (command.Seen r) world = is_there _
 commands_are_replied_to (command.Noops r) world = is_there _
 commands_are_replied_to (command.Lags r) world = is_there _
+commands_are_replied_to (command.Stop r b) world = is_there _
+
+keep_giving_is_replied_to : (keep : PlainKeep) (r : ℕ) (o : Option Message) → given_reply (keep_give_of r keep o).0 ≢ None
+keep_giving_is_replied_to keep r None = is_there _
+keep_giving_is_replied_to keep r (Some m) = message_is_replied_to keep.world r m
+
+pub keep_commands_are_replied_to : KeepCommandsAreRepliedTo
+keep_commands_are_replied_to (command.Do r update) keep = sending_is_replied_to _ _ _
+keep_commands_are_replied_to (command.Ask r object) keep = is_there _
+keep_commands_are_replied_to (command.Beat r) keep = beat_is_replied_to _ _ _ _
+keep_commands_are_replied_to (command.Give r k s) keep = keep_giving_is_replied_to keep r (sent_message keep.world k s)
+keep_commands_are_replied_to (command.Resend r k) keep = is_there _
+keep_commands_are_replied_to (command.Raw r bytes) keep = is_there _
+keep_commands_are_replied_to command.Settle keep = is_there _
+keep_commands_are_replied_to (command.Members n) keep = is_there _
+keep_commands_are_replied_to (command.Log r) keep = is_there _
+keep_commands_are_replied_to (command.Size r) keep = is_there _
+keep_commands_are_replied_to (command.Stable r) keep = is_there _
+keep_commands_are_replied_to (command.Seen r) keep = is_there _
+keep_commands_are_replied_to (command.Noops r) keep = is_there _
+keep_commands_are_replied_to (command.Lags r) keep = is_there _
+keep_commands_are_replied_to (command.Stop r b) keep = is_there _

@@ -1,6 +1,6 @@
 -- What a world that shows a plain world has of it: as many nodes as members, timestamps of as many numbers, and messages
 -- with a number of their origin.
-use Rattle.std.proofs.Common.{◌≡◌, ℕ, ◌<◌, ◌∙◌, Bool, true, false, cond, List, [], ◌∷◌, length, inl, inr, sym, ap, subst, arith}
+use Rattle.std.proofs.Common.{◌≡◌, ℕ, ◌<◌, ◌∙◌, Bool, true, false, cond, List, [], ◌∷◌, length, inl, inr, refl, sym, ap, subst, arith}
 use Rattle.std.proofs.Math.Logic.{∥∥₁_elim}
 use Rattle.std.proofs.Props.{props}
 use Rattle.std.proofs.lemmas.List.{set-get_or, length-map}
@@ -70,46 +70,56 @@ own_has_number plain r o w l =
     let is = w.replicas r l in
     omega (arith, length-next_tag p.n p.me p.messages, is.of_store, is.of_member)
 
+module _ (plain : PlainWorld) (r : ℕ) (is : IsWorld plain) (l : r < size_of plain) where
+  -- so has a message that is sent by the rule
+  pub local_numbered : (update : Update) (m : Message) → local.Sent m ≡ (local_at r update plain).0 → m.origin < length m.tag
+  local_numbered update m e = subst (λ (m : Message). m.origin < length m.tag) (sent_own _ _ _ m (sym e)) (own_has_number plain r (op.Update update) is l)
+
+  pub beat_numbered : (m : Message) → beat.Sent m ≡ (beat_at r plain).0 → m.origin < length m.tag
+  beat_numbered m e = subst (λ (m : Message). m.origin < length m.tag) (beaten_own _ _ _ _ m (sym e)) (own_has_number plain r op.NoOp is l)
+
+-- what is answered has numbers, where a message that is sent has one
+pub local_numbers : (answer : Local) → ((m : Message) → answer ≡ local.Sent m → m.origin < length m.tag) → HaveNumbers (local_messages answer)
+local_numbers (local.Sent m) sent = one_number m (sent m refl)
+local_numbers local.Busy sent = All-nil (λ (m : Message). m.origin < length m.tag)
+local_numbers local.End sent = All-nil (λ (m : Message). m.origin < length m.tag)
+local_numbers local.NoMemory sent = All-nil (λ (m : Message). m.origin < length m.tag)
+
+pub beat_numbers : (answer : Beat) → ((m : Message) → answer ≡ beat.Sent m → m.origin < length m.tag) → HaveNumbers (beat_messages answer)
+beat_numbers (beat.Sent m) sent = one_number m (sent m refl)
+beat_numbers beat.Quiet sent = All-nil (λ (m : Message). m.origin < length m.tag)
+beat_numbers beat.Held sent = All-nil (λ (m : Message). m.origin < length m.tag)
+beat_numbers beat.End sent = All-nil (λ (m : Message). m.origin < length m.tag)
+beat_numbers beat.NoMemory sent = All-nil (λ (m : Message). m.origin < length m.tag)
+
 module _ (world : World) (r : ℕ) (l : r < length world.nodes.items) where
+  inside : (plain : PlainWorld) → ShowsPlain world plain → r < size_of plain
+  inside plain shows = subst (λ n. r < n) (as_many_nodes world plain shows) l
+
   -- a message that a world sends has a number of its origin
   pub local_has_number : (update : Update) (answer : Local) (new : World) → Follows ShowsPlain local.NoMemory is_sent (local_at r update) world answer new → HaveNumbers (local_messages answer)
-  local_has_number update (local.Sent m) new follows =
-      one_number m (∥∥₁_elim world.shows (search props) (λ shown.
-      let plain = shown.0 in
-      let inside : r < size_of plain = subst (λ n. r < n) (as_many_nodes world plain shown.1) l in
-      elim (follows plain shown.1) [
-        | inl a ↦ subst (λ (m : Message). m.origin < length m.tag) (sent_own _ _ _ m (sym a.0)) (own_has_number plain r (op.Update update) shown.1.is_world inside)
-        | inr a ↦ cc (a.0)
+  local_has_number update answer new follows =
+      local_numbers answer (λ m sent. ∥∥₁_elim world.shows (search props) (λ shown.
+      elim (follows shown.0 shown.1) [
+        | inl a ↦ local_numbered shown.0 r shown.1.is_world (inside shown.0 shown.1) update m (sym sent ∙ a.0)
+        | inr a ↦ cc (a.0, sent)
       ]))
-  local_has_number update local.Busy new follows = All-nil (λ (m : Message). m.origin < length m.tag)
-  local_has_number update local.End new follows = All-nil (λ (m : Message). m.origin < length m.tag)
-  local_has_number update local.NoMemory new follows = All-nil (λ (m : Message). m.origin < length m.tag)
 
   pub beat_has_number : (answer : Beat) (new : World) → Follows ShowsPlain beat.NoMemory is_beat (beat_at r) world answer new → HaveNumbers (beat_messages answer)
-  beat_has_number (beat.Sent m) new follows =
-      one_number m (∥∥₁_elim world.shows (search props) (λ shown.
-      let plain = shown.0 in
-      let inside : r < size_of plain = subst (λ n. r < n) (as_many_nodes world plain shown.1) l in
-      elim (follows plain shown.1) [
-        | inl a ↦ subst (λ (m : Message). m.origin < length m.tag) (beaten_own _ _ _ _ m (sym a.0)) (own_has_number plain r op.NoOp shown.1.is_world inside)
-        | inr a ↦ cc (a.0)
+  beat_has_number answer new follows =
+      beat_numbers answer (λ m sent. ∥∥₁_elim world.shows (search props) (λ shown.
+      elim (follows shown.0 shown.1) [
+        | inl a ↦ beat_numbered shown.0 r shown.1.is_world (inside shown.0 shown.1) m (sym sent ∙ a.0)
+        | inr a ↦ cc (a.0, sent)
       ]))
-  beat_has_number beat.Quiet new follows = All-nil (λ (m : Message). m.origin < length m.tag)
-  beat_has_number beat.Held new follows = All-nil (λ (m : Message). m.origin < length m.tag)
-  beat_has_number beat.End new follows = All-nil (λ (m : Message). m.origin < length m.tag)
-  beat_has_number beat.NoMemory new follows = All-nil (λ (m : Message). m.origin < length m.tag)
 
   -- what a world shows to be stable and seen has a number for each node
   pub stable_is_long : (tag : List ℕ) → ((plain : PlainWorld) → ShowsPlain world plain → tag ≡ stable_at plain r) → length tag ≡ length world.nodes.items
   stable_is_long tag is =
       ∥∥₁_elim world.shows (search props) (λ shown.
-      let plain = shown.0 in
-      let many = as_many_nodes world plain shown.1 in
-      ap length (is plain shown.1) ∙ length-stable_at plain r shown.1.is_world (subst (λ n. r < n) many l) ∙ sym many)
+      ap length (is shown.0 shown.1) ∙ length-stable_at shown.0 r shown.1.is_world (inside shown.0 shown.1) ∙ sym (as_many_nodes world shown.0 shown.1))
 
   pub seen_is_long : (tag : List ℕ) → ((plain : PlainWorld) → ShowsPlain world plain → tag ≡ seen_at plain r) → length tag ≡ length world.nodes.items
   seen_is_long tag is =
       ∥∥₁_elim world.shows (search props) (λ shown.
-      let plain = shown.0 in
-      let many = as_many_nodes world plain shown.1 in
-      ap length (is plain shown.1) ∙ length-seen_at plain r shown.1.is_world (subst (λ n. r < n) many l) ∙ sym many)
+      ap length (is shown.0 shown.1) ∙ length-seen_at shown.0 r shown.1.is_world (inside shown.0 shown.1) ∙ sym (as_many_nodes world shown.0 shown.1))

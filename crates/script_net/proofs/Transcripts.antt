@@ -10,12 +10,12 @@ use Rattle.frame_codec.specs.declared.fault.FrameFault.{FrameFault}
 use Rattle.world_model.specs.Raw.{read_at, raw_of}
 use Rattle.world_model.specs.World.{PlainWorld, replica_of, with_state}
 use Rattle.script_net.specs.Commands.{receive_reply, raw_reply}
-use Rattle.script_net.specs.Laws.{OneLineMoreReplies, OneLineMoreLeaves, is_refusal, RefusedBytesChangeNothing, RefusedBytesGo}
-use Rattle.script_net.specs.Transcript.{line_world, text_of_line, world_of_line, replies_to, world_after}
+use Rattle.script_net.specs.Laws.{line_world, store_of_line, store_after, OneLineMoreReplies, OneLineMoreLeaves, is_refusal, RefusedBytesChangeNothing, RefusedBytesGo}
+use Rattle.script_net.specs.Transcript.{AnyPlain, OfStore, text_of_line, world_of_line, replies_to, world_after}
 use Rattle.script_net.proofs.Shown.{same_state}
 
 -- the replies to two runs of lines, one behind the other
-pub replies-append : (world : PlainWorld) (lines more : List (List ℕ)) → replies_to world (lines ++ more) ≡ replies_to world lines ++ replies_to (world_after world lines) more
+pub replies-append : (world : AnyPlain) (lines more : List (List ℕ)) → replies_to world (lines ++ more) ≡ replies_to world lines ++ replies_to (world_after world lines) more
 replies-append world [] more = refl
 replies-append world (line ∷ lines) more =
     ap (λ text. text_of_line world line ++ text) (replies-append (world_of_line world line) lines more)
@@ -47,10 +47,17 @@ refused_bytes world r (Ok m) t = refused_offer world r m (refusal_of world.w (re
 pub refused_bytes_change_nothing : RefusedBytesChangeNothing
 refused_bytes_change_nothing world line r bytes e t = ap (line_world world) e ∙ refused_bytes world r (read_at world r bytes) t
 
+-- lines in a store lead to the plain world of that store
+after_store : (world : PlainWorld) (lines : List (List ℕ)) → world_after (OfStore world) lines ≡ OfStore (store_after world lines)
+after_store world [] = refl
+after_store world (line ∷ lines) = after_store (store_of_line world line) lines
+
 pub refused_bytes_go : RefusedBytesGo
 refused_bytes_go world before after line r bytes e t =
-    let here = world_after world before in (
-      replies-append world before (line ∷ after)
-          ∙ ap (λ then. replies_to world before ++ (text_of_line here line ++ replies_to then after)) (refused_bytes_change_nothing here line r bytes e t),
-      replies-append world before after,
+    let here = store_after world before in
+    let behind : ((lines : List (List ℕ)) → replies_to (OfStore world) (before ++ lines) ≡ replies_to (OfStore world) before ++ replies_to (OfStore here) lines) =
+    λ lines. replies-append (OfStore world) before lines ∙ ap (λ there. replies_to (OfStore world) before ++ replies_to there lines) (after_store world before) in (
+      behind (line ∷ after)
+          ∙ ap (λ then. replies_to (OfStore world) before ++ (text_of_line (OfStore here) line ++ replies_to (OfStore then) after)) (refused_bytes_change_nothing here line r bytes e t),
+      behind after,
     )

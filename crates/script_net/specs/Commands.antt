@@ -1,4 +1,4 @@
--- What each command of a script does to a plain world, and what is replied.
+-- What each command of a script does to a plain world or to a plain keep world, and what is replied.
 use Rattle.std.specs.Prelude.{Option, Some, None}
 use Rattle.op_base.specs.Message.{number}
 use Rattle.causal_model.specs.declared.outcome.Beat.{Beat as ABeat}
@@ -9,7 +9,7 @@ use Rattle.causal_model.specs.declared.outcome.Receive.{Receive}
 use Rattle.causal_model.specs.declared.outcome.Receive.TheVariants as receive
 use Rattle.frame_codec.specs.Fault.{fault_number}
 use Rattle.script_lang.specs.declared.command.Command.{Command}
-use Rattle.script_lang.specs.declared.command.Command.TheVariants.{Do, Ask, Beat, Give, Resend, Raw, Settle, Members, Log, Size, Stable, Seen, Noops, Lags}
+use Rattle.script_lang.specs.declared.command.Command.TheVariants.{Do, Ask, Beat, Give, Resend, Raw, Settle, Members, Log, Size, Stable, Seen, Noops, Lags, Stop}
 use Rattle.script_lang.specs.declared.reply.Reply.{Reply}
 use Rattle.script_lang.specs.declared.reply.Reply.TheVariants as reply
 use Rattle.world_model.specs.World.{PlainWorld, size_of, local_at, beat_at, give_at}
@@ -17,6 +17,7 @@ use Rattle.world_model.specs.Offering.{resend_at}
 use Rattle.world_model.specs.Raw.{raw_at}
 use Rattle.world_model.specs.Regrouping.{regroup_at}
 use Rattle.world_model.specs.Settling.{settle_at}
+use Rattle.world_model.specs.Stops.{PlainKeep, keep_local_at, keep_beat_at, keep_give_at, keep_stop_at}
 use Rattle.world_model.specs.Showing.{answer_at, log_at, entries_at, items_at, stable_at, seen_at, noops_at, lags_at}
 use Rattle.world_model.specs.declared.outcome.Given.{Given}
 use Rattle.world_model.specs.declared.outcome.Given.TheVariants as given
@@ -86,6 +87,10 @@ regroup_reply regroup.Unsettled = Some reply.Unsettled
 regroup_reply regroup.Last = Some reply.Last
 regroup_reply regroup.NoMemory = None
 
+-- to a command that scripts of this header don't have, of which no line is one: as to a line whose first word is no command's
+abbrev pub no_command : Option Reply
+no_command = Some (reply.Bad 2)
+
 -- ---- commands
 
 -- the reply to a command in a plain world, and the plain world after it
@@ -104,3 +109,17 @@ command_at (Stable r) world = (Some (reply.Stable (size_of world) (stable_at wor
 command_at (Seen r) world = (Some (reply.Seen (size_of world) (seen_at world r)), world)
 command_at (Noops r) world = (Some (reply.Noops (noops_at world r)), world)
 command_at (Lags r) world = (Some (reply.Lags (lags_at world r)), world)
+command_at (Stop r b) world = (no_command, world)
+
+-- the same in a plain keep world
+abbrev pub keep_command_at : Command → PlainKeep → Option Reply × PlainKeep
+keep_command_at (Do r update) keep = let made = keep_local_at r update keep in (local_reply made.0, made.1)
+keep_command_at (Ask r object) keep = (Some (reply.Is (answer_at keep.world r object)), keep)
+keep_command_at (Beat r) keep = let made = keep_beat_at r keep in (beat_reply made.0, made.1)
+keep_command_at (Give r k s) keep = let made = keep_give_at r k s keep in (given_reply made.0, made.1)
+keep_command_at (Log r) keep = (Some (reply.Log (log_at keep.world r)), keep)
+keep_command_at (Size r) keep = (Some (reply.Size (entries_at keep.world r) (items_at keep.world r)), keep)
+keep_command_at (Stable r) keep = (Some (reply.Stable (size_of keep.world) (stable_at keep.world r)), keep)
+keep_command_at (Seen r) keep = (Some (reply.Seen (size_of keep.world) (seen_at keep.world r)), keep)
+keep_command_at (Stop r b) keep = let made = keep_stop_at r b keep in (Some (reply.Open made.0), made.1)
+keep_command_at other keep = (no_command, keep)

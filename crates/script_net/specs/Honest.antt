@@ -1,7 +1,6 @@
 -- Scripts in which no line offers bytes, so that no frame is forged: what is replied to them.
 use Rattle.std.specs.Prelude.{◌≡◌, ℕ, Bool, true, false, not, IsTrue, All, List, [], ◌∷◌, Option, Some, None}
 use Rattle.std.specs.List.{list_all, flat_map}
-use Rattle.script_lang.specs.Commands.{line_of}
 use Rattle.script_lang.specs.Headers.{header_of}
 use Rattle.script_lang.specs.declared.command.Line.{Line}
 use Rattle.script_lang.specs.declared.command.Line.TheVariants.{Run}
@@ -9,9 +8,8 @@ use Rattle.script_lang.specs.declared.command.Command.TheVariants.{Raw}
 use Rattle.script_lang.specs.declared.reply.Reply.{Reply}
 use Rattle.script_lang.specs.declared.reply.Reply.TheVariants.{Far, Held, Unsettled, Took}
 use Rattle.world_model.specs.Settling.{is_delivery}
-use Rattle.world_model.specs.World.{PlainWorld, size_of}
 use Rattle.script_net.specs.Lines.{lines_of, from_command}
-use Rattle.script_net.specs.Transcript.{line_reply, reply_text, world_of_line, changes_members, opened}
+use Rattle.script_net.specs.Transcript.{AnyPlain, line_read, replied_at, reply_text, world_of_line, changes_members, opened}
 
 -- ---- lines with their replies
 
@@ -21,14 +19,12 @@ pub record Exchange : Type 0 where
   pub reply : Option Reply
 
 -- those of lines, each in the plain world before it
-abbrev pub exchanges : PlainWorld → List (List ℕ) → List Exchange
+abbrev pub exchanges : AnyPlain → List (List ℕ) → List Exchange
 exchanges world [] = []
-exchanges world (bytes ∷ lines) =
-    let line = line_of (size_of world) bytes in
-    record { line = line; reply = line_reply world line } ∷ exchanges (world_of_line world bytes) lines
+exchanges world (bytes ∷ lines) = record { line = line_read world bytes; reply = (replied_at bytes world).0 } ∷ exchanges (world_of_line world bytes) lines
 
 -- those of the lines behind a header, and none without one
-abbrev pub exchanges_behind : Option PlainWorld → List (List ℕ) → List Exchange
+abbrev pub exchanges_behind : Option AnyPlain → List (List ℕ) → List Exchange
 exchanges_behind None lines = []
 exchanges_behind (Some world) lines = exchanges world lines
 

@@ -53,3 +53,13 @@ abbrev pub MembersChange : Type 0
 MembersChange = IsRepliedTo
     (codes "store 1 1" ∷ codes "do 0 counter:a inc 5" ∷ codes "members 2" ∷ codes "ask 1 counter:a" ∷ codes "do 1 counter:a inc 1" ∷ codes "members 1" ∷ [])
     (codes "ok 1" ∷ codes "epoch 1" ∷ codes "= 5" ∷ codes "ok 1" ∷ codes "unsettled" ∷ [])
+
+-- a replica forgets what it heard where a stop leaves a byte less than its record, and not where it leaves all; what such scripts
+-- don't have is no command, and a stop is none in others
+abbrev pub ReplicasAreStopped : Type 0
+ReplicasAreStopped = IsRepliedTo
+    (codes "keep 2 2" ∷ codes "do 0 counter:c inc 5" ∷ codes "give 1 0 1" ∷ codes "stop 1 27" ∷ codes "ask 1 counter:c" ∷ codes "give 1 0 1" ∷ codes "stop 1 28" ∷ codes "ask 1 counter:c" ∷ codes "settle" ∷ [])
+    (codes "ok 1" ∷ codes "took 0:1" ∷ codes "open 0" ∷ codes "= 0" ∷ codes "took 0:1" ∷ codes "open 2" ∷ codes "= 5" ∷ codes "bad 2" ∷ [])
+
+abbrev pub NoStoreIsStopped : Type 0
+NoStoreIsStopped = IsRepliedTo (codes "store 2 2" ∷ codes "stop 0 0" ∷ []) (codes "bad 2" ∷ [])

@@ -1,7 +1,7 @@
 //! Laws of transcripts. Each is the contract of a function that does nothing.
 
-ghost use Rattle.script_net.specs.Laws.{CommandsAreRepliedTo, ScriptsKeepWorlds, MembersAreAsked, MembersStay, LogsAreBounded, BusyIsExact, EqualEventsAnswerAlike, OneLineMoreReplies, OneLineMoreLeaves, RefusedBytesChangeNothing, RefusedBytesGo};
-ghost use Rattle.script_net.specs.HonestLaws.{ScriptsAreHonest, TranscriptsAreFair};
+ghost use Rattle.script_net.specs.Laws.{CommandsAreRepliedTo, ScriptsKeepWorlds, MembersAreAsked, MembersStay, LogsAreBounded, KeepCommandsAreRepliedTo, BusyIsExact, EqualEventsAnswerAlike, OneLineMoreReplies, OneLineMoreLeaves, RefusedBytesChangeNothing, RefusedBytesGo};
+ghost use Rattle.script_net.specs.HonestLaws.{ScriptsAreHonest, KeepScriptsAreHonest, TranscriptsAreFair};
 
 /// Behind a header each line of a script leaves a world of the header's store, whose logs are bounded. A change of
 /// members that is replied to by an epoch leaves as many as it asks for, in that epoch; a line that asks for none leaves them.
@@ -16,6 +16,7 @@ pub fn scripts_keep_worlds()
 /// by replicas of the same events, at one point of a script or at two.
 pub fn lines_are_replied_to()
     ensures each { CommandsAreRepliedTo }
+    ensures each_kept { KeepCommandsAreRepliedTo }
     ensures busy { BusyIsExact }
     ensures answers { EqualEventsAnswerAlike }
 {}
@@ -33,8 +34,10 @@ pub fn refused_bytes_change_nothing()
 {}
 
 /// Where no line offers bytes the world is honest after every line, and no reply tells of a message that is far or dropped, of
-/// a beat that is held or of a store that didn't settle. That the store hasn't settled may be told to a change of members.
+/// a beat that is held or of a store that didn't settle. That the store hasn't settled may be told to a change of members. So
+/// it is where replicas are stopped, since no line of such a script offers bytes.
 pub fn unforged_scripts_are_honest()
     ensures worlds { ScriptsAreHonest }
+    ensures stops { KeepScriptsAreHonest }
     ensures fair { TranscriptsAreFair }
 {}

@@ -3,6 +3,7 @@
 //! Scripts are this project's own profile.
 #![tactic(auto)]
 
+mod keep;
 pub mod laws;
 mod reply;
 mod runner;
@@ -10,4 +11,4 @@ mod runner;
 mod tests;
 pub mod worked;
 
-pub use runner::Runner;
+pub use runner::{AnyWorld, Runner};

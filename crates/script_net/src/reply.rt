@@ -15,6 +15,9 @@ use script_lang::{Command, Reply};
 use std::alloc::Global;
 use world::{Given, RawGot, Regroup, Resent, Settle, World};
 
+/// The reply to a command that scripts of a header don't have. No line is read as one.
+pub const NO_COMMAND: Reply = Reply::Bad(2);
+
 /// Runs a command. On `NoMemory` nothing is replied, and the world may stand in the midst of the command.
 ///
 /// Each command has a function of its own, so that none pays for what another has in its frame.
@@ -38,6 +41,7 @@ pub fn reply_to(alloc: Global, world: &mut World, command: &Command) -> Result<R
         Command::Seen { r } => Ok(seen_reply(world, *r)),
         Command::Noops { r } => Ok(Reply::Noops(world.noops(*r))),
         Command::Lags { r } => Ok(Reply::Lags(world.lags(*r))),
+        Command::Stop { .. } => Ok(NO_COMMAND),
     }
 }
 
@@ -176,7 +180,7 @@ pub fn members(world: &World) -> u8
 }
 
 /// The reply to what was sent.
-fn local_reply(answer: &Local) -> Result<Reply, NoMemory>
+pub fn local_reply(answer: &Local) -> Result<Reply, NoMemory>
     requires { HaveNumbers (local_messages answer.now) }
     ensures told { IsReply (local_reply answer.now) result }
     ensures entries { IfOk result HasItsEntries }
@@ -190,7 +194,7 @@ fn local_reply(answer: &Local) -> Result<Reply, NoMemory>
 }
 
 /// The reply to a beat.
-fn beat_reply(answer: &Beat) -> Result<Reply, NoMemory>
+pub fn beat_reply(answer: &Beat) -> Result<Reply, NoMemory>
     requires { HaveNumbers (beat_messages answer.now) }
     ensures told { IsReply (beat_reply answer.now) result }
     ensures entries { IfOk result HasItsEntries }
@@ -220,7 +224,7 @@ fn receive_reply(answer: Receive) -> Result<Reply, NoMemory>
 }
 
 /// The reply to a message that was given.
-fn given_reply(answer: Given) -> Result<Reply, NoMemory>
+pub fn given_reply(answer: Given) -> Result<Reply, NoMemory>
     ensures told { IsReply (given_reply answer) result }
     ensures entries { IfOk result HasItsEntries }
 {

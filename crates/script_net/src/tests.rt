@@ -2,12 +2,15 @@
 
 mod changes;
 mod scripts;
+mod stops;
 
 use crate::Runner;
 use crate::tests::changes::CHANGES;
 use crate::tests::scripts::{LIMIT, SCRIPTS, Script};
+use crate::tests::stops::STOPS;
 use op_base::{NoMemory, Text};
 use replica_core::CreateFault;
+use script_lang::Mode;
 use std::alloc::Global;
 use std::test::Fail;
 
@@ -35,12 +38,22 @@ fn first_wrong<'a>(
     Ok(None)
 }
 
-/// Runs scripts, and gives the first line that has another reply than the one beside it.
-fn first_wrong_of(alloc: Global, scripts: &[Script]) -> Result<Option<&'static str>, Fail> {
+/// The run of a script of a mode.
+fn open(alloc: Global, mode: Mode, script: &Script) -> Result<Runner, CreateFault> {
+    match mode {
+        Mode::Store => Runner::create(alloc, script.n, script.w, script.limit),
+        Mode::Keep => Runner::create_keep(alloc, script.n, script.w, script.limit),
+    }
+}
+
+/// Runs scripts of a mode, and gives the first line that has another reply than the one beside it.
+fn first_wrong_of(
+    alloc: Global,
+    mode: Mode,
+    scripts: &[Script],
+) -> Result<Option<&'static str>, Fail> {
     for script in scripts {
-        let mut runner = Runner::create(alloc, script.n, script.w, script.limit)
-            .ok()
-            .ok_or("there is memory")?;
+        let mut runner = open(alloc, mode, script).ok().ok_or("there is memory")?;
         let wrong = first_wrong(alloc, &mut runner, script.rows)?;
         if wrong.is_some() {
             return Ok(wrong);
@@ -60,13 +73,19 @@ fn run_of_two(alloc: Global) -> Result<Runner, Fail> {
 
 #[test]
 fn each_line_has_its_reply(rt: HostRuntime) -> Result<(), Fail> {
-    assert_eq!(rt; first_wrong_of(rt.alloc(), &SCRIPTS)?, None);
+    assert_eq!(rt; first_wrong_of(rt.alloc(), Mode::Store, &SCRIPTS)?, None);
     Ok(())
 }
 
 #[test]
 fn members_change(rt: HostRuntime) -> Result<(), Fail> {
-    assert_eq!(rt; first_wrong_of(rt.alloc(), &CHANGES)?, None);
+    assert_eq!(rt; first_wrong_of(rt.alloc(), Mode::Store, &CHANGES)?, None);
+    Ok(())
+}
+
+#[test]
+fn durable_replicas_are_stopped(rt: HostRuntime) -> Result<(), Fail> {
+    assert_eq!(rt; first_wrong_of(rt.alloc(), Mode::Keep, &STOPS)?, None);
     Ok(())
 }
 

@@ -1,6 +1,6 @@
 //! Worked transcripts: that the definition means what was meant. Each is the contract of a function that does nothing.
 
-ghost use Rattle.script_net.specs.Worked.{OneMemberCounts, AMessageIsTaken, AWindowIsFull, BytesAreNoFrame, AMessageIsDropped, LinesArePassedOver, MembersChange};
+ghost use Rattle.script_net.specs.Worked.{OneMemberCounts, AMessageIsTaken, AWindowIsFull, BytesAreNoFrame, AMessageIsDropped, LinesArePassedOver, MembersChange, ReplicasAreStopped, NoStoreIsStopped};
 
 /// One member counts, and is asked.
 pub fn one_member_counts()
@@ -35,4 +35,10 @@ pub fn lines_are_passed_over()
 /// A member comes, and can't go until its update is stable.
 pub fn members_change()
     ensures { MembersChange }
+{}
+
+/// A replica that is stopped forgets what wasn't synced, but for whole records that outlive it.
+pub fn replicas_are_stopped()
+    ensures stopped { ReplicasAreStopped }
+    ensures store { NoStoreIsStopped }
 {}

@@ -4,10 +4,9 @@ use Rattle.std.specs.Prelude.{is_none}
 use Rattle.std.proofs.lemmas.List.{append-nil}
 use Rattle.script_lang.specs.Words.{is_passed_over}
 use Rattle.script_lang.specs.Headers.{header_of}
-use Rattle.world_model.specs.World.{PlainWorld}
 use Rattle.script_net.specs.Lines.{from_command}
 use Rattle.script_net.specs.Runs.{RunsIn}
-use Rattle.script_net.specs.Transcript.{opened, replies_to, replies_behind, world_after, world_of_line, text_of_line, transcript_from, transcript_of}
+use Rattle.script_net.specs.Transcript.{AnyPlain, opened, replies_to, replies_behind, world_after, world_of_line, text_of_line, transcript_from, transcript_of}
 use Rattle.script_net.specs.declared.runner.Runner.{Runner}
 use Rattle.store_program.specs.declared.feed.Stage.{Stage}
 use Rattle.store_program.specs.declared.feed.Stage.TheVariants.{Opening, Running}
@@ -30,18 +29,18 @@ module _ (done : List (List ℕ)) (line : List ℕ) (none : from_command done �
   pub refused_here : is_passed_over line ≡ false → opened (header_of line) ≡ None → lacks_header is_no_script false (from_command (done ++ line ∷ [])) ≡ true
   refused_here command refused = ap (lacks_header is_no_script false) (begins_here command) ∙ ap is_none refused
 
-  pub opens_here : (runner : Runner) (plain : PlainWorld) → is_passed_over line ≡ false → opened (header_of line) ≡ Some plain → RunsIn runner plain → StandsBehind runner (done ++ line ∷ [])
+  pub opens_here : (runner : Runner) (plain : AnyPlain) → is_passed_over line ≡ false → opened (header_of line) ≡ Some plain → RunsIn runner plain → StandsBehind runner (done ++ line ∷ [])
   opens_here runner plain command opens runs = record { header = line; behind = []; plain = plain; begins = begins_here command; opens = opens; runs = runs }
 
-  pub opens_text : (plain : PlainWorld) → is_passed_over line ≡ false → opened (header_of line) ≡ Some plain → transcript_of done ≡ transcript_of (done ++ line ∷ [])
-  opens_text plain command opens = ap transcript_from none ∙ sym (ap transcript_from (begins_here command) ∙ ap (λ (o : Option PlainWorld). replies_behind o []) opens)
+  pub opens_text : (plain : AnyPlain) → is_passed_over line ≡ false → opened (header_of line) ≡ Some plain → transcript_of done ≡ transcript_of (done ++ line ∷ [])
+  opens_text plain command opens = ap transcript_from none ∙ sym (ap transcript_from (begins_here command) ∙ ap (λ (o : Option AnyPlain). replies_behind o []) opens)
 
 -- ---- behind the header
 
 -- the transcript of lines with a header is the replies to those behind it
-replies_are : (lines : List (List ℕ)) (header : List ℕ) (behind : List (List ℕ)) (plain : PlainWorld) → from_command lines ≡ header ∷ behind → opened (header_of header) ≡ Some plain
+replies_are : (lines : List (List ℕ)) (header : List ℕ) (behind : List (List ℕ)) (plain : AnyPlain) → from_command lines ≡ header ∷ behind → opened (header_of header) ≡ Some plain
     → transcript_of lines ≡ replies_to plain behind
-replies_are lines header behind plain begins opens = ap transcript_from begins ∙ ap (λ (o : Option PlainWorld). replies_behind o behind) opens
+replies_are lines header behind plain begins opens = ap transcript_from begins ∙ ap (λ (o : Option AnyPlain). replies_behind o behind) opens
 
 module _ (done : List (List ℕ)) (line : List ℕ) (old : Runner) (stands : StandsBehind old done) where
   pub runs_on : (new : Runner) → RunsIn new (world_of_line (world_after stands.plain stands.behind) line) → StandsBehind new (done ++ line ∷ [])
@@ -51,7 +50,7 @@ module _ (done : List (List ℕ)) (line : List ℕ) (old : Runner) (stands : Sta
     plain = stands.plain;
     begins = from_command-more done (line ∷ []) stands.header stands.behind stands.begins;
     opens = stands.opens;
-    runs = subst (λ (world : PlainWorld). RunsIn new world) (sym (world_more stands.plain stands.behind line)) runs;
+    runs = subst (λ (world : AnyPlain). RunsIn new world) (sym (world_more stands.plain stands.behind line)) runs;
   }
 
   pub runs_text : (written before after : List ℕ) → written ++ before ≡ transcript_of done → after ≡ before ++ text_of_line (world_after stands.plain stands.behind) line

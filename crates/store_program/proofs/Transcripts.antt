@@ -4,9 +4,8 @@ use Rattle.std.specs.Prelude.{is_none}
 use Rattle.script_lang.specs.Words.{is_passed_over}
 use Rattle.script_lang.specs.Headers.{header_of}
 use Rattle.script_lang.specs.declared.header.Header.{Header}
-use Rattle.world_model.specs.World.{PlainWorld}
 use Rattle.script_net.specs.Lines.{from_command}
-use Rattle.script_net.specs.Transcript.{opened, replies_to, replies_behind, world_after, world_of_line, text_of_line, transcript_from, transcript_of}
+use Rattle.script_net.specs.Transcript.{AnyPlain, opened, replies_to, replies_behind, world_after, world_of_line, text_of_line, transcript_from, transcript_of}
 use Rattle.store_program.specs.Run.{is_no_script, lacks_header, TookFront}
 
 -- where lines are all passed over, those behind them begin
@@ -32,13 +31,13 @@ pub from_command-first : (line : List ℕ) → is_passed_over line ≡ false →
 from_command-first line passed = rw passed refl
 
 -- the replies to more lines stand behind the replies to lines
-pub replies_more : (world : PlainWorld) (lines more : List (List ℕ)) → replies_to world (lines ++ more) ≡ replies_to world lines ++ replies_to (world_after world lines) more
+pub replies_more : (world : AnyPlain) (lines more : List (List ℕ)) → replies_to world (lines ++ more) ≡ replies_to world lines ++ replies_to (world_after world lines) more
 replies_more world [] more = refl
 replies_more world (line ∷ lines) more =
     ap (λ (text : List ℕ). text_of_line world line ++ text) (replies_more (world_of_line world line) lines more)
     ∙ sym (append_assoc (text_of_line world line) (replies_to (world_of_line world line) lines) (replies_to (world_after (world_of_line world line) lines) more))
 
-pub world_more : (world : PlainWorld) (lines : List (List ℕ)) (line : List ℕ) → world_after world (lines ++ line ∷ []) ≡ world_of_line (world_after world lines) line
+pub world_more : (world : AnyPlain) (lines : List (List ℕ)) (line : List ℕ) → world_after world (lines ++ line ∷ []) ≡ world_of_line (world_after world lines) line
 world_more world [] line = refl
 world_more world (first ∷ lines) line = world_more (world_of_line world first) lines line
 
@@ -47,7 +46,7 @@ pub record IsFront (front text : List ℕ) : Type 0 where
   pub behind : List ℕ
   pub parts : front ++ behind ≡ text
 
-behind_header : (o : Option PlainWorld) (lines more : List (List ℕ)) → IsFront (replies_behind o lines) (replies_behind o (lines ++ more))
+behind_header : (o : Option AnyPlain) (lines more : List (List ℕ)) → IsFront (replies_behind o lines) (replies_behind o (lines ++ more))
 behind_header None lines more = record { behind = []; parts = refl }
 behind_header (Some world) lines more = record { behind = replies_to (world_after world lines) more; parts = sym (replies_more world lines more) }
 
@@ -78,7 +77,7 @@ lacks_more is_none_of ended (x ∷ xs) more = elim (is_passed_over x) as (λ v. 
       | false ↦ λ e. e
     ]
 
-no_replies : (o : Option PlainWorld) (lines : List (List ℕ)) → is_none o ≡ true → replies_behind o lines ≡ []
+no_replies : (o : Option AnyPlain) (lines : List (List ℕ)) → is_none o ≡ true → replies_behind o lines ≡ []
 no_replies None lines e = refl
 no_replies (Some world) lines e = absurd cc
 
@@ -90,7 +89,7 @@ lacks_silent (x ∷ xs) more = elim (is_passed_over x) as (λ v. lacks_header is
   | false ↦ λ e. no_replies (opened (header_of x)) xs e
 ]
 
-header_behind : (o : Option PlainWorld) (lines : List (List ℕ)) → (replies_behind o lines ≡ [] → ⊥) → is_none o ≡ false
+header_behind : (o : Option AnyPlain) (lines : List (List ℕ)) → (replies_behind o lines ≡ [] → ⊥) → is_none o ≡ false
 header_behind None lines some = absurd (some refl)
 header_behind (Some world) lines some = refl
 

@@ -4,10 +4,9 @@ use Rattle.std.specs.List.{slice_split}
 use Rattle.std.specs.Str.Lines.{strip_carriage_return}
 use Rattle.store_io.specs.Bytes.{Took}
 use Rattle.script_lang.specs.Headers.{header_of}
-use Rattle.world_model.specs.World.{PlainWorld}
 use Rattle.script_net.specs.Lines.{is_newline, lines_of, ended_lines_of, from_command}
 use Rattle.script_net.specs.Runs.{RunsIn}
-use Rattle.script_net.specs.Transcript.{opened, world_after, transcript_of, transcript}
+use Rattle.script_net.specs.Transcript.{AnyPlain, opened, world_after, transcript_of, transcript}
 use Rattle.script_net.specs.declared.runner.Runner.{Runner}
 use Rattle.store_program.specs.declared.feed.Feed.{Feed}
 use Rattle.store_program.specs.declared.feed.Stage.{Stage}
@@ -20,7 +19,7 @@ use Rattle.store_program.specs.Run.{lacks_header, is_no_script, TookFront}
 pub record StandsBehind (runner : Runner) (lines : List (List ℕ)) : Type 0 where
   pub header : List ℕ
   pub behind : List (List ℕ)
-  pub plain : PlainWorld
+  pub plain : AnyPlain
   pub begins : from_command lines ≡ header ∷ behind
   pub opens : opened (header_of header) ≡ Some plain
   pub runs : RunsIn runner (world_after plain behind)

@@ -3,7 +3,7 @@ use Rattle.std.specs.Prelude.{◌≡◌, ◌⊎◌, ℕ, ◌+◌, ◌<◌, ◌�
 use Rattle.store_io.specs.Bytes.{Gave, Ended, Took}
 use Rattle.script_lang.specs.Headers.{header_of}
 use Rattle.script_lang.specs.declared.header.Header.{Header}
-use Rattle.script_lang.specs.declared.header.Header.TheVariants.{Store, Live}
+use Rattle.script_lang.specs.declared.header.Header.TheVariants.{Store, Keep, Live}
 use Rattle.script_net.specs.Lines.{lines_of, ended_lines_of, whole_lines_of, from_command}
 use Rattle.script_net.specs.Honest.{IsFairText}
 use Rattle.script_net.specs.Transcript.{opened, transcript_of, transcript}
@@ -25,6 +25,7 @@ is_no_script header = is_none (opened header)
 abbrev pub is_no_live : Option Header → Bool
 is_no_live (Some (Live n w clients turns loss)) = false
 is_no_live (Some (Store n w limit)) = true
+is_no_live (Some (Keep n w limit)) = true
 is_no_live None = true
 
 -- whether lines have no header of a mode where a header must be: their first command line is none of the mode, or all lines

@@ -3,17 +3,15 @@
 ghost use Rattle.std.specs.Prelude.{◌≡◌, ◌++◌, ◌∷◌, [], List, ℕ, Some, None, true, false, IfOk, IfErr, OnOk, OnErr};
 ghost use Rattle.std.specs.Str.Lines.{strip_carriage_return};
 ghost use Rattle.script_lang.specs.Headers.{header_of};
-ghost use Rattle.world_model.specs.World.{PlainWorld};
 ghost use Rattle.script_net.specs.Lines.{from_command};
 ghost use Rattle.script_net.specs.Runs.{RunsIn};
-ghost use Rattle.script_net.specs.Transcript.{opened, transcript_of};
+ghost use Rattle.script_net.specs.Transcript.{AnyPlain, opened, transcript_of};
 ghost use Rattle.store_program.specs.Feeding.{StandsAt, is_opening};
 ghost use Rattle.store_program.specs.Run.{lacks_header, is_no_script};
 
 use crate::line::without_return;
 use op_base::{ByteList, NoMemory, Text};
-use replica_core::CreateFault;
-use script_lang::{Header, is_passed_over, read_header};
+use script_lang::is_passed_over;
 use script_net::Runner;
 use std::alloc::Global;
 
@@ -39,16 +37,13 @@ pub enum Stage {
 #[cold]
 #[inline(never)]
 fn open(alloc: Global, line: &[u8]) -> Result<Runner, Stop>
-    ensures opens { IfOk result (λ runner. (plain : PlainWorld) × (opened (header_of line.now) ≡ Some plain) × RunsIn runner plain) }
+    ensures opens { IfOk result (λ runner. (plain : AnyPlain) × (opened (header_of line.now) ≡ Some plain) × RunsIn runner plain) }
     ensures refuses { IfErr result (λ stop. stop ≡ Stop.BadHeader → opened (header_of line.now) ≡ None) }
 {
-    let Some(Header::Store { n, w, limit }) = read_header(line) else {
-        return Err(Stop::BadHeader);
-    };
-    match Runner::create(alloc, n, w, limit) {
-        Ok(runner) => Ok(runner),
-        Err(CreateFault::BadNumbers) => unreachable!(),
-        Err(CreateFault::NoMemory) => Err(Stop::NoMemory),
+    match Runner::open(alloc, line) {
+        Ok(Some(runner)) => Ok(runner),
+        Ok(None) => Err(Stop::BadHeader),
+        Err(NoMemory) => Err(Stop::NoMemory),
     }
 }
 

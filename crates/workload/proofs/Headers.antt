@@ -8,7 +8,7 @@ use Rattle.std.proofs.Math.Nat.{eq-or-lt_of_le}
 use Rattle.script_lang.specs.Headers.{header_of}
 use Rattle.script_lang.specs.Replies.{joined}
 use Rattle.script_lang.specs.declared.header.Header.{Header}
-use Rattle.script_lang.specs.declared.header.Header.TheVariants.{Store, Live}
+use Rattle.script_lang.specs.declared.header.Header.TheVariants.{Store, Keep, Live}
 use Rattle.workload.specs.Script.{header_words}
 
 -- whether it is the header of a store of n members with a window of w
@@ -18,6 +18,7 @@ is_store n w header = false
 
 store-is : (n w : ℕ) (header : Option Header) → is_store n w header ≡ true → header ≡ Some (Store n w 65535)
 store-is n w (Some (Store m v limit)) h = grind (arith, nat_tests)
+store-is n w (Some (Keep m v limit)) h = absurd cc
 store-is n w (Some (Live m v clients turns loss)) h = absurd cc
 store-is n w None h = absurd cc
 

@@ -9,5 +9,5 @@ use Rattle.script_net.proofs.reply.offer_bytes.Goals as goal
 
 pub returns-clause-told : goal.returns-clause-told
 returns-clause-told c plain shows =
-    follows_told raw_reply raw.NoMemory refl (raw_at c.args.r c.args.bytes.now) c.args.world.now plain shows c.raw.result c.raw.new.self c.raw_reply.result c.raw_reply.ensures.told is_frame
+    follows_told ShowsPlain raw_reply raw.NoMemory refl (raw_at c.args.r c.args.bytes.now) plain c.raw.result c.raw.new.self c.raw_reply.result c.raw_reply.ensures.told c.args.world.now shows is_frame
     (subst (λ bytes. Follows ShowsPlain raw.NoMemory is_frame (raw_at c.args.r bytes) c.args.world.now c.raw.result c.raw.new.self) c.as_slice.ensures c.raw.ensures.answer)
