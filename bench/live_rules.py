@@ -1,7 +1,8 @@
 """The rules of live runs, plainly over whole histories: frames, what a replica may do, what an object is, and live inputs.
 
-`bench/live_check.py` reads texts by them, and `bench/live_made.py` makes texts by them. Nothing here is quick: a state is the
-list of all messages that were delivered, and each test and each answer asks that list.
+`bench/live_check.py` reads texts by them, and `bench/live_made.py` makes texts by them; `bench/keep_rules.py` has scripts of
+durable replicas by the same rules. Nothing here is quick: a state is the list of all messages that were delivered, and each test
+and each answer asks that list.
 """
 
 import operator
@@ -145,8 +146,9 @@ def is_below(one, other):
 class State:
     """What a replica has: all messages that it delivered, in their order and those of each member too, and its early ones."""
 
-    def __init__(self, me, n, w):
+    def __init__(self, me, n, w, limit=None):
         self.me, self.n, self.w = me, n, w
+        self.limit = LIMIT if limit is None else limit
         self.noop_window = 2 * (n - 1) * w + 1
         self.history = []
         self.of = [[] for _ in range(n)]
@@ -185,7 +187,7 @@ class State:
         """Why no operation can be sent, or `None`."""
         if self.unstable(is_noop=False) == self.w:
             return b"busy"
-        return b"end" if len(self.of[self.me]) == LIMIT else None
+        return b"end" if len(self.of[self.me]) == self.limit else None
 
     def is_due(self):
         """Whether an operation of another member was delivered since the last own message, or at all where there is none."""
@@ -202,7 +204,7 @@ class State:
             return b"quiet"
         if self.unstable(is_noop=True) == self.noop_window:
             return b"held"
-        return b"end" if len(self.of[self.me]) == LIMIT else None
+        return b"end" if len(self.of[self.me]) == self.limit else None
 
     def own(self, operation):
         """The next own message, where it may be sent."""
