@@ -1,4 +1,4 @@
-"""The workloads of `bench/scripts`: what a script is of, and the lines of its script."""
+"""The workloads of `bench/scripts`: what a script is of, and the lines of its script. Behind them those of durable replicas."""
 
 import random
 
@@ -156,6 +156,46 @@ def change_with_items(values=60000, changes=10):  # two members settle many valu
 def comment(): return ['# ' + 'x' * 4000000, 'store 1 1']
 
 
+def heard(turns=2500, stops=()):  # durable: three members add in turn and hear of each other, and each is stopped after some turns
+    s, sent = ['keep 3 64 65535'], [0, 0, 0]
+    for i in range(turns):
+        new = []
+        for j in range(i * 8, i * 8 + 8):
+            s.append(f'do {j % 3} awset:big add value-{j * 7919 % 1000:04d}')
+            sent[j % 3] += 1
+            new.append((j % 3, sent[j % 3]))
+        s += [f'give {r} {k} {number}' for k, number in new for r in range(3) if r != k]
+        if i % 4 == 3:
+            for k in range(3): s.append(f'beat {k}'); sent[k] += 1
+            s += [f'give {r} {k} {sent[k]}' for k in range(3) for r in range(3) if r != k]
+        if i + 1 in stops: s += [f'stop {r} 4294967295' for r in range(3)]
+    return s
+
+
+def stopped(turns=1000):  # each member at each quarter
+    return heard(turns, [turns * quarter // 4 for quarter in (1, 2, 3)])
+
+
+def opened(records=60000):  # one member, opened with all that it sent
+    return ['keep 1 64 65535'] + [f'do 0 awset:big add value-{i * 7919 % records:05d}' for i in range(records)] + ['stop 0 0']
+
+
+def without_stops(script): return [line for line in script if not line.startswith('stop ')]
+
+
+def as_store(script): return [script[0].replace('keep', 'store')] + without_stops(script[1:])
+
+
+def replayed(script):
+    """How much of a script its stops replay: of all its other lines those at the replica that is stopped, before each stop."""
+    at, again = {}, 0
+    for line in script[1:]:
+        verb, r = line.split(' ')[:2]
+        if verb == 'stop': again += at[r]
+        else: at[r] = at.get(r, 0) + 1
+    return again / sum(at.values())
+
+
 # Each workload's word, what it is, and what makes its lines.
 WORKLOADS = {
     "a": ("one member, 4 MB of inc", one_member),
@@ -180,4 +220,11 @@ WORKLOADS = {
     "l": ("96000 inc, limit 1000000", long_members),
     "m1": ("2000 epochs of 3 members", many_epochs),
     "m2": ("10 changes, 60000 settled values", change_with_items),
+}
+
+# The same of durable replicas. Each is measured beside the same script of a store, without its stops.
+DURABLE = {
+    "ka": ("adds of 3 durable replicas, heard", heard),
+    "ks": ("the same, each stopped three times", stopped),
+    "ko": ("opening with 60000 records", opened),
 }
