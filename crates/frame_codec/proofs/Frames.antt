@@ -1,8 +1,8 @@
 -- What the bytes say is the message that they spell, and no other.
-use Rattle.std.proofs.Common.{◌≡◌, ℕ, zero, suc, ◌+◌, ◌*◌, ◌^◌, ◌<◌, ◌≤◌, Bool, true, false, not, ◌||◌, ◌&&◌, List, [], ◌∷◌, ◌++◌, length, drop, refl, sym, ap, subst, ◌∙◌, append_assoc, arith, inl, inr}
+use Rattle.std.proofs.Common.{◌≡◌, ◌≢◌, ℕ, zero, suc, ◌+◌, ◌*◌, ◌^◌, ◌<◌, ◌≤◌, Bool, true, false, not, ◌||◌, ◌&&◌, List, [], ◌∷◌, ◌++◌, length, drop, refl, sym, ap, subst, ◌∙◌, append_assoc, arith, inl, inr}
 use Rattle.std.proofs.Math.Bool.{Bool-set}
 use mathlib.Core.HLevel.{is_prop→PathP}
-use Rattle.std.specs.Prelude.{Some, None, Result, Ok, Err, MatchResult, IfOk, IsTrue, All, nat_lt, nat_le, ◌==◌, slice_index, if◌then◌else◌}
+use Rattle.std.specs.Prelude.{Some, None, Result, Ok, Err, MatchResult, IfOk, IfErr, IsOk, IsTrue, All, nat_lt, nat_le, ◌==◌, slice_index, if◌then◌else◌}
 use Rattle.std.specs.List.{flat_map, list_any, AllByRecursion}
 use Rattle.std.proofs.lemmas.Bool.{and_parts, or_parts, and_from, or_from, eqb-true, eqb-false, ltb-true, ltb-false, leb-false, lt-ltb, le-ltb, lt-leb, eq-eqb, cases_lt, not-false, ne_eqb, cases_eq}
 use Rattle.std.proofs.lemmas.List.{append-nil, drop_at, drop-drop, length-append, length-drop, get_or_past}
@@ -19,10 +19,12 @@ use Rattle.op_base.specs.declared.name.Kind.{Kind}
 use Rattle.op_base.specs.declared.name.ObjectId.{ObjectId}
 use Rattle.frame_codec.specs.declared.fields.Verb.{Verb}
 use Rattle.frame_codec.specs.declared.fault.DecodeFault.{DecodeFault}
+use Rattle.frame_codec.specs.declared.fault.DecodeFault.TheVariants.{NoMemory}
 use Rattle.frame_codec.specs.declared.fault.FrameFault.TheVariants.{Short, Version as OfVersion, Epoch, Members, Origin, Code, BadKey, Argument}
 use Rattle.frame_codec.specs.declared.version.Version.{Version}
 use Rattle.frame_codec.specs.declared.version.Version.TheVariants.{One, Two}
 use Rattle.frame_codec.specs.Grammar.{version_byte, IsReadIn, epoch_field, number_field, text_field, argument_field, operation_fields, frame_of, IsOperation, IsSpelling, IsFrame}
+use Rattle.frame_codec.specs.InPlace.{IsInPlace}
 use Rattle.frame_codec.specs.Laws.{SomeSpelling, OneSpelling, OneMessage, NoFrameBegins, FramesHaveNoFault, WithoutFaultIsAFrame}
 use Rattle.frame_codec.specs.Fault.{byte_at, code_byte, version_at, head_len, is_read_in, is_bad_epoch, numbers, timestamp_of, behind_timestamp, text_of, behind_text, is_text_field, is_bad_number, frame_fault, Gives}
 use Rattle.frame_codec.specs.Reading.{row_of, act_at, behind_act, operation_fault, behind_operation, SaysOperation, head_fault, IsWhy, Says}
@@ -322,3 +324,14 @@ pub gives : (n epoch limit : ℕ) (bytes : List ℕ) (result : Result Message De
     → (m : Message) → IsFrame n epoch limit bytes m → Gives m result
 gives n epoch limit bytes (Ok x) epoch_small small none says m frame = says_one_message (version_at bytes) n bytes x m says (frame_said n epoch limit bytes m epoch_small small frame).says
 gives n epoch limit bytes (Err e) epoch_small small why says m frame = subst (λ fault. IsWhy fault e) (frames_pass n epoch limit epoch_small small bytes m frame) why
+
+-- a reader that tells want of memory only of a value out of place answers a frame whose value is in place
+pub placed : (n epoch limit : ℕ) (bytes : List ℕ) (m : Message) (result : Result Message DecodeFault) → epoch < 2 ^ 32 → limit < 2 ^ 32
+    → MatchResult result (λ _. frame_fault n epoch limit bytes ≡ None) (IsWhy (frame_fault n epoch limit bytes))
+    → ((m : Message) → Says (version_at bytes) n bytes m → IsInPlace m.op → IfErr result (λ fault. fault ≢ NoMemory))
+    → IsFrame n epoch limit bytes m → IsInPlace m.op → IsOk result
+placed n epoch limit bytes m (Ok read) epoch_small small fault memory frame here = refl
+placed n epoch limit bytes m (Err e) epoch_small small fault memory frame here =
+    let none = frames_pass n epoch limit epoch_small small bytes m frame in
+    let says = (frame_said n epoch limit bytes m epoch_small small frame).says in
+    absurd (memory m says here (subst (λ f. IsWhy f e) none fault))

@@ -1,6 +1,6 @@
 -- A text field is read exactly where its text is a name.
 use Rattle.std.proofs.Common.{◌≡◌, ℕ, ◌+◌, Bool, true, false, List, length, refl, sym, ap, ◌∙◌}
-use Rattle.std.specs.Prelude.{Option, Some, None, Result, Ok, Err, IsTrue, ◌↔◌, OnOk, nat_le, ◌&&◌, if◌then◌else◌, nat_lt, ◌==◌}
+use Rattle.std.specs.Prelude.{Option, Some, None, Result, Ok, Err, IsTrue, ◌↔◌, ◌≢◌, OnOk, IfErr, is_ok, nat_le, ◌&&◌, if◌then◌else◌, nat_lt, ◌==◌}
 use Rattle.std.specs.Option.{option_map}
 use Rattle.std.specs.Str.{is_utf8}
 use Rattle.std.proofs.lemmas.Bool.{false_from_ne_true}
@@ -63,9 +63,19 @@ value_of_text bytes = or_of_text (byte_fault 4096 is_value_byte bytes) (is_utf8 
 pub value_named : {T : Type 0} (bytes : List ℕ) (r : Result T NameFault) → OnOk r (IsTrue (is_value bytes)) → Refuses (value_fault bytes) r → is_name r ≡ is_value bytes
 value_named bytes r valid refused = of_text (value_fault bytes) r (is_value bytes) (value_of_text bytes) (value_exactly bytes) valid refused
 
+-- without want of memory a text was read where it was a name
+read_is_named : {T : Type 0} (r : Result T NameFault) → IfErr r (λ fault. fault ≢ NoMemory) → is_ok r ≡ is_name r
+read_is_named (Ok x) none = refl
+read_is_named (Err NoMemory) none = absurd (none refl)
+read_is_named (Err Empty) none = refl
+read_is_named (Err TooLong) none = refl
+read_is_named (Err (BadByte at)) none = refl
+read_is_named (Err NoType) none = refl
+read_is_named (Err NotUtf8) none = refl
+
 -- a whole text field is one of a key where its text was read as one
-pub key_field_named : {T : Type 0} (version : Version) (text bytes : List ℕ) (r : Result T NameFault) → true ≡ is_text_field version (λ _. true) bytes → text ≡ text_of version bytes → OnOk r (IsTrue (is_key text)) → Refuses (key_fault text) r → is_name r ≡ is_text_field version is_key bytes
-key_field_named version text bytes r whole is valid refused = key_named text r valid refused ∙ ap is_key is ∙ sym (field_passes version is_key bytes (sym whole))
+pub key_field_named : {T : Type 0} (version : Version) (text bytes : List ℕ) (r : Result T NameFault) → true ≡ is_text_field version (λ _. true) bytes → text ≡ text_of version bytes → OnOk r (IsTrue (is_key text)) → Refuses (key_fault text) r → IfErr r (λ fault. fault ≢ NoMemory) → is_ok r ≡ is_text_field version is_key bytes
+key_field_named version text bytes r whole is valid refused none = read_is_named r none ∙ key_named text r valid refused ∙ ap is_key is ∙ sym (field_passes version is_key bytes (sym whole))
 
 -- one of a value, where the version has values of this length
 pub value_field_named : {T : Type 0} (version : Version) (text bytes : List ℕ) (r : Result T NameFault) → true ≡ is_text_field version (λ _. true) bytes → text ≡ text_of version bytes → is_carried version (length text) ≡ true → OnOk r (IsTrue (is_value text)) → Refuses (value_fault text) r → is_name r ≡ is_text_field version (is_sent version) bytes

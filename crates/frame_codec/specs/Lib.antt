@@ -1,4 +1,5 @@
 pub mod Grammar
+pub mod InPlace
 pub mod Fault
 pub mod Reading
 pub mod Message

@@ -1,8 +1,9 @@
 //! The message that bytes spell.
 
-ghost use Rattle.std.specs.Prelude.{◌≡◌, ◌≤◌, length, IfOk, MatchResult, Ok, Some, None};
+ghost use Rattle.std.specs.Prelude.{◌≡◌, ◌≢◌, ◌≤◌, length, IfOk, IfErr, IsOk, MatchResult, Ok, Some, None};
 ghost use Rattle.op_base.specs.declared.message.Message.{Message};
 ghost use Rattle.frame_codec.specs.Grammar.{IsFrame};
+ghost use Rattle.frame_codec.specs.InPlace.{IsInPlace};
 ghost use Rattle.frame_codec.specs.Fault.{byte_at, code_byte, version_at, head_len, is_bad_epoch, frame_fault, Gives, Refuses};
 ghost use Rattle.frame_codec.specs.Reading.{head_fault, IsWhy, Says};
 
@@ -83,6 +84,7 @@ fn message(
     requires few { n ≤ 16 }
     ensures fault { MatchResult result (λ _. frame_fault n epoch limit bytes.now ≡ None) (IsWhy (frame_fault n epoch limit bytes.now)) }
     ensures says { IfOk result (λ m. Says (version_at bytes.now) n bytes.now m) }
+    ensures in_place { (m : Message) → Says (version_at bytes.now) n bytes.now m → IsInPlace m.op → IfErr result (λ fault. fault ≢ DecodeFault.NoMemory) }
 {
     let head = read_head(bytes, n, epoch)?;
     let begin = head.version.head_len();
@@ -103,7 +105,7 @@ fn message(
 /// Frames of version 2 are read, and in epoch 0 those of version 1.
 ///
 /// The fault is the first of the ten in their order that the bytes have. `NoMemory` comes only for bytes without a
-/// fault. Nothing is allocated but the value.
+/// fault, and only where the message has a value that doesn't stand in place: nothing but that value is allocated.
 pub fn decode(
     alloc: Global,
     bytes: &[u8],
@@ -116,6 +118,7 @@ pub fn decode(
     ensures found { IfOk result (λ m. IsFrame n epoch limit bytes.now m) }
     ensures only { (m : Message) → IsFrame n epoch limit bytes.now m → Gives m result }
     ensures refused { Refuses (frame_fault n epoch limit bytes.now) result }
+    ensures in_place { (m : Message) → IsFrame n epoch limit bytes.now m → IsInPlace m.op → IsOk result }
 {
     message(alloc, bytes, n, epoch, limit)
 }

@@ -4,10 +4,13 @@
 //! fault of a later field comes before it. So the reader of the last field also tells whether bytes are left behind it,
 //! and the operation is made once, when nothing but memory can be wanting.
 
-ghost use Rattle.std.specs.Prelude.{◌≡◌, ◌*◌, ◌≤◌, ◌<◌, ◌||◌, ◌==◌, nat_lt, nat_le, length, take, drop, slice_index, is_ok, IfOk, IfErr, IfSome, is_some, MatchResult, true, Ok, Some, None};
+ghost use Rattle.std.specs.Prelude.{◌≡◌, ◌≢◌, ◌*◌, ◌≤◌, ◌<◌, ◌||◌, ◌==◌, nat_lt, nat_le, length, take, drop, slice_index, is_ok, IsOk, IfOk, IfErr, IfSome, is_some, MatchResult, true, Ok, Some, None};
 ghost use Rattle.std.specs.List.{list_any};
 ghost use Rattle.std.specs.Int.{w32, from_be_bytes};
 ghost use Rattle.op_base.specs.Name.{is_key};
+ghost use Rattle.op_base.specs.declared.name.TheConstants.{VALUE_BYTES_IN_PLACE};
+ghost use Rattle.op_base.specs.declared.operation.Op.{Op as AnOp};
+ghost use Rattle.frame_codec.specs.InPlace.{IsActInPlace, IsInPlace};
 ghost use Rattle.frame_codec.specs.Fault.{numbers, length_len, length_at, text_of, behind_text, is_text_field};
 ghost use Rattle.frame_codec.specs.Reading.{is_name, act_at, row_of, rest_fault, value_fault, amount_fault, act_fault, fields_fault, IsWhy, SaysOperation};
 
@@ -96,6 +99,7 @@ fn name_or<T>(
     ensures tested { is_ok result ≡ is_name read }
     ensures fault { IfErr result (λ e. e ≡ fault) }
     ensures name { IfOk result (λ r. IfOk r (λ name. read ≡ Ok name)) }
+    ensures memory { IfErr read (λ fault. fault ≢ NameFault.NoMemory) → IfOk result (λ r. IsOk r) }
 {
     match read {
         Ok(name) => Ok(Ok(name)),
@@ -106,21 +110,20 @@ fn name_or<T>(
     }
 }
 
-/// A key behind its length, or want of memory for it, and what stands behind it.
-fn key_field(
-    alloc: Global,
-    version: Version,
-    bytes: &[u8],
-) -> Result<(Result<Key, NoMemory>, &[u8]), FrameFault>
+/// A key behind its length, and what stands behind it. It takes no memory.
+fn key_field(alloc: Global, version: Version, bytes: &[u8]) -> Result<(Key, &[u8]), FrameFault>
     ensures tested { is_ok result ≡ is_text_field version is_key bytes.now }
     ensures fault { IfErr result (λ fault. fault ≡ FrameFault.BadKey) }
-    ensures key { IfOk result (λ x. IfOk x.0 (λ key. key ≡ text_of version bytes.now)) }
+    ensures key { IfOk result (λ x. x.0 ≡ text_of version bytes.now) }
     ensures rest { IfOk result (λ x. x.1.now ≡ behind_text version bytes.now) }
 {
     let Some((text, rest)) = text_field(version, bytes) else {
         return Err(FrameFault::BadKey);
     };
-    name_or(Key::read(alloc, text), FrameFault::BadKey).map(|key| (key, rest))
+    match Key::read(alloc, text) {
+        Ok(key) => Ok((key, rest)),
+        Err(_fault) => Err(FrameFault::BadKey),
+    }
 }
 
 /// Nothing is left behind the last field.
@@ -138,6 +141,7 @@ fn no_rest(rest: &[u8]) -> Result<(), FrameFault>
 fn last_value(alloc: Global, version: Version, bytes: &[u8]) -> Result<Value, DecodeFault>
     ensures fault { MatchResult result (λ _. value_fault version bytes.now ≡ None) (IsWhy (value_fault version bytes.now)) }
     ensures value { IfOk result (λ value. value ≡ text_of version bytes.now) }
+    ensures in_place { length (text_of version bytes.now) ≤ VALUE_BYTES_IN_PLACE → IfErr result (λ fault. fault ≢ DecodeFault.NoMemory) }
 {
     let Some((text, rest)) = text_field(version, bytes) else {
         return Err(DecodeFault::Frame(FrameFault::Argument));
@@ -191,6 +195,7 @@ fn kind_and_verb(code: u8) -> (Kind, Verb)
 fn last_act(alloc: Global, version: Version, verb: Verb, bytes: &[u8]) -> Result<Act, DecodeFault>
     ensures fault { MatchResult result (λ _. act_fault version verb bytes.now ≡ None) (IsWhy (act_fault version verb bytes.now)) }
     ensures act { IfOk result (λ act. act ≡ act_at version verb bytes.now) }
+    ensures in_place { IsActInPlace (act_at version verb bytes.now) → IfErr result (λ fault. fault ≢ DecodeFault.NoMemory) }
 {
     match verb {
         Verb::Add => Ok(Act::Add(last_value(alloc, version, bytes)?)),
@@ -218,6 +223,7 @@ pub fn operation(alloc: Global, version: Version, code: u8, bytes: &[u8]) -> Res
     requires { code ≤ 19 }
     ensures fault { MatchResult result (λ _. fields_fault version code bytes.now ≡ None) (IsWhy (fields_fault version code bytes.now)) }
     ensures operation { IfOk result (λ op. SaysOperation version code bytes.now op) }
+    ensures in_place { (op : AnOp) → SaysOperation version code bytes.now op → IsInPlace op → IfErr result (λ fault. fault ≢ DecodeFault.NoMemory) }
 {
     if code == 0 {
         no_rest(bytes)?;
@@ -226,6 +232,6 @@ pub fn operation(alloc: Global, version: Version, code: u8, bytes: &[u8]) -> Res
     let (kind, verb) = kind_and_verb(code);
     let (key, rest) = key_field(alloc, version, bytes)?;
     let act = last_act(alloc, version, verb, rest)?;
-    let object = ObjectId { kind, key: key? };
+    let object = ObjectId { kind, key };
     Ok(Op::Update(Update { object, act }))
 }
