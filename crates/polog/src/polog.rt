@@ -78,6 +78,20 @@ impl Polog {
         self.rows.len()
     }
 
+    /// For how many entries more there is room.
+    pub fn room_left(&self) -> usize
+        ensures { result + length self.now.entries ≡ self.now.room }
+    {
+        self.rows.room() - self.rows.len()
+    }
+
+    /// How many entries were pushed since the log was created.
+    pub fn pushed(&self) -> u64
+        ensures { result ≡ self.now.pushed }
+    {
+        self.next
+    }
+
     /// Takes out the entries that happened before a message and that it covers. It looks at those of the message's object
     /// alone, and takes no memory.
     pub fn prune<T: TypeRule>(&mut self, message: &Message, rule: &T)
@@ -93,7 +107,7 @@ impl Polog {
         }
     }
 
-    /// Puts an entry at the end.
+    /// Puts an entry at the end. `room_left` tells whether there is room, and `pushed` how many were put in.
     pub fn push(&mut self, entry: Entry)
         requires fits { IsTrue (fits self.old.n (message_of entry)) }
         requires room { length self.old.entries < self.old.room }

@@ -46,6 +46,13 @@ impl Rows {
         })
     }
 
+    /// For how many rows there is room in all.
+    pub fn room(&self) -> usize
+        ensures { result ≡ self.now.room }
+    {
+        self.room
+    }
+
     /// How many rows there are.
     pub fn len(&self) -> usize
         ensures { result ≡ length self.now.rows }

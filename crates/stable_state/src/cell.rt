@@ -1,6 +1,6 @@
 //! Cells, one at a time: when one is an item, and what an act makes of it. The cells are this project's own profile.
 
-ghost use Rattle.std.specs.Prelude.{◌≡◌, ◌^◌, false, ◌+ℤ◌, option_copied};
+ghost use Rattle.std.specs.Prelude.{◌≡◌, ◌↔◌, ◌^◌, true, false, ◌+ℤ◌, option_copied};
 ghost use Rattle.causal_model.specs.Acts.{value_of, amount_of};
 ghost use Rattle.causal_model.specs.CellSteps.{marks_on, marks_off, marks_settled, puts_in, with_act};
 ghost use Rattle.causal_model.specs.Items.{is_filled};
@@ -45,6 +45,16 @@ fn marks_off(act: &Act) -> bool
     ensures { result ≡ marks_off act.now }
 {
     matches!(act, Act::Rmv(_) | Act::Disable)
+}
+
+/// Whether the sum of a cell with the amount of an act is one of 128 bits, but not the least.
+pub fn is_in_range(act: &Act, cell: Cell) -> bool
+    ensures { (result ≡ true) ↔ IsWithin (2 ^ 127) (cell.sum +ℤ amount_of act.now) }
+{
+    match cell.sum.checked_add(amount_of(act)) {
+        Some(sum) => sum > i128::MIN,
+        None => false,
+    }
 }
 
 /// The cell with the mark or the amount of an act.

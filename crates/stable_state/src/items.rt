@@ -3,7 +3,7 @@
 //! That a message first covers what is settled, and that stable entries of the log are then absorbed without their
 //! timestamps, is the idea of Baquero, Almeida and Shoker (arXiv 1710.04469); the cells are this project's own profile.
 
-ghost use Rattle.std.specs.Prelude.{◌≡◌, ℕ, ◌+◌, ◌^◌, ◌<◌, ◌≤◌, true, false, [], List, length, map, filter, if◌then◌else◌, Option, Some, None, IsTrue, IfOk, OnOk, IsOk, IfSome, HoldsAt, slice_get, option_copied};
+ghost use Rattle.std.specs.Prelude.{◌≡◌, ◌↔◌, ℕ, ◌+◌, ◌^◌, ◌<◌, ◌≤◌, true, false, [], List, length, map, filter, if◌then◌else◌, Option, Some, None, IsTrue, IfOk, OnOk, IsOk, IfSome, HoldsAt, slice_get, option_copied};
 ghost use Rattle.std.specs.List.{between, list_any};
 ghost use Rattle.op_base.specs.Object.{same_object};
 ghost use Rattle.op_base.specs.declared.message.Message.{Message};
@@ -22,7 +22,9 @@ ghost use Rattle.stable_state.specs.Shelf.{put_at};
 ghost use Rattle.stable_state.specs.Standing.{AreSettledOf, AreAbsorbed, AreMoved};
 ghost use Rattle.stable_state.specs.Touched.{is_touched, IsMarkTouched, StayTouched, KeepTouched};
 
-use crate::cell::{NO_CELL, into_value, is_filled, puts_in, value_of, with_act, without_pending};
+use crate::cell::{
+    NO_CELL, into_value, is_filled, is_in_range, puts_in, value_of, with_act, without_pending,
+};
 use crate::shelf::Shelf;
 use crate::view::ItemSpan;
 use causal_model::ItemView;
@@ -60,6 +62,21 @@ impl Items {
         ensures spare { (shown self.old).spare ≤ (shown self.new).spare }
     {
         self.shelf.reserve(k)
+    }
+
+    /// How many entries or updates more can be put in without memory.
+    pub fn spare(&self) -> usize
+        ensures { result ≡ (shown self.now).spare }
+    {
+        self.shelf.spare()
+    }
+
+    /// Whether an update can be put in: the sum that it gives is one of 128 bits, but not the least.
+    pub fn has_range(&self, update: &Update) -> bool
+        ensures { (result ≡ true) ↔ HasRange (shown self.now) update.now }
+    {
+        let cell = self.cell(&update.object, value_of(&update.act));
+        is_in_range(&update.act, cell)
     }
 
     /// Lets exactly what an update covers go. It takes no memory, and touches its object's items alone.
@@ -127,7 +144,7 @@ impl Items {
     }
 
     /// Absorbs an entry that goes from the log: its mark is set, or its amount added. Where the cell has an off mark then, it
-    /// is touched. It takes no memory.
+    /// is touched. It takes no memory: `spare` tells whether there is room, and `has_range` whether the sum fits.
     pub fn absorb(&mut self, entry: Entry)
         requires spare { 1 ≤ (shown self.old).spare }
         requires range { HasRange (shown self.old) entry.update }
@@ -143,7 +160,8 @@ impl Items {
         self.change(entry.update);
     }
 
-    /// Applies an update of a counter that can't be cleared, which no log keeps. It takes no memory.
+    /// Applies an update of a counter that can't be cleared, which no log keeps. It takes no memory: `spare` tells whether
+    /// there is room, and `has_range` whether the sum fits.
     pub fn apply(&mut self, update: Update)
         requires counter { update.object.kind ≡ Kind.Counter }
         requires spare { 1 ≤ (shown self.old).spare }

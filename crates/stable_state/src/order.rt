@@ -57,7 +57,7 @@ impl Order {
     }
 
     /// How many slots can be put in without memory.
-    fn spare(&self) -> usize
+    pub fn spare(&self) -> usize
         ensures { result ≡ self.now.spare }
     {
         let first = 1usize.saturating_sub(self.chunks.count());

@@ -76,6 +76,15 @@ impl Shelf {
         Ok(())
     }
 
+    /// How many items more can be put in, or touched, without memory.
+    pub fn spare(&self) -> usize
+        ensures { result ≡ self.now.spare }
+    {
+        let slots = self.slots.capacity() - self.slots.len();
+        let touched = self.touched.capacity() - self.touched.len();
+        slots.min(self.order.spare().min(touched))
+    }
+
     /// A shelf with equal items, none of them touched. `NoMemory` leaves nothing behind.
     pub fn copy(&self, alloc: Global) -> Result<Shelf, NoMemory>
         ensures { IfOk result (λ copy. copy.items ≡ self.now.items) }
