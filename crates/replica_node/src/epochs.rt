@@ -37,6 +37,7 @@ impl<R: Recorder> Node<R> {
         ensures few { OnOk result (length_of (R.notes self.new.journal) + count < 2 ^ 63) }
         ensures kept { R.notes self.new.journal ≡ R.notes self.old.journal }
         ensures spare { R.spare self.old.journal ≤ R.spare self.new.journal }
+        ensures asked { R.asked self.new.journal ≡ R.asked self.old.journal + 1 }
         ensures inner { self.new.inner ≡ self.old.inner }
         ensures first { self.new.first ≡ self.old.first }
         ensures length { self.new.length ≡ self.old.length }
@@ -52,6 +53,7 @@ impl<R: Recorder> Node<R> {
         ensures inner { self.new.inner ≡ next }
         ensures first { self.new.first ≡ self.old.first }
         ensures noted { R.notes self.new.journal ≡ R.notes self.old.journal ++ notes.Regroup next.epoch next.n next.me ∷ [] }
+        ensures unasked { R.asked self.new.journal ≡ R.asked self.old.journal }
     {
         put(&mut self.journal, &mut self.length, change_to(&next));
         self.inner = next;
@@ -67,6 +69,7 @@ impl<R: Recorder> Node<R> {
         ensures inner { result.inner ≡ next }
         ensures first { result.first ≡ self.now.first }
         ensures noted { R.notes result.journal ≡ R.notes self.now.journal ++ notes.Regroup next.epoch next.n next.me ∷ [] }
+        ensures unasked { R.asked result.journal ≡ R.asked recorder }
     {
         let mut journal = recorder;
         let mut length = self.length;

@@ -2,16 +2,18 @@
 
 ghost use Rattle.std.specs.Prelude.{◌≡◌, [], IfOk};
 
+use crate::count::AskCount;
 use crate::recorder::Recorder;
 use causal_model::Note;
 use op_base::NoMemory;
 use std::alloc::Global;
 use std::marker::Model;
 
-/// Notes in memory, oldest first. Contracts see them, and the room for more.
+/// Notes in memory, oldest first. Contracts see them, the room for more, and how often room was asked for.
 #[derive(Debug, Drop)]
 pub struct Journal {
     notes: Vec<Note>,
+    asked: AskCount,
 }
 
 impl Model for Journal {
@@ -20,7 +22,7 @@ impl Model for Journal {
 
     ghost Value = { Notes };
 
-    ghost view = { λ j. record { notes = j.notes.items; spare = vec_capacity j.notes - length j.notes.items } };
+    ghost view = { λ j. record { notes = j.notes.items; spare = vec_capacity j.notes - length j.notes.items; asked = j.asked.asked } };
 }
 
 impl Journal {
@@ -30,6 +32,7 @@ impl Journal {
     {
         Journal {
             notes: Vec::new(alloc),
+            asked: AskCount::none(),
         }
     }
 
@@ -48,7 +51,8 @@ impl Journal {
         for note in &self.notes {
             notes.push(copy_note(note, alloc)?)?;
         }
-        Ok(Journal { notes })
+        let asked = AskCount::none();
+        Ok(Journal { notes, asked })
     }
 }
 
@@ -74,7 +78,10 @@ impl Recorder for Journal {
 
     ghost spare = { λ j. j.spare };
 
+    ghost asked = { λ j. j.asked };
+
     fn reserve(&mut self, _alloc: Global, count: usize) -> Result<(), NoMemory> {
+        self.asked = self.asked.one_more();
         // It grows by a factor, so that many single reserves take constant time each.
         self.notes.reserve(count)?;
         Ok(())

@@ -5,6 +5,7 @@
 //! project's own profile.
 #![tactic(auto)]
 
+mod count;
 mod epochs;
 mod journal;
 mod node;
@@ -12,6 +13,7 @@ mod recorder;
 #[cfg(test)]
 mod tests;
 
+pub use count::AskCount;
 pub use journal::Journal;
 pub use node::Node;
 pub use recorder::Recorder;

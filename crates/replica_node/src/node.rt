@@ -1,6 +1,6 @@
 //! A replica with its journal.
 
-ghost use Rattle.std.specs.Prelude.{◌≡◌, ◌≢◌, ◌↔◌, ◌+◌, ◌^◌, ◌<◌, ◌≤◌, ◌++◌, ◌∷◌, [], List, map, All, IfOk, OnErr, IsTrue, IsErrOf, false, None};
+ghost use Rattle.std.specs.Prelude.{◌≡◌, ◌≢◌, ◌↔◌, ◌+◌, ◌^◌, ◌<◌, ◌≤◌, ◌++◌, ◌∷◌, [], List, map, All, IfOk, OnErr, IsTrue, IsErrOf, OnOk, true, false, None};
 ghost use Rattle.std.specs.Prelude.{length as length_of};
 ghost use Rattle.op_base.specs.Message.{fits};
 ghost use Rattle.causal_model.specs.Counts.{is_carried};
@@ -16,7 +16,7 @@ ghost use Rattle.causal_model.specs.declared.note.Note.TheVariants as notes;
 ghost use Rattle.replica_core.specs.Numbers.{are_numbers};
 ghost use Rattle.replica_core.specs.Rules.{StandsFor, SameSettings, Unchanged, IsDraft};
 ghost use Rattle.replica_node.specs.Nodes.{state_by, IsCount};
-ghost use Rattle.replica_node.specs.Rules.{noting};
+ghost use Rattle.replica_node.specs.Rules.{noting, AsksOnceAtMost};
 
 use crate::recorder::Recorder;
 use causal_model::{Beat, Local, Note, Receive};
@@ -61,6 +61,7 @@ impl<R: Recorder> Node<R> {
         ensures limit { IfOk result (λ node. node.inner.limit ≡ limit) }
         ensures first { IfOk result (λ node. node.first ≡ (me, n)) }
         ensures empty { IfOk result (λ node. R.notes node.journal ≡ []) }
+        ensures unasked { IfOk result (λ node. R.asked node.journal ≡ R.asked recorder) }
     {
         let inner = Replica::create(alloc, me, n, w, limit)?;
         Ok(Node {
@@ -72,13 +73,15 @@ impl<R: Recorder> Node<R> {
     }
 
     /// Sends an update: as the replica's call, and what is sent is noted. Every refusal leaves the node as it was, and but for
-    /// want of memory its journal too.
+    /// want of memory its journal too. It asks the journal for room once at most.
     pub fn local(&mut self, alloc: Global, update: &Update) -> Local
         ensures answer { Follows (λ (there ns : List ANote). there ≡ ns) Local.NoMemory is_sent (noting self.old.first local_notes (local_rule self.old.inner.w self.old.inner.limit update.now)) (R.notes self.old.journal) result (R.notes self.new.journal) }
         ensures settings { SameSettings self.old.inner self.new.inner }
         ensures first { self.new.first ≡ self.old.first }
         ensures refused { is_sent result ≡ false → Unchanged self.old.inner self.new.inner }
         ensures untouched { is_sent result ≡ false → result ≢ Local.NoMemory → self.new.journal ≡ self.old.journal }
+        ensures once { AsksOnceAtMost (R.asked self.old.journal) (R.asked self.new.journal) }
+        ensures asked { is_sent result ≡ true → R.asked self.new.journal ≡ R.asked self.old.journal + 1 }
         ensures fits { All (λ m. IsTrue (fits self.old.inner.n m)) (local_messages result) }
         ensures carried { All (λ m. IsTrue (is_carried self.old.inner.limit m)) (local_messages result) }
     {
@@ -93,13 +96,15 @@ impl<R: Recorder> Node<R> {
     }
 
     /// Sends a no-op where one is due: as the replica's call, and what is sent is noted. Every refusal leaves the node as it
-    /// was, and but for want of memory its journal too.
+    /// was, and but for want of memory its journal too. It asks the journal for room once at most.
     pub fn beat(&mut self, alloc: Global) -> Beat
         ensures answer { Follows (λ (there ns : List ANote). there ≡ ns) Beat.NoMemory is_beat (noting self.old.first beat_notes (beat_rule self.old.inner.w self.old.inner.limit)) (R.notes self.old.journal) result (R.notes self.new.journal) }
         ensures settings { SameSettings self.old.inner self.new.inner }
         ensures first { self.new.first ≡ self.old.first }
         ensures refused { is_beat result ≡ false → Unchanged self.old.inner self.new.inner }
         ensures untouched { is_beat result ≡ false → result ≢ Beat.NoMemory → self.new.journal ≡ self.old.journal }
+        ensures once { AsksOnceAtMost (R.asked self.old.journal) (R.asked self.new.journal) }
+        ensures asked { is_beat result ≡ true → R.asked self.new.journal ≡ R.asked self.old.journal + 1 }
         ensures fits { All (λ m. IsTrue (fits self.old.inner.n m)) (beat_messages result) }
         ensures carried { All (λ m. IsTrue (is_carried self.old.inner.limit m)) (beat_messages result) }
     {
@@ -114,7 +119,7 @@ impl<R: Recorder> Node<R> {
     }
 
     /// Sends a message that the replica drafted, and notes it: as the replica's call. `NoMemory` leaves the node as it was, and
-    /// its journal with no less room.
+    /// its journal with no less room. It asks the journal for room once at most.
     pub fn commit(&mut self, alloc: Global, message: Message) -> Result<Message, NoMemory>
         requires draft { (s : State) → StandsFor self.old.inner s → IsDraft self.old.inner message s }
         ensures sent { IfOk result (λ m. m ≡ message) }
@@ -123,6 +128,8 @@ impl<R: Recorder> Node<R> {
         ensures settings { SameSettings self.old.inner self.new.inner }
         ensures first { self.new.first ≡ self.old.first }
         ensures refused { OnErr result (Unchanged self.old.inner self.new.inner) }
+        ensures once { AsksOnceAtMost (R.asked self.old.journal) (R.asked self.new.journal) }
+        ensures asked { OnOk result (R.asked self.new.journal ≡ R.asked self.old.journal + 1) }
         ensures fits { IsTrue (fits self.old.inner.n message) }
         ensures carried { IsTrue (is_carried self.old.inner.limit message) }
     {
@@ -135,7 +142,7 @@ impl<R: Recorder> Node<R> {
 
     /// Receives a message of the store, none of whose entries is above the limit and whose operation is valid: as the
     /// replica's call; a message that is accepted is noted, and each step that follows. Every refusal leaves the node as it
-    /// was, and but for want of memory its journal too.
+    /// was, and but for want of memory its journal too. It asks the journal for room once at most.
     pub fn receive(&mut self, alloc: Global, message: Message) -> Receive
         requires fits { IsTrue (fits self.old.inner.n message) }
         requires carried { IsTrue (is_carried self.old.inner.limit message) }
@@ -144,6 +151,8 @@ impl<R: Recorder> Node<R> {
         ensures first { self.new.first ≡ self.old.first }
         ensures refused { is_accepted result ≡ false → Unchanged self.old.inner self.new.inner }
         ensures untouched { is_accepted result ≡ false → result ≢ Receive.NoMemory → self.new.journal ≡ self.old.journal }
+        ensures once { AsksOnceAtMost (R.asked self.old.journal) (R.asked self.new.journal) }
+        ensures asked { is_accepted result ≡ true → R.asked self.new.journal ≡ R.asked self.old.journal + 1 }
     {
         if let Some(refusal) = self.inner.refusal(&message) {
             return refusal.answer();
@@ -155,7 +164,8 @@ impl<R: Recorder> Node<R> {
     }
 
     /// Takes in a message that the replica's `refusal` doesn't refuse, and notes it and each step that follows: as the
-    /// replica's call. `NoMemory` leaves the node as it was, and its journal with no less room.
+    /// replica's call. `NoMemory` leaves the node as it was, and its journal with no less room. It asks the journal for room
+    /// once at most.
     pub fn accept(&mut self, alloc: Global, message: Message) -> Result<StepList, NoMemory>
         requires fits { IsTrue (fits self.old.inner.n message) }
         requires carried { IsTrue (is_carried self.old.inner.limit message) }
@@ -166,6 +176,8 @@ impl<R: Recorder> Node<R> {
         ensures settings { SameSettings self.old.inner self.new.inner }
         ensures first { self.new.first ≡ self.old.first }
         ensures refused { OnErr result (Unchanged self.old.inner self.new.inner) }
+        ensures once { AsksOnceAtMost (R.asked self.old.journal) (R.asked self.new.journal) }
+        ensures asked { OnOk result (R.asked self.new.journal ≡ R.asked self.old.journal + 1) }
     {
         let kept = message.copy(alloc)?;
         self.journal.reserve(alloc, most_notes(&self.inner))?;
@@ -233,6 +245,7 @@ pub fn put<R: Recorder>(journal: &mut R, length: &mut u64, note: Note)
     requires counted { IsCount length.old (R.notes journal.old) }
     ensures noted { R.notes journal.new ≡ R.notes journal.old ++ note ∷ [] }
     ensures spare { R.spare journal.old ≤ R.spare journal.new + 1 }
+    ensures asked { R.asked journal.new ≡ R.asked journal.old }
     ensures counted { IsCount length.new (R.notes journal.new) }
 {
     journal.note(note);
@@ -245,6 +258,7 @@ fn put_accepted<R: Recorder>(journal: &mut R, length: &mut u64, kept: Message, s
     requires few { length.old + length_of steps.now < 2 ^ 63 }
     requires counted { IsCount length.old (R.notes journal.old) }
     ensures noted { R.notes journal.new ≡ R.notes journal.old ++ notes.Kept kept ∷ map step_note steps.now }
+    ensures asked { R.asked journal.new ≡ R.asked journal.old }
     ensures counted { IsCount length.new (R.notes journal.new) }
 {
     put(journal, length, Note::Kept(kept));

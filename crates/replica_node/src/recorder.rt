@@ -15,17 +15,22 @@ pub trait Recorder {
     /// How many notes more there is room for.
     ghost spare: { Self → ℕ };
 
+    /// How often room was asked for. `AskCount` keeps such a count in no bytes.
+    ghost asked: { Self → ℕ };
+
     /// Takes room for so many notes more, where there are then fewer than 2^63. `NoMemory` leaves the notes, and no less
     /// room.
     fn reserve(&mut self, alloc: Global, count: usize) -> Result<(), NoMemory>
         ensures room { OnOk result (count ≤ spare self.new) }
         ensures few { OnOk result (length (notes self.old) + count < 2 ^ 63) }
         ensures kept { notes self.new ≡ notes self.old }
-        ensures spare { spare self.old ≤ spare self.new };
+        ensures spare { spare self.old ≤ spare self.new }
+        ensures asked { asked self.new ≡ asked self.old + 1 };
 
     /// Puts a note at the end. It takes no memory.
     fn note(&mut self, note: Note)
         requires { 1 ≤ spare self.old }
         ensures noted { notes self.new ≡ notes self.old ++ note ∷ [] }
-        ensures spare { spare self.old ≤ spare self.new + 1 };
+        ensures spare { spare self.old ≤ spare self.new + 1 }
+        ensures asked { asked self.new ≡ asked self.old };
 }

@@ -6,7 +6,7 @@ ghost use Rattle.op_base.specs.Message.{fits};
 ghost use Rattle.causal_model.specs.Counts.{is_carried};
 ghost use Rattle.replica_node.specs.Epochs.{IsNextOf};
 
-use crate::{Journal, Node, Recorder};
+use crate::{AskCount, Journal, Node, Recorder};
 use causal_model::Note;
 use op_base::{Act, Answer, Message, NoMemory, ObjectId, Op, Tag, Update, operations_are_valid};
 use replica_core::{Beat, Local, Receive, Replica, are_numbers};
@@ -17,6 +17,7 @@ use std::test::Fail;
 #[derive(Drop)]
 struct Refusing {
     notes: Vec<Note>,
+    count: AskCount,
     /// How many calls asked for room.
     asked: u32,
     /// Which of them is refused, from 1.
@@ -28,7 +29,10 @@ impl Recorder for Refusing {
 
     ghost spare = { λ r. vec_capacity r.notes - length r.notes.items };
 
+    ghost asked = { λ r. r.count.asked };
+
     fn reserve(&mut self, _alloc: Global, count: usize) -> Result<(), NoMemory> {
+        self.count = self.count.one_more();
         self.asked = self.asked.saturating_add(1);
         if self.asked == self.refused {
             return Err(NoMemory);
@@ -49,6 +53,7 @@ fn node_refusing(alloc: Global, refused: u32) -> Result<Node<Refusing>, Fail>
 {
     let recorder = Refusing {
         notes: Vec::new(alloc),
+        count: AskCount::none(),
         asked: 0,
         refused,
     };

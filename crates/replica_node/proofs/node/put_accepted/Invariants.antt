@@ -10,3 +10,4 @@ invariant-loop-step g l =
     × (length l.steps ≤ g.R.Recorder.spare l.journal + l.step-index)
     × IsCount l.length (g.R.Recorder.notes l.journal)
     × (l.length ≡ l.fn.length + 1 + l.step-index)
+    × (g.R.Recorder.asked l.journal ≡ g.R.Recorder.asked l.fn.journal)
