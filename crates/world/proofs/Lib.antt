@@ -1,4 +1,5 @@
 pub mod Nodes
+pub mod Asking
 pub mod Changes
 pub mod Follow
 pub mod Replies

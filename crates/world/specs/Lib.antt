@@ -2,6 +2,7 @@ pub mod Shows
 pub mod Growing
 pub mod Apart
 pub mod Midst
+pub mod Asking
 pub mod Answers
 pub mod Steps
 pub mod Entrants

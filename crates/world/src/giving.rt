@@ -1,15 +1,16 @@
 //! Giving single messages and bytes to a replica of the world.
 
-ghost use Rattle.std.specs.Prelude.{◌≡◌, ◌<◌, List, length, IsTrue};
+ghost use Rattle.std.specs.Prelude.{◌≡◌, ◌≢◌, ◌<◌, false, List, length, IsTrue};
 ghost use Rattle.op_base.specs.declared.message.Message.{Message};
 ghost use Rattle.causal_model.specs.Follows.{Follows};
 ghost use Rattle.causal_model.specs.Journal.{receive_notes};
-ghost use Rattle.causal_model.specs.Receiving.{receive_rule};
+ghost use Rattle.causal_model.specs.Receiving.{is_accepted, receive_rule};
 ghost use Rattle.causal_model.specs.declared.note.Note.{Note};
-ghost use Rattle.replica_node.specs.Rules.{noting};
+ghost use Rattle.replica_node.specs.Rules.{noting, AsksOnceAtMost};
 ghost use Rattle.world_model.specs.Raw.{is_frame, raw_at};
 ghost use Rattle.world_model.specs.World.{give_at, takes_frame, wants_frame};
 ghost use Rattle.world.specs.Steps.{SameNode, IsFrameOf, raw_noting, raw_got};
+ghost use Rattle.world.specs.Asking.{recorders_of, asked_of, is_taken, is_taken_raw};
 
 use crate::world::World;
 use causal_model::Receive;
@@ -24,7 +25,8 @@ impl World {
     ghost use Rattle.world.specs.Honest.{ShowsHonest, is_fair_given};
 
     /// Offers the message of member `k` with a number to replica `r`. Nothing is read of a message that came before or is
-    /// early. After `NoMemory` the world is as it was.
+    /// early. After `NoMemory` the world is as it was. Room is asked of the journals once at most, and not where a refusal is no
+    /// want of memory.
     pub fn give(&mut self, alloc: Global, r: u8, k: u8, seq: u32) -> Given
         requires to { r < length self.old.nodes.items }
         requires of { k < length self.old.nodes.items }
@@ -32,6 +34,8 @@ impl World {
         ensures honest { ShowsHonest self.old → ShowsHonest self.new }
         ensures fair { ShowsHonest self.old → IsTrue (is_fair_given result) }
         ensures members { length self.new.nodes.items ≡ length self.old.nodes.items }
+        ensures untouched { is_taken result ≡ false → result ≢ Given.Got Receive.NoMemory → recorders_of self.new.nodes.items ≡ recorders_of self.old.nodes.items }
+        ensures once { AsksOnceAtMost (asked_of self.old.nodes.items) (asked_of self.new.nodes.items) }
     {
         if seq == 0 {
             return Given::Unsent;
@@ -51,6 +55,8 @@ impl World {
         requires { r < length self.old.nodes.items }
         ensures answer { Follows ShowsPlain RawGot.NoMemory is_frame (raw_at r bytes.now) self.old result self.new }
         ensures members { length self.new.nodes.items ≡ length self.old.nodes.items }
+        ensures untouched { is_taken_raw result ≡ false → result ≢ RawGot.NoMemory → recorders_of self.new.nodes.items ≡ recorders_of self.old.nodes.items }
+        ensures once { AsksOnceAtMost (asked_of self.old.nodes.items) (asked_of self.new.nodes.items) }
     {
         offer_bytes(alloc, &mut self.nodes[r as usize], bytes)
     }
@@ -64,6 +70,8 @@ fn offer_frame(alloc: Global, node: &mut Node<Journal>, id: MessageId, frame: &[
     ensures answer { (m : Message) → IsFrameOf node.old.inner.n node.old.inner.epoch node.old.inner.limit id frame.now m
         → Follows (λ (there ns : List Note). there ≡ ns) Receive.NoMemory wants_frame (noting node.old.first (receive_notes m) (receive_rule node.old.inner.w m)) node.old.journal.notes result node.new.journal.notes }
     ensures same { SameNode node.old node.new }
+    ensures untouched { is_accepted result ≡ false → result ≢ Receive.NoMemory → node.new.journal ≡ node.old.journal }
+    ensures once { AsksOnceAtMost node.old.journal.asked node.new.journal.asked }
 {
     if let Some(refusal) = node.inner.known(id) {
         return refusal.answer();
@@ -85,6 +93,8 @@ fn offer_frame(alloc: Global, node: &mut Node<Journal>, id: MessageId, frame: &[
 fn offer_bytes(alloc: Global, node: &mut Node<Journal>, bytes: &[u8]) -> RawGot
     ensures answer { Follows (λ (there ns : List Note). there ≡ ns) RawGot.NoMemory is_frame (raw_noting node.old.first node.old.inner.n node.old.inner.epoch node.old.inner.w node.old.inner.limit bytes.now) node.old.journal.notes result node.new.journal.notes }
     ensures same { SameNode node.old node.new }
+    ensures untouched { is_taken_raw result ≡ false → result ≢ RawGot.NoMemory → node.new.journal ≡ node.old.journal }
+    ensures once { AsksOnceAtMost node.old.journal.asked node.new.journal.asked }
 {
     match decode(
         alloc,

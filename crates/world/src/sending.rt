@@ -1,6 +1,6 @@
 //! Sending at a replica of the world.
 
-ghost use Rattle.std.specs.Prelude.{◌≡◌, ◌≢◌, ◌<◌, ◌++◌, ◌∷◌, [], List, map, length, IsTrue, IfOk, OnErr};
+ghost use Rattle.std.specs.Prelude.{◌≡◌, ◌≢◌, ◌<◌, ◌++◌, ◌∷◌, [], List, map, length, IsTrue, IfOk, OnErr, false};
 ghost use Rattle.op_base.specs.Message.{fits};
 ghost use Rattle.causal_model.specs.Follows.{Follows};
 ghost use Rattle.causal_model.specs.Journal.{local_notes, beat_notes};
@@ -10,9 +10,10 @@ ghost use Rattle.causal_model.specs.declared.note.Note.{Note};
 ghost use Rattle.causal_model.specs.declared.note.Note.TheVariants as notes;
 ghost use Rattle.frame_codec.specs.Grammar.{frame_of};
 ghost use Rattle.replica_core.specs.Rules.{StandsFor, IsDraft};
-ghost use Rattle.replica_node.specs.Rules.{noting};
+ghost use Rattle.replica_node.specs.Rules.{noting, AsksOnceAtMost};
 ghost use Rattle.world_model.specs.World.{local_at, beat_at};
 ghost use Rattle.world.specs.Steps.{SameNode};
+ghost use Rattle.world.specs.Asking.{recorders_of, asked_of};
 
 use crate::world::World;
 use causal_model::{Beat, Local};
@@ -26,12 +27,15 @@ impl World {
     ghost use Rattle.world.specs.Honest.{ShowsHonest};
 
     /// Sends an update at replica `r`, and keeps the frame of what was sent. Every refusal leaves the world as it was, and
-    /// memory is wanted only where it would send.
+    /// memory is wanted only where it would send. Room is asked of the journals once at most, and not where a refusal is no
+    /// want of memory.
     pub fn local(&mut self, alloc: Global, r: u8, update: &Update) -> Local
         requires { r < length self.old.nodes.items }
         ensures answer { Follows ShowsPlain Local.NoMemory is_sent (local_at r update.now) self.old result self.new }
         ensures honest { ShowsHonest self.old → ShowsHonest self.new }
         ensures members { length self.new.nodes.items ≡ length self.old.nodes.items }
+        ensures untouched { is_sent result ≡ false → result ≢ Local.NoMemory → recorders_of self.new.nodes.items ≡ recorders_of self.old.nodes.items }
+        ensures once { AsksOnceAtMost (asked_of self.old.nodes.items) (asked_of self.new.nodes.items) }
     {
         let node = &mut self.nodes[r as usize];
         let frames = &mut self.sent[r as usize];
@@ -40,7 +44,7 @@ impl World {
     }
 
     /// Sends a no-op at replica `r`, where one is due, and keeps its frame. Every refusal leaves the world as it was, and
-    /// memory is wanted only where it would send.
+    /// memory is wanted only where it would send. Room is asked of the journals as in `local`.
     pub fn beat(&mut self, alloc: Global, r: u8) -> Beat
         requires { r < length self.old.nodes.items }
         ensures answer { Follows ShowsPlain Beat.NoMemory is_beat (beat_at r) self.old result self.new }
@@ -48,6 +52,8 @@ impl World {
         ensures free { ShowsHonest self.old → result ≢ Beat.Held }
         ensures grown { HasGrown self.old self.new }
         ensures members { length self.new.nodes.items ≡ length self.old.nodes.items }
+        ensures untouched { is_beat result ≡ false → result ≢ Beat.NoMemory → recorders_of self.new.nodes.items ≡ recorders_of self.old.nodes.items }
+        ensures once { AsksOnceAtMost (asked_of self.old.nodes.items) (asked_of self.new.nodes.items) }
     {
         let node = &mut self.nodes[r as usize];
         let frames = &mut self.sent[r as usize];
@@ -65,6 +71,8 @@ fn send(
     ensures answer { Follows (λ (there ns : List Note). there ≡ ns) Local.NoMemory is_sent (noting node.old.first local_notes (local_rule node.old.inner.w node.old.inner.limit update.now)) node.old.journal.notes result node.new.journal.notes }
     ensures same { SameNode node.old node.new }
     ensures frames { frames.new.items ≡ frames.old.items ++ map (frame_of Version.Two node.old.inner.n node.old.inner.epoch) (local_messages result) }
+    ensures untouched { is_sent result ≡ false → result ≢ Local.NoMemory → node.new.journal ≡ node.old.journal }
+    ensures once { AsksOnceAtMost node.old.journal.asked node.new.journal.asked }
 {
     let message = match node.inner.draft(alloc, update) {
         Ok(message) => message,
@@ -81,6 +89,8 @@ fn send_noop(alloc: Global, node: &mut Node<Journal>, frames: &mut Vec<ByteList>
     ensures answer { Follows (λ (there ns : List Note). there ≡ ns) Beat.NoMemory is_beat (noting node.old.first beat_notes (beat_rule node.old.inner.w node.old.inner.limit)) node.old.journal.notes result node.new.journal.notes }
     ensures same { SameNode node.old node.new }
     ensures frames { frames.new.items ≡ frames.old.items ++ map (frame_of Version.Two node.old.inner.n node.old.inner.epoch) (beat_messages result) }
+    ensures untouched { is_beat result ≡ false → result ≢ Beat.NoMemory → node.new.journal ≡ node.old.journal }
+    ensures once { AsksOnceAtMost node.old.journal.asked node.new.journal.asked }
 {
     let message = match node.inner.draft_noop() {
         Ok(message) => message,
@@ -108,6 +118,7 @@ fn commit(
     ensures same { SameNode node.old node.new }
     ensures frames { IfOk result (λ m. frames.new.items ≡ frames.old.items ++ frame_of Version.Two node.old.inner.n node.old.inner.epoch message ∷ []) }
     ensures no_frame { OnErr result (frames.new.items ≡ frames.old.items) }
+    ensures once { AsksOnceAtMost node.old.journal.asked node.new.journal.asked }
 {
     let frame = encode(alloc, &message, node.inner.n, node.inner.epoch)?;
     // It grows by a factor, so that many single reserves take constant time each.

@@ -8,6 +8,7 @@ use Rattle.world.proofs.Bytes.{read_is_told}
 use Rattle.world.proofs.Givings.{frame_is_carried}
 use Rattle.world.proofs.Nodes.{epoch_is_low, limit_is_small}
 use Rattle.world.proofs.Replies.{Notes}
+use Rattle.world.proofs.Asking.{raw_is_refused}
 use Rattle.world.proofs.giving.offer_bytes.Goals as goal
 
 pub receive-requires-clause-carried : goal.receive-requires-clause-carried
@@ -19,3 +20,6 @@ returns-in-Ok-clause-answer c =
     let read = frames_are_read node.inner.n node.inner.epoch node.inner.limit (omega (arith, epoch_is_low node)) (limit_is_small node) c.args.bytes.now c.in-Ok.message c.in-Ok.ensures.found in
     subst (λ (x : RawGot). Notes raw.NoMemory is_frame (raw_noting node.first node.inner.n node.inner.epoch node.inner.w node.inner.limit c.args.bytes.now) node.journal.notes x c.receive.new.self.journal.notes) (sym c.raw_got.ensures)
     (read_is_told node.first node.inner.n node.inner.epoch node.inner.w node.inner.limit c.args.bytes.now c.in-Ok.message node.journal.notes c.receive.new.self.journal.notes c.receive.result read c.receive.ensures.answer)
+
+pub returns-in-Ok-clause-untouched : goal.returns-in-Ok-clause-untouched
+returns-in-Ok-clause-untouched c = raw_is_refused c.receive.result c.raw_got.result c.raw_got.ensures c.receive.ensures.untouched

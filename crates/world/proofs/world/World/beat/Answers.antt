@@ -15,6 +15,7 @@ use Rattle.world.proofs.Follow.{some_is_left, follows_keeps, follows_answers}
 use Rattle.world.proofs.Nodes.{StandsAt, member_shown}
 use Rattle.world.proofs.Replies.{replies_beat}
 use Rattle.world.proofs.Growing.{beating_grows, node_keeps, same_settings}
+use Rattle.world.proofs.Asking.{recorders_stay, asked_once}
 use Rattle.world.proofs.world.World.beat.Goals as goal
 
 pub index_mut-frames-requires : goal.index_mut-frames-requires
@@ -58,3 +59,11 @@ returns-clause-grown c =
       firsts = node_keeps (λ x. x.first) (λ a b e. e.first) nodes c.args.r node left stands same;
       settings = node_keeps settings_of same_settings nodes c.args.r node left stands same;
     }
+
+pub returns-clause-untouched : goal.returns-clause-untouched
+returns-clause-untouched c unsent other =
+    recorders_stay c.args.self.now.nodes.items c.args.r c.index_mut-node.result.now c.send_noop.new.node (record { low = c.requires; at = c.index_mut-node.ensures.value }) (c.send_noop.ensures.untouched unsent other)
+
+pub returns-clause-once : goal.returns-clause-once
+returns-clause-once c =
+    asked_once c.args.self.now.nodes.items c.args.r c.index_mut-node.result.now c.send_noop.new.node (record { low = c.requires; at = c.index_mut-node.ensures.value }) c.send_noop.ensures.once

@@ -1,4 +1,4 @@
-use Rattle.std.proofs.Common.{rules, ◌≡◌, ◌≢◌, ◌<◌, ◌≤◌, ◌-◌, IsTrue, List, ℕ, length, map, slice_index_or, refl, sym, subst, arith}
+use Rattle.std.proofs.Common.{rules, ◌≡◌, ◌≢◌, ◌<◌, ◌≤◌, ◌-◌, IsTrue, List, ℕ, length, map, slice_index_or, refl, sym, ap, subst, arith}
 use Rattle.std.proofs.Props.{props}
 use Rattle.std.proofs.Math.Logic.{∥∥₁_elim, ∥∥₁_map}
 use Rattle.causal_model.specs.declared.outcome.Receive.TheVariants as receive
@@ -14,6 +14,7 @@ use Rattle.world.proofs.Honest.{give_is_fair}
 use Rattle.world.proofs.Givings.{none_is_given, none_at_0, none_is_past, message_given, replies_give}
 use Rattle.world.proofs.Nodes.{n_shown, size_shown}
 use Rattle.world.proofs.Nodes.{member_shown}
+use Rattle.world.proofs.Asking.{recorders_stay, asked_once}
 use Rattle.world.proofs.world.World.give.Goals as goal
 
 pub returns-then-seq-eq0-clause-answer : goal.returns-then-seq-eq0-clause-answer
@@ -84,3 +85,11 @@ returns-clause-fair c =
     follows_answers (given.Got receive.NoMemory) (give_at c.args.r c.args.k c.args.seq) IsHonest (ShowsPlain c.args.self.now) _ (given.Got c.offer_frame.result) takes_frame (λ answer. IsTrue (is_fair_given answer)) refl
     (λ plain shows honest. give_is_fair plain c.args.r c.args.k c.args.seq honest (member_shown c.args.self.now.nodes.items _ plain shows c.args.r c.requires.to))
     (returns-clause-answer c)
+
+pub returns-clause-untouched : goal.returns-clause-untouched
+returns-clause-untouched c untaken other =
+    recorders_stay c.args.self.now.nodes.items c.args.r c.index_mut.result.now c.offer_frame.new.node (record { low = c.requires.to; at = c.index_mut.ensures.value }) (c.offer_frame.ensures.untouched untaken (λ e. other (ap given.Got e)))
+
+pub returns-clause-once : goal.returns-clause-once
+returns-clause-once c =
+    asked_once c.args.self.now.nodes.items c.args.r c.index_mut.result.now c.offer_frame.new.node (record { low = c.requires.to; at = c.index_mut.ensures.value }) c.offer_frame.ensures.once

@@ -12,6 +12,7 @@ use Rattle.world.proofs.Changes.{rows_within}
 use Rattle.world.proofs.Follow.{some_is_left, follows_keeps}
 use Rattle.world.proofs.Nodes.{member_shown}
 use Rattle.world.proofs.Replies.{replies_local}
+use Rattle.world.proofs.Asking.{recorders_stay, asked_once}
 use Rattle.world.proofs.world.World.local.Goals as goal
 
 pub index_mut-frames-requires : goal.index_mut-frames-requires
@@ -36,3 +37,11 @@ returns-clause-honest c =
     follows_keeps local.NoMemory (local_at c.args.r c.args.update.now) IsHonest (ShowsPlain c.args.self.now) _ c.send.result is_sent
     (λ plain shows honest. (commands_keep_honest plain (world_command.sends_at c.args.r c.args.update.now) honest (member_shown c.args.self.now.nodes.items _ plain shows c.args.r c.requires, c.updates_are_valid.ensures) refl).0)
     (returns-clause-answer c)
+
+pub returns-clause-untouched : goal.returns-clause-untouched
+returns-clause-untouched c unsent other =
+    recorders_stay c.args.self.now.nodes.items c.args.r c.index_mut-node.result.now c.send.new.node (record { low = c.requires; at = c.index_mut-node.ensures.value }) (c.send.ensures.untouched unsent other)
+
+pub returns-clause-once : goal.returns-clause-once
+returns-clause-once c =
+    asked_once c.args.self.now.nodes.items c.args.r c.index_mut-node.result.now c.send.new.node (record { low = c.requires; at = c.index_mut-node.ensures.value }) c.send.ensures.once
