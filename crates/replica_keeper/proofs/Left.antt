@@ -200,7 +200,7 @@ front_stays notes left behind is none = record {
 }
 
 -- what lies within bytes has all that was sent, where the last record that sends does
-sent_stay : (n c : ℕ) (notes : List Note) → notes_of (groups_of notes) ≡ notes → sent_len n (groups_of notes) ≤ c → StaysSent notes (notes_of (within_bytes n c (groups_of notes)))
+pub sent_stay : (n c : ℕ) (notes : List Note) → notes_of (groups_of notes) ≡ notes → sent_len n (groups_of notes) ≤ c → StaysSent notes (notes_of (within_bytes n c (groups_of notes)))
 sent_stay n c notes cut le =
     let groups : List (List Note) = groups_of notes in
     let left : List (List Note) = within_bytes n c groups in

@@ -14,3 +14,4 @@ pub mod Showing
 pub mod KeepCalls
 pub mod KeepStops
 pub mod Calling
+pub mod Outboxes

@@ -1,5 +1,6 @@
 -- What a durable replica keeps, and what stops may leave of it.
-use Rattle.std.specs.Prelude.{◌≡◌, ℕ, zero, suc, ◌+◌, ◌≤◌, Bool, true, false, List, [], ◌∷◌, ◌++◌, length, take, None, if◌then◌else◌}
+use Rattle.std.specs.Prelude.{◌≡◌, ℕ, zero, suc, ◌+◌, ◌≤◌, Bool, true, false, List, [], ◌∷◌, ◌++◌, length, take, All, Contains, None, if◌then◌else◌}
+use Rattle.op_base.specs.declared.message.Message.{Message}
 use Rattle.causal_model.specs.Journal.{notes_of}
 use Rattle.causal_model.specs.declared.note.Note.{Note}
 use Rattle.causal_model.specs.declared.note.Note.TheVariants.{Sent, Kept, Took, Crook, Regroup}
@@ -49,6 +50,10 @@ sent_by len send (suc later) = len + suc later
 abbrev pub sent_len : ℕ → List (List Note) → ℕ
 sent_len n [] = 0
 sent_len n (group ∷ groups) = sent_by (length (record_of n group)) (is_send group) (sent_len n groups)
+
+-- each of these messages stands as sent in a group whose record lies within the bytes synced
+abbrev pub AreSentWithin : ℕ → ℕ → List Note → List Message → Type 0
+AreSentWithin n synced notes messages = All (λ m. Contains (notes_of (within_bytes n synced (groups_of notes))) (Sent m)) messages
 
 -- ---- what a stop leaves
 

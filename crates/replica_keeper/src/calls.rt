@@ -12,7 +12,7 @@ ghost use Rattle.replica_core.specs.Rules.{SameSettings};
 ghost use Rattle.replica_node.specs.Rules.{noting};
 ghost use Rattle.store_io.specs.Keeping.{LeavesOnly};
 ghost use Rattle.replica_keeper.specs.Calls.{local_list, beat_list, receive_list};
-ghost use Rattle.replica_keeper.specs.Keeping.{groups_of, IsFrontOf};
+ghost use Rattle.replica_keeper.specs.Keeping.{groups_of, AreSentWithin, IsFrontOf};
 ghost use Rattle.replica_keeper.specs.Open.{settings_by, IsOpen};
 
 use crate::keeping::{Unkept, accept, send};
@@ -35,6 +35,7 @@ pub(crate) fn local<K: Keeper>(
     ensures list { IfOk result (λ answer. answer ≢ Local.NoMemory → groups_of node.new.journal.notes ≡ local_list (settings_by node.old) node.old.journal.notes update.now) }
     ensures synced { IfOk result (λ answer. IsTrue (is_sent answer) → K.synced keeper.new ≡ length (K.held keeper.new)) }
     ensures fits { IfOk result (λ answer. All (λ m. IsTrue (fits node.old.inner.n m)) (local_messages answer)) }
+    ensures out { IfOk result (λ answer. AreSentWithin node.old.inner.n (K.synced keeper.new) node.new.journal.notes (local_messages answer)) }
     ensures unsynced { IfOk result (λ answer. is_sent answer ≡ false → K.synced keeper.new ≡ K.synced keeper.old) }
     ensures steady { OnOk result (K.faults keeper.new ≡ K.faults keeper.old) }
     ensures fault { OnErr result (K.faults keeper.old < K.faults keeper.new) }
@@ -64,6 +65,7 @@ pub(crate) fn beat<K: Keeper>(
     ensures list { IfOk result (λ answer. answer ≢ Beat.NoMemory → groups_of node.new.journal.notes ≡ beat_list (settings_by node.old) node.old.journal.notes) }
     ensures synced { IfOk result (λ answer. IsTrue (is_beat answer) → K.synced keeper.new ≡ length (K.held keeper.new)) }
     ensures fits { IfOk result (λ answer. All (λ m. IsTrue (fits node.old.inner.n m)) (beat_messages answer)) }
+    ensures out { IfOk result (λ answer. AreSentWithin node.old.inner.n (K.synced keeper.new) node.new.journal.notes (beat_messages answer)) }
     ensures unsynced { IfOk result (λ answer. is_beat answer ≡ false → K.synced keeper.new ≡ K.synced keeper.old) }
     ensures steady { OnOk result (K.faults keeper.new ≡ K.faults keeper.old) }
     ensures fault { OnErr result (K.faults keeper.old < K.faults keeper.new) }

@@ -14,7 +14,7 @@ ghost use Rattle.replica_node.specs.Rules.{noting};
 ghost use Rattle.store_io.specs.Keeping.{LeavesOnly};
 ghost use Rattle.replica_keeper.specs.Calls.{local_list, beat_list, receive_list};
 ghost use Rattle.replica_keeper.specs.Durably.{IfDone, numbers};
-ghost use Rattle.replica_keeper.specs.Keeping.{groups_of, IsFrontOf};
+ghost use Rattle.replica_keeper.specs.Keeping.{groups_of, AreSentWithin, IsFrontOf};
 ghost use Rattle.replica_keeper.specs.Open.{NotedNode, GoesOn, IsKept, notes_in};
 ghost use Rattle.world_model.specs.Records.{records_of};
 
@@ -84,6 +84,7 @@ impl<K: Keeper> Durable<K> {
         ensures held { IfSome self.new.node (λ node. K.held self.new.keeper ≡ records_of self.new.n (groups_of node.journal.notes)) }
         ensures synced { IfDone result (λ answer. IsTrue (is_sent answer) → K.synced self.new.keeper ≡ length (K.held self.new.keeper)) }
         ensures fits { IfDone result (λ answer. All (λ m. IsTrue (fits self.old.n m)) (local_messages answer)) }
+        ensures out { IfDone result (λ answer. AreSentWithin self.old.n (K.synced self.new.keeper) (notes_in self.new.node) (local_messages answer)) }
         ensures unsynced { IfDone result (λ answer. is_sent answer ≡ false → K.synced self.new.keeper ≡ K.synced self.old.keeper) }
         ensures settings { numbers self.new.me self.new.n self.new.w self.new.limit ≡ numbers self.old.me self.old.n self.old.w self.old.limit }
         ensures any_moment { IsSome self.old.node → LeavesOnly K.moment K.left_since self.old.keeper self.new.keeper
@@ -117,6 +118,7 @@ impl<K: Keeper> Durable<K> {
         ensures held { IfSome self.new.node (λ node. K.held self.new.keeper ≡ records_of self.new.n (groups_of node.journal.notes)) }
         ensures synced { IfDone result (λ answer. IsTrue (is_beat answer) → K.synced self.new.keeper ≡ length (K.held self.new.keeper)) }
         ensures fits { IfDone result (λ answer. All (λ m. IsTrue (fits self.old.n m)) (beat_messages answer)) }
+        ensures out { IfDone result (λ answer. AreSentWithin self.old.n (K.synced self.new.keeper) (notes_in self.new.node) (beat_messages answer)) }
         ensures unsynced { IfDone result (λ answer. is_beat answer ≡ false → K.synced self.new.keeper ≡ K.synced self.old.keeper) }
         ensures settings { numbers self.new.me self.new.n self.new.w self.new.limit ≡ numbers self.old.me self.old.n self.old.w self.old.limit }
         ensures any_moment { IsSome self.old.node → LeavesOnly K.moment K.left_since self.old.keeper self.new.keeper
@@ -170,7 +172,8 @@ impl<K: Keeper> Durable<K> {
 
     /// The replica with its journal: none where it is closed.
     pub fn node(&self) -> Option<&Node<Journal>>
-        ensures { option_copied result ≡ self.now.node }
+        ensures node { option_copied result ≡ self.now.node }
+        ensures outbox { IfSome result (λ node. AreSentWithin self.now.n (K.synced self.now.keeper) node.now.journal.notes node.now.inner.outbox.messages) }
     {
         self.node.as_ref()
     }

@@ -1,4 +1,5 @@
-use Rattle.std.proofs.Common.{[], ◌∷◌, ◌++◌, inl, refl, sym, ap, ◌∙◌}
+use Rattle.std.proofs.Common.{[], ◌∷◌, ◌++◌, Contains, inl, refl, sym, ap, subst, ◌∙◌}
+use Rattle.std.proofs.lemmas.List.Elements.{All-nil, All-cons, Contains-push}
 use Rattle.causal_model.specs.Journal.{beat_notes}
 use Rattle.causal_model.specs.Sending.{is_beat, beat_rule}
 use Rattle.causal_model.specs.declared.note.Note.TheVariants as notes
@@ -6,11 +7,12 @@ use Rattle.causal_model.specs.declared.outcome.Beat.TheVariants as beat
 use Rattle.replica_node.specs.Nodes.{state_by}
 use Rattle.replica_node.proofs.Noted.{told_follows, unbeaten_notes_nothing}
 use Rattle.replica_keeper.specs.Calls.{state_then, beat_list}
-use Rattle.replica_keeper.specs.Keeping.{groups_of, IsFrontOf}
+use Rattle.replica_keeper.specs.Keeping.{groups_of, AreSentWithin, IsFrontOf}
 use Rattle.replica_keeper.specs.Open.{settings_by}
 use Rattle.replica_keeper.proofs.Kept.{groups_more}
 use Rattle.replica_keeper.proofs.Lists.{left_list, noted, beat_list_by}
 use Rattle.replica_keeper.proofs.Moments.{started}
+use Rattle.replica_keeper.proofs.Outboxes.{sent_within}
 use Rattle.replica_keeper.proofs.calls.beat.Goals as goal
 
 pub returns-in-Err-clause-answer : goal.returns-in-Err-clause-answer
@@ -37,3 +39,12 @@ pub returns-in-Ok-send-clause-list : goal.returns-in-Ok-send-clause-list
 returns-in-Ok-send-clause-list g c =
     let node = c.args.node.now in
     λ _. ap groups_of c.in-Ok-send.ensures.noted ∙ groups_more node.journal.notes (notes.Sent c.in-Ok.message ∷ []) refl ∙ sym (beat_list_by node c.requires.first (beat.Sent c.in-Ok.message) c.in-Ok.ensures.answer)
+
+pub returns-in-Ok-send-clause-out : goal.returns-in-Ok-send-clause-out
+returns-in-Ok-send-clause-out g c =
+    let node = c.args.node.now in
+    let m = c.in-Ok-send.message in
+    let there = subst (λ ns. Contains ns (notes.Sent m)) (sym (c.in-Ok-send.ensures.noted ∙ ap (λ x. node.journal.notes ++ notes.Sent x ∷ []) (sym c.in-Ok-send.ensures.sent))) (Contains-push node.journal.notes (notes.Sent m)) in
+    let all = All-cons (λ x. Contains c.send.new.node.journal.notes (notes.Sent x)) m [] there (All-nil (λ x. Contains c.send.new.node.journal.notes (notes.Sent x))) in
+    subst (λ n. AreSentWithin n (g.K.Keeper.synced c.send.new.keeper) c.send.new.node.journal.notes (m ∷ [])) c.send.ensures.settings.n
+    (sent_within c.send.new.node (g.K.Keeper.held c.send.new.keeper) (g.K.Keeper.synced c.send.new.keeper) (m ∷ []) c.in-Ok-send.ensures.kept all)

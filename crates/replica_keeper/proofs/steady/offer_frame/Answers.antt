@@ -13,14 +13,14 @@ use Rattle.replica_keeper.proofs.steady.offer_frame.Goals as goal
 
 pub known-requires : goal.known-requires
 known-requires c =
-    let is = sym c.node.ensures ∙ ap option_copied c.in-Some.is in
+    let is = sym c.node.ensures.node ∙ ap option_copied c.in-Some.is in
     omega (arith, c.requires.of, (c.args.replica.now.kept c.in-Some.node.now is).n)
 
 pub returns : goal.returns
 returns c = λ m is.
     let it = c.args.replica.now in
     let node = c.in-Some.node.now in
-    let opened = sym c.node.ensures ∙ ap option_copied c.in-Some.is in
+    let opened = sym c.node.ensures.node ∙ ap option_copied c.in-Some.is in
     let by_id : refusal_by_id (state_in it) m ≡ Some c.in-Some-known.refusal = ap (λ s. refusal_by_id s m) (state_in_is it node opened (it.kept node opened)) ∙ sym (c.known.ensures _ m node.stands is.id) ∙ c.in-Some-known.is in
     let told : (receive_rule it.w m (state_in it)).0 ≡ refused c.in-Some-known.refusal = ap (λ o. (receive_by it.w m (state_in it) o).0) (refused_by_id it.w (state_in it) m c.in-Some-known.refusal by_id) in
     inl (c.answer.ensures ∙ sym told, subst (λ t. HasNoted it it (receive_notes m t)) (sym told) (nothing_noted it m c.in-Some-known.refusal c.requires.open))

@@ -4,6 +4,7 @@ use Rattle.causal_model.specs.Sending.{is_beat, beat_rule}
 use Rattle.causal_model.specs.declared.outcome.Beat.TheVariants as beat
 use Rattle.replica_keeper.specs.Calls.{beat_list}
 use Rattle.replica_keeper.specs.Durably.{numbers}
+use Rattle.replica_keeper.specs.Keeping.{AreSentWithin}
 use Rattle.op_base.specs.Message.{fits}
 use Rattle.causal_model.specs.Sending.{beat_messages}
 use Rattle.replica_keeper.proofs.Durables.{moments, listed, answered, goes_on}
@@ -67,3 +68,9 @@ returns-in-Ok-clause-fits g c =
     let it = c.args.self.now in
     let node = c.in-Some.node in
     subst (λ n. All (λ m. IsTrue (fits n m)) (beat_messages c.in-Ok.answer)) (it.kept node (sym c.take.ensures.value ∙ c.in-Some.is)).n c.in-Ok.ensures.fits
+
+pub returns-in-Ok-clause-out : goal.returns-in-Ok-clause-out
+returns-in-Ok-clause-out g c =
+    let it = c.args.self.now in
+    let node = c.in-Some.node in
+    subst (λ n. AreSentWithin n (g.K.Keeper.synced c.beat.new.keeper) c.beat.new.node.journal.notes (beat_messages c.in-Ok.answer)) (it.kept node (sym c.take.ensures.value ∙ c.in-Some.is)).n c.in-Ok.ensures.out

@@ -13,4 +13,4 @@ copied_is_some (Some b) x e = refl
 
 pub unwrap-requires : goal.unwrap-requires
 unwrap-requires c = ∥∥₁_elim (c.args.self.now.shows c.requires.goes_on) (search props) (λ x.
-    copied_is_some c.node.result _ (c.node.ensures ∙ (stands_there c.args.self.now.replicas.items (map (λ row. row.items) c.args.self.now.sent.items) x.0 x.1 c.args.r c.requires.of c.index.result.now c.index.ensures).keeps.opened))
+    copied_is_some c.node.result _ (c.node.ensures.node ∙ (stands_there c.args.self.now.replicas.items (map (λ row. row.items) c.args.self.now.sent.items) x.0 x.1 c.args.r c.requires.of c.index.result.now c.index.ensures).keeps.opened))
