@@ -6,8 +6,6 @@ use Rattle.polog.specs.Value.{Log, with_stripped}
 -- it is the same but for what waits: that is one less, or nothing
 pub record IsHandedOut (old new : Log) (result : Option Entry) : Type 0 where
   pub members : new.n ≡ old.n
-  pub room : new.room ≡ old.room
-  pub pushed : new.pushed ≡ old.pushed
   pub fewer : is_some result ≡ true → length new.stripped < length old.stripped
   pub none : is_some result ≡ false → new.stripped ≡ []
 

@@ -55,8 +55,6 @@ pub fn place_of(origin: u8, turn: u32) -> (u8, u32) {
 #[tactic(auto, using(crate::proofs::Handed::handed_out))]
 fn hand_out_one(log: &mut Polog) -> bool
     ensures members { log.new.n ≡ log.old.n }
-    ensures room { log.new.room ≡ log.old.room }
-    ensures pushed { log.new.pushed ≡ log.old.pushed }
     ensures fewer { IsTrue result → length log.new.stripped < length log.old.stripped }
     ensures none { result ≡ false → log.new.stripped ≡ [] }
 {
@@ -66,8 +64,6 @@ fn hand_out_one(log: &mut Polog) -> bool
 /// Has all entries handed out that were stripped.
 fn hand_out(log: &mut Polog)
     ensures members { log.new.n ≡ log.old.n }
-    ensures room { log.new.room ≡ log.old.room }
-    ensures pushed { log.new.pushed ≡ log.old.pushed }
     ensures none { log.new.stripped ≡ [] }
 {
     while hand_out_one(log) {}
@@ -79,14 +75,10 @@ pub struct Receiver {
     alloc: Global,
     /// After so many messages a member adds the same number again.
     period: u32,
-    room: usize,
-    pushed: u64,
     sent: Tag,
     stable: Tag,
     log: Polog,
     ghost some: { 1 ≤ period },
-    ghost within: { room ≤ log.room },
-    ghost counted: { log.pushed ≡ pushed },
     ghost sent_members: { length sent ≡ log.n },
     ghost stable_members: { length stable ≡ log.n },
     ghost handed_out: { log.stripped ≡ [] },
@@ -105,8 +97,6 @@ impl Receiver {
         let mut receiver = Receiver {
             alloc,
             period,
-            room: usize::from(n) * usize::from(w),
-            pushed: 0,
             sent: Tag::zero(n),
             stable: Tag::zero(n),
             log: Polog::create(alloc, n, w)?,
@@ -148,7 +138,7 @@ impl Receiver {
         ensures { self.new.log.n ≡ self.old.log.n }
     {
         self.log.prune(&message, &StoreRule);
-        if self.log.len() >= self.room || self.pushed >= u64::MAX {
+        if self.log.room_left() == 0 || self.log.pushed() == u64::MAX {
             return false;
         }
         let Message { origin, tag, op } = message;
@@ -160,7 +150,6 @@ impl Receiver {
             tag,
             update,
         });
-        self.pushed += 1;
         true
     }
 

@@ -5,12 +5,6 @@ use Rattle.parts_bench.proofs.log.hand_out_one.Goals as goal
 pub returns-clause-members : goal.returns-clause-members
 returns-clause-members c = (handed_out c.args.log.now c.next_stripped.new.self c.next_stripped.result c.next_stripped.ensures.none c.next_stripped.ensures.first).members
 
-pub returns-clause-room : goal.returns-clause-room
-returns-clause-room c = (handed_out c.args.log.now c.next_stripped.new.self c.next_stripped.result c.next_stripped.ensures.none c.next_stripped.ensures.first).room
-
-pub returns-clause-pushed : goal.returns-clause-pushed
-returns-clause-pushed c = (handed_out c.args.log.now c.next_stripped.new.self c.next_stripped.result c.next_stripped.ensures.none c.next_stripped.ensures.first).pushed
-
 pub returns-clause-none : goal.returns-clause-none
 returns-clause-none c = λ empty.
     let handed : IsHandedOut c.args.log.now c.next_stripped.new.self c.next_stripped.result = handed_out c.args.log.now c.next_stripped.new.self c.next_stripped.result c.next_stripped.ensures.none c.next_stripped.ensures.first in
