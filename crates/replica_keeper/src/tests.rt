@@ -1,4 +1,8 @@
 //! What no clause says: that there is memory, and how starts, faults and stops follow one another.
+mod damage;
+mod failing;
+mod records;
+
 use super::*;
 use causal_model::{Beat, Local};
 use op_base::{Act, ObjectId, Update};
