@@ -2,6 +2,7 @@
 mod damage;
 mod failing;
 mod records;
+mod torn;
 
 use super::*;
 use causal_model::{Beat, Local};
