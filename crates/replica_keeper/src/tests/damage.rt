@@ -86,12 +86,15 @@ fn expected(bytes: &[u8], place: Place, within: u8, byte: u8) -> Start {
     }
 }
 
+/// What is put at each place. All 256 were tried once, and take too long for a busy machine.
+const TRIED: [u8; 14] = [0, 1, 2, 4, 7, 8, 15, 16, 18, 19, 45, 98, 128, 255];
+
 #[test]
 fn another_byte_at_any_place_is_damage_there_or_opens(rt: HostRuntime) -> Result<(), Fail> {
     let alloc = rt.alloc();
     for place in PLACES {
         for within in 0..place.len {
-            for byte in 0..=255 {
+            for byte in TRIED {
                 let mut bytes = ADDED.to_vec(alloc)?;
                 bytes.extend_from_slice(HEARD)?;
                 bytes.extend_from_slice(CONFIRMED)?;
