@@ -1,0 +1,7 @@
+//! Further worked transcripts, each for what those of `script_net` leave open: a definition that said something else would give
+//! another text here.
+#![tactic(auto)]
+
+mod worked;
+
+pub use worked::{a_resend_is_kept, lines_end_by_newlines, stable_counts_are_shown};

@@ -1,0 +1,18 @@
+//! Worked transcripts: that the definition means what was meant. Each is the contract of a function that does nothing.
+
+ghost use Rattle.worked_lines.specs.Worked.{LinesEnd, ResendIsKept, StableIsShown};
+
+/// What stands behind the last newline is no line that has ended.
+pub fn lines_end_by_newlines()
+    ensures { LinesEnd }
+{}
+
+/// Stable counts are those that all members are known to have, and not those that were delivered.
+pub fn stable_counts_are_shown()
+    ensures { StableIsShown }
+{}
+
+/// A resend of which messages are kept, and none is delivered, replies kept.
+pub fn a_resend_is_kept()
+    ensures { ResendIsKept }
+{}
