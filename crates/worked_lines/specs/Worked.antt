@@ -27,3 +27,14 @@ abbrev pub ResendIsKept : Type 0
 ResendIsKept = IsRepliedTo
     (codes "store 3 2" ∷ codes "do 0 counter:c inc 1" ∷ codes "give 1 0 1" ∷ codes "do 1 counter:c inc 1" ∷ codes "do 1 counter:c inc 1" ∷ codes "give 2 1 2" ∷ codes "resend 2 1" ∷ codes "resend 2 1" ∷ codes "resend 2 0" ∷ [])
     (codes "ok 1" ∷ codes "took 0:1" ∷ codes "ok 1" ∷ codes "ok 2" ∷ codes "kept" ∷ codes "kept" ∷ codes "none" ∷ codes "took 0:1 1:1 1:2" ∷ [])
+
+-- words are parted by tabs too; a wrong number of words, a member that there isn't, an act of another kind and a number of 11
+-- digits have their faults; a flag that was enabled is on
+abbrev pub LinesAreRead : Type 0
+LinesAreRead = IsRepliedTo
+    (codes "store 2 1" ∷ (codes "do" ++ 9 ∷ codes "0 counter:c inc 1") ∷ codes "ask 0" ∷ codes "ask 2 counter:c" ∷ codes "do 0 counter:c clear" ∷ codes "give 1 0 00000000001" ∷ codes "do 1 ewflag:f enable" ∷ codes "ask 1 ewflag:f" ∷ [])
+    (codes "ok 1" ∷ codes "bad 3" ∷ codes "bad 4" ∷ codes "bad 6" ∷ codes "bad 8" ∷ codes "ok 1" ∷ codes "= on" ∷ [])
+
+-- a store has at most 16 members
+abbrev pub NoStoreOf17 : Type 0
+NoStoreOf17 = IsRepliedTo (codes "store 17 1" ∷ codes "beat 0" ∷ []) []

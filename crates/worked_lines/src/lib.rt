@@ -4,4 +4,6 @@
 
 mod worked;
 
-pub use worked::{a_resend_is_kept, lines_end_by_newlines, stable_counts_are_shown};
+pub use worked::{
+    a_resend_is_kept, lines_are_read, lines_end_by_newlines, stable_counts_are_shown,
+};

@@ -1,6 +1,6 @@
 //! Worked transcripts: that the definition means what was meant. Each is the contract of a function that does nothing.
 
-ghost use Rattle.worked_lines.specs.Worked.{LinesEnd, ResendIsKept, StableIsShown};
+ghost use Rattle.worked_lines.specs.Worked.{LinesAreRead, LinesEnd, NoStoreOf17, ResendIsKept, StableIsShown};
 
 /// What stands behind the last newline is no line that has ended.
 pub fn lines_end_by_newlines()
@@ -15,4 +15,10 @@ pub fn stable_counts_are_shown()
 /// A resend of which messages are kept, and none is delivered, replies kept.
 pub fn a_resend_is_kept()
     ensures { ResendIsKept }
+{}
+
+/// Lines are read word by word, and those that are no command have their faults.
+pub fn lines_are_read()
+    ensures read { LinesAreRead }
+    ensures store { NoStoreOf17 }
 {}
