@@ -23,14 +23,14 @@ use Rattle.frame_codec.specs.declared.fault.DecodeFault.TheVariants.{NoMemory}
 use Rattle.frame_codec.specs.declared.fault.FrameFault.TheVariants.{Short, Version as OfVersion, Epoch, Members, Origin, Code, BadKey, Argument}
 use Rattle.frame_codec.specs.declared.version.Version.{Version}
 use Rattle.frame_codec.specs.declared.version.Version.TheVariants.{One, Two}
-use Rattle.frame_codec.specs.Grammar.{version_byte, IsReadIn, epoch_field, number_field, text_field, argument_field, operation_fields, frame_of, IsOperation, IsSpelling, IsFrame}
+use Rattle.frame_codec.specs.Grammar.{version_byte, last_code, IsReadIn, epoch_field, number_field, text_field, argument_field, operation_fields, frame_of, IsOperation, IsSpelling, IsFrame}
 use Rattle.frame_codec.specs.InPlace.{IsInPlace}
 use Rattle.frame_codec.specs.Laws.{SomeSpelling, OneSpelling, OneMessage, NoFrameBegins, FramesHaveNoFault, WithoutFaultIsAFrame}
 use Rattle.frame_codec.specs.Fault.{byte_at, code_byte, version_at, head_len, is_read_in, is_bad_epoch, numbers, timestamp_of, behind_timestamp, text_of, behind_text, is_text_field, is_bad_number, frame_fault, Gives}
-use Rattle.frame_codec.specs.Reading.{row_of, act_at, behind_act, operation_fault, behind_operation, SaysOperation, head_fault, IsWhy, Says}
-use Rattle.frame_codec.proofs.Codes.{verb_of, row_code, row_has, code_row}
+use Rattle.frame_codec.specs.Reading.{row_of, act_at, is_argument, behind_act, operation_fault, behind_operation, SaysOperation, head_fault, IsWhy, Says}
+use Rattle.frame_codec.proofs.Codes.{verb_of, row_code, row_has, code_row, op_code_most}
 use Rattle.frame_codec.proofs.Spelled.{IsBytes, IsBytes-drop, IsBytes-behind, epoch_spelled, epoch_again, behind_head, length-head, short_key, numbers_spelled, numbers_again, length-number_fields, text_spelled, text_whole, text_again, behind_again, argument_spelled, argument_again}
-use Rattle.frame_codec.proofs.Faults.{six_pass, HasNoFault, no_fault, without_fault, head_code}
+use Rattle.frame_codec.proofs.Faults.{six_pass, HasNoFault, no_fault, without_fault, head_code, head_most}
 
 -- ---- operations
 
@@ -50,13 +50,19 @@ two_pass false argument h = absurd cc
 two_pass true false h = absurd cc
 two_pass true true h = (refl, refl)
 
+-- so the argument of an operation without a fault is whole
+pub whole_argument : (version : Version) (code : ℕ) (bytes : List ℕ) → 1 ≤ code → operation_fault version code bytes ≡ None → is_argument version (row_of code).1 (behind_text version bytes) ≡ true
+whole_argument version code bytes low none =
+    let some : (code == 0) ≡ false = ne_eqb code 0 (λ e. omega (arith, e, low)) in
+    (two_pass _ _ (rw some at none)).1
+
 -- an operation that bytes without a fault say is spelled so
 record IsSpelledOperation (version : Version) (code : ℕ) (bytes : List ℕ) (o : Op) : Type 0 where
   parts : bytes ≡ operation_fields version o ++ behind_operation version code bytes
   valid : IsOperation version o
   code_is : op_code o ≡ code
 
-operation_spelled : (version : Version) (code : ℕ) (bytes : List ℕ) (o : Op) → code ≤ 19 → IsBytes bytes → operation_fault version code bytes ≡ None → SaysOperation version code bytes o → IsSpelledOperation version code bytes o
+operation_spelled : (version : Version) (code : ℕ) (bytes : List ℕ) (o : Op) → code ≤ 22 → IsBytes bytes → operation_fault version code bytes ≡ None → SaysOperation version code bytes o → IsSpelledOperation version code bytes o
 operation_spelled version code bytes op.NoOp most fits none says =
     let zero_is : (code == 0) ≡ true = eq-eqb code 0 says in
     record { parts = rw zero_is refl; valid = tt; code_is = sym says }
@@ -73,7 +79,7 @@ operation_spelled version code bytes (op.Update u) most fits none says =
     record {
       parts = whole ∙ sym (λ i. (text_field version (key_is i) ++ argument_field version (says.2 i)) ++ (if some i then bytes else behind_act version (row_of code).1 behind));
       valid = (rw key_is key.1, rw (says.2) argument.valid);
-      code_is = rw (kind_is, says.2, row_code version code says.0 most behind) refl;
+      code_is = rw (kind_is, says.2, row_code version code says.0 most behind tests.1) refl;
     }
 
 -- an operation that was written is said again
@@ -81,10 +87,9 @@ record IsSaidOperation (version : Version) (code : ℕ) (bytes : List ℕ) (o : 
   says : SaysOperation version code bytes o
   none : operation_fault version code bytes ≡ None
   behind : behind_operation version code bytes ≡ rest
-  most : code ≤ 19
 
 operation_again : (version : Version) (o : Op) (rest : List ℕ) → IsOperation version o → IsSaidOperation version (op_code o) (operation_fields version o ++ rest) o rest
-operation_again version op.NoOp rest valid = record { says = refl; none = refl; behind = refl; most = omega arith }
+operation_again version op.NoOp rest valid = record { says = refl; none = refl; behind = refl }
 operation_again version (op.Update u) rest valid =
     let key = u.object.key in
     let code = op_code (op.Update u) in
@@ -99,12 +104,11 @@ operation_again version (op.Update u) rest valid =
     let key_is : text_of version bytes ≡ key = ap (text_of version) regrouped ∙ text_again version key fields small in
     let behind_is : behind_text version bytes ≡ fields = ap (behind_text version) regrouped ∙ behind_again version key fields small in
     let key_passes : is_text_field version is_key bytes ≡ true = ap (is_text_field version is_key) regrouped ∙ text_whole version is_key key fields small valid.0 in
-    let argument = argument_again version u.act rest valid.1 in
+    let argument = argument_again version u.object.kind u.act rest u.of_kind valid.1 in
     record {
       says = (table.least, sym (λ i. record { kind = kind i; key = key_is i }), sym ((λ i. act_at version (verb i) (behind_is i)) ∙ argument.act_is));
       none = rw (some, key_passes, verb, behind_is, argument.whole) refl;
       behind = rw (some, verb, behind_is) argument.behind;
-      most = table.most;
     }
 
 -- ---- messages
@@ -184,7 +188,7 @@ spelled version n epoch limit bytes m fits h says =
     let tail = drop begin bytes in
     let front = epoch_spelled version epoch bytes fits (omega (arith, head.long)) head.epoch_is in
     let tag = numbers_spelled n tail (IsBytes-drop begin bytes fits) (omega (arith, head.long, length-drop begin bytes)) in
-    let operation = operation_spelled version (code_byte bytes) (behind_timestamp version n bytes) m.op (head_code version n epoch bytes h.head) (IsBytes-drop (begin + 4 * n) bytes fits) h.operation says.operation in
+    let operation = operation_spelled version (code_byte bytes) (behind_timestamp version n bytes) m.op (head_most version n epoch bytes h.head) (IsBytes-drop (begin + 4 * n) bytes fits) h.operation says.operation in
     let fields : drop (4 * n) tail ≡ operation_fields version m.op =
     drop-drop (4 * n) begin bytes ∙ operation.parts ∙ ap (λ (r : List ℕ). operation_fields version m.op ++ r) h.rest ∙ append-nil (operation_fields version m.op) in
     let numbers_is : timestamp_of version n bytes ≡ m.tag = sym says.tag in
@@ -198,6 +202,7 @@ spelled version n epoch limit bytes m fits h says =
       in_epoch = head.in_epoch;
       fits = and_from _ _ (and_from _ _ (eq-eqb _ _ (ap length says.tag ∙ length-numbers n tail)) (rw says.origin (lt-ltb _ _ head.origin_below))) (rw (says.tag, says.origin) (lt-ltb _ _ number));
       within = rw says.tag (All-from_recursion (λ e. e ≤ limit) (timestamp_of version n bytes) (none_above limit (timestamp_of version n bytes) tests.1));
+      code = subst (λ c. c ≤ last_code version) code_is (head_code version n epoch bytes h.head);
       operation = operation.valid;
       spelled = four_parts bytes (omega (arith, head.long, least)) ∙ (λ i. head.version_is i ∷ origin_is i ∷ head.members_is i ∷ code_is i ∷ behind_is i);
     }
@@ -215,14 +220,14 @@ version_again : (version : Version) (rest : List ℕ) → version_at (version_by
 version_again One rest = refl
 version_again Two rest = refl
 
-head_none : (version : Version) (n epoch len origin code : ℕ) (bad_epoch : Bool) → head_len version + 4 * n ≤ len → IsReadIn version epoch → bad_epoch ≡ false → origin < n → code ≤ 19
-    → (if nat_lt len (head_len version + 4 * n) then Some Short else if not (version_byte version == version_byte version && is_read_in version epoch) then Some OfVersion else if bad_epoch then Some Epoch else if not (n == n) then Some Members else if nat_le n origin then Some Origin else if nat_lt 19 code then Some Code else None) ≡ None
+head_none : (version : Version) (n epoch len origin code : ℕ) (bad_epoch : Bool) → head_len version + 4 * n ≤ len → IsReadIn version epoch → bad_epoch ≡ false → origin < n → code ≤ last_code version
+    → (if nat_lt len (head_len version + 4 * n) then Some Short else if not (version_byte version == version_byte version && is_read_in version epoch) then Some OfVersion else if bad_epoch then Some Epoch else if not (n == n) then Some Members else if nat_le n origin then Some Origin else if nat_lt (last_code version) code then Some Code else None) ≡ None
 head_none version n epoch len origin code bad_epoch long read good below most =
-    rw (le-ltb len (head_len version + 4 * n) long, eq-eqb (version_byte version) (version_byte version) refl, in_read version epoch read, good, eq-eqb n n refl, lt-leb n origin below, le-ltb 19 code most) refl
+    rw (le-ltb len (head_len version + 4 * n) long, eq-eqb (version_byte version) (version_byte version) refl, in_read version epoch read, good, eq-eqb n n refl, lt-leb n origin below, le-ltb (last_code version) code most) refl
 
-pub said : (version : Version) (n epoch limit : ℕ) (m : Message) (rest : List ℕ) → epoch < 2 ^ 32 → limit < 2 ^ 32 → IsReadIn version epoch → IsTrue (fits n m) → All (λ e. e ≤ limit) m.tag → IsOperation version m.op
+pub said : (version : Version) (n epoch limit : ℕ) (m : Message) (rest : List ℕ) → epoch < 2 ^ 32 → limit < 2 ^ 32 → IsReadIn version epoch → IsTrue (fits n m) → All (λ e. e ≤ limit) m.tag → op_code m.op ≤ last_code version → IsOperation version m.op
     → IsSaid version n epoch limit (frame_of version n epoch m ++ rest) m rest
-said version n epoch limit m rest epoch_small small read fit within valid =
+said version n epoch limit m rest epoch_small small read fit within code valid =
     let bytes = frame_of version n epoch m ++ rest in
     let fields = operation_fields version m.op ++ rest in
     let body = flat_map number_field m.tag ++ fields in
@@ -247,19 +252,19 @@ said version n epoch limit m rest epoch_small small read fit within valid =
     record {
       version_is = version_again version (m.origin ∷ n ∷ op_code m.op ∷ (epoch_field version epoch ++ (flat_map number_field m.tag ++ operation_fields version m.op) ++ rest));
       says = record { origin = refl; tag = sym tag_is; operation = subst (λ b. SaysOperation version (op_code m.op) b m.op) (sym behind_is) operation.says };
-      head = head_none version n epoch (length bytes) m.origin (op_code m.op) (is_bad_epoch version epoch bytes) (omega (arith, ap length whole, length-append (epoch_field version epoch) body, length-append (flat_map number_field m.tag) fields, fields_len, front)) read epoch_is below operation.most;
+      head = head_none version n epoch (length bytes) m.origin (op_code m.op) (is_bad_epoch version epoch bytes) (omega (arith, ap length whole, length-append (epoch_field version epoch) body, length-append (flat_map number_field m.tag) fields, fields_len, front)) read epoch_is below code;
       number = subst (λ t. ((slice_index t m.origin == 0) || list_any (λ e. nat_lt limit e) t) ≡ false) (sym tag_is) (or_from _ _ (ne_eqb _ 0 (λ e. omega (arith, e, number))) (above_none limit m.tag each));
       operation = ap (operation_fault version (op_code m.op)) behind_is ∙ operation.none;
       behind = ap (behind_operation version (op_code m.op)) behind_is ∙ operation.behind;
     }
 
--- some operation is said by a code and bytes
-says_some : (version : Version) (code : ℕ) (bytes : List ℕ) → code ≤ 19 → (o : Op) × SaysOperation version code bytes o
-says_some version zero bytes most = (op.NoOp, refl)
-says_some version (suc code) bytes most =
+-- some operation is said by a code and bytes without a fault
+says_some : (version : Version) (code : ℕ) (bytes : List ℕ) → code ≤ 22 → operation_fault version code bytes ≡ None → (o : Op) × SaysOperation version code bytes o
+says_some version zero bytes most none = (op.NoOp, refl)
+says_some version (suc code) bytes most none =
     let row = row_of (suc code) in
     let act = act_at version row.1 (behind_text version bytes) in
-    let has : IsTrue (has_act row.0 act) = row_has version (suc code) row (behind_text version bytes) act refl (omega arith) most refl in
+    let has : IsTrue (has_act row.0 act) = row_has version (suc code) row (behind_text version bytes) act refl (omega arith) most (whole_argument version (suc code) bytes (omega arith) none) refl in
     (op.Update (record { object = record { kind = row.0; key = text_of version bytes }; act = act; of_kind = has }), (omega arith, refl, refl))
 
 -- ---- frames
@@ -268,7 +273,7 @@ says_some version (suc code) bytes most =
 pub spelling_said : (version : Version) (n epoch limit : ℕ) (bytes : List ℕ) (m : Message) → epoch < 2 ^ 32 → limit < 2 ^ 32 → IsSpelling version n epoch limit bytes m → IsSaid version n epoch limit bytes m []
 spelling_said version n epoch limit bytes m epoch_small small frame =
     let same : frame_of version n epoch m ++ [] ≡ bytes = append-nil (frame_of version n epoch m) ∙ sym frame.spelled in
-    subst (λ b. IsSaid version n epoch limit b m []) same (said version n epoch limit m [] epoch_small small frame.in_epoch frame.fits frame.within frame.operation)
+    subst (λ b. IsSaid version n epoch limit b m []) same (said version n epoch limit m [] epoch_small small frame.in_epoch frame.fits frame.within frame.code frame.operation)
 
 -- what a frame says by its own version, and that it has no fault
 pub frame_said : (n epoch limit : ℕ) (bytes : List ℕ) (m : Message) → epoch < 2 ^ 32 → limit < 2 ^ 32 → IsFrame n epoch limit bytes m → IsSaid (version_at bytes) n epoch limit bytes m []
@@ -277,7 +282,7 @@ frame_said n epoch limit bytes m epoch_small small frame =
     subst (λ v. IsSaid v n epoch limit bytes m []) (sym s.version_is) s
 
 pub some_spelling : SomeSpelling
-some_spelling n epoch limit m fit within valid = record { in_epoch = tt; fits = fit; within = within; operation = valid; spelled = refl }
+some_spelling n epoch limit m fit within valid = record { in_epoch = tt; fits = fit; within = within; code = op_code_most m.op; operation = valid; spelled = refl }
 
 pub one_spelling : OneSpelling
 one_spelling version n epoch limit a b m x y = x.spelled ∙ sym y.spelled
@@ -290,7 +295,7 @@ pub no_prefix : NoFrameBegins
 no_prefix n epoch limit epoch_small small bytes more a b x y =
     let spelling = x.1 in
     let whole : frame_of x.0 n epoch a ++ more ≡ bytes ++ more = ap (λ (f : List ℕ). f ++ more) (sym spelling.spelled) in
-    let first = subst (λ f. IsSaid x.0 n epoch limit f a more) whole (said x.0 n epoch limit a more epoch_small small spelling.in_epoch spelling.fits spelling.within spelling.operation) in
+    let first = subst (λ f. IsSaid x.0 n epoch limit f a more) whole (said x.0 n epoch limit a more epoch_small small spelling.in_epoch spelling.fits spelling.within spelling.code spelling.operation) in
     let second = frame_said n epoch limit (bytes ++ more) b epoch_small small y in
     let same = first.version_is in
     sym first.behind ∙ sym (λ i. behind_operation (same i) (code_byte (bytes ++ more)) (behind_timestamp (same i) n (bytes ++ more))) ∙ second.behind
@@ -307,7 +312,7 @@ pub some_frame : WithoutFaultIsAFrame
 some_frame n epoch limit bytes each none =
     let version = version_at bytes in
     let parts = no_fault version n epoch limit bytes none in
-    let operation = says_some version (code_byte bytes) (behind_timestamp version n bytes) (head_code version n epoch bytes parts.head) in
+    let operation = says_some version (code_byte bytes) (behind_timestamp version n bytes) (head_most version n epoch bytes parts.head) parts.operation in
     let m : Message = record { origin = byte_at bytes 1; tag = timestamp_of version n bytes; op = operation.0 } in
     (m, (version, spelled version n epoch limit bytes m (bytes_of bytes each) parts (record { origin = refl; tag = refl; operation = operation.1 })))
 

@@ -14,10 +14,10 @@ use Rattle.frame_codec.specs.Fault.{code_byte, version_at, behind_timestamp, tex
 use Rattle.frame_codec.specs.Grammar.{IsFrame}
 use Rattle.frame_codec.specs.Laws.{FramesAreRead, ReadIsAFrame, FaultsAreRead}
 use Rattle.frame_codec.specs.Message.{op_of, operation_at, message_at, read_unless}
-use Rattle.frame_codec.specs.Reading.{row_of, act_at, SaysOperation, Says}
+use Rattle.frame_codec.specs.Reading.{row_of, act_at, operation_fault, SaysOperation, Says}
 use Rattle.frame_codec.proofs.Codes.{row_has}
-use Rattle.frame_codec.proofs.Faults.{HasNoFault, no_fault, head_code}
-use Rattle.frame_codec.proofs.Frames.{says_one_message, spelled, frame_said, frames_pass, bytes_of}
+use Rattle.frame_codec.proofs.Faults.{HasNoFault, no_fault, head_most}
+use Rattle.frame_codec.proofs.Frames.{whole_argument, says_one_message, spelled, frame_said, frames_pass, bytes_of}
 
 -- a value is made where its test passes
 is_made : {A : Type 0} (test : Bool) (make : IsTrue test → A) → IsTrue test → (fact : IsTrue test) × (where_true test make ≡ Some (make fact))
@@ -25,12 +25,12 @@ is_made true make passes = (refl, refl)
 is_made false make passes = absurd (false≢true passes)
 
 -- the operation that is read of a code and bytes is the one that they say
-operation_says : (version : Version) (code : ℕ) (bytes : List ℕ) → code ≤ 19 → SaysOperation version code bytes (operation_at version code bytes)
-operation_says version zero bytes most = refl
-operation_says version (suc code) bytes most =
+operation_says : (version : Version) (code : ℕ) (bytes : List ℕ) → code ≤ 22 → operation_fault version code bytes ≡ None → SaysOperation version code bytes (operation_at version code bytes)
+operation_says version zero bytes most none = refl
+operation_says version (suc code) bytes most none =
     let row = row_of (suc code) in
     let act = act_at version row.1 (behind_text version bytes) in
-    let has : IsTrue (has_act row.0 act) = row_has version (suc code) row (behind_text version bytes) act refl (omega arith) most refl in
+    let has : IsTrue (has_act row.0 act) = row_has version (suc code) row (behind_text version bytes) act refl (omega arith) most (whole_argument version (suc code) bytes (omega arith) none) refl in
     let make : IsTrue (has_act row.0 act) → Update = λ fits. record { object = record { kind = row.0; key = text_of version bytes }; act = act; of_kind = fits } in
     let made = is_made (has_act row.0 act) make has in
     let some : (suc code == 0) ≡ false = ne_eqb (suc code) 0 (λ e. omega (arith, e)) in
@@ -40,7 +40,7 @@ operation_says version (suc code) bytes most =
 -- the message that is read of bytes without a fault is the one that they say
 message_says : (version : Version) (n epoch limit : ℕ) (bytes : List ℕ) → HasNoFault version n epoch limit bytes → Says version n bytes (message_at version n bytes)
 message_says version n epoch limit bytes h =
-    record { origin = refl; tag = refl; operation = operation_says version (code_byte bytes) (behind_timestamp version n bytes) (head_code version n epoch bytes h.head) }
+    record { origin = refl; tag = refl; operation = operation_says version (code_byte bytes) (behind_timestamp version n bytes) (head_most version n epoch bytes h.head) h.operation }
 
 -- ---- frames
 

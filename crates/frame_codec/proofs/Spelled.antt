@@ -1,23 +1,28 @@
 -- A field that is read is the field that was written, and what was written is read again.
-use Rattle.std.proofs.Common.{◌≡◌, ℕ, zero, suc, ◌+◌, ◌*◌, ◌^◌, ◌<◌, ◌≤◌, Bool, true, false, List, [], ◌∷◌, ◌++◌, length, get_or, take, drop, refl, sym, ap, ◌∙◌, append_assoc, arith, inl, inr}
-use Rattle.std.specs.Prelude.{IsTrue, nat_le, nat_lt, ◌&&◌, not}
+use Rattle.std.proofs.Common.{◌≡◌, ℕ, zero, suc, ◌+◌, ◌*◌, ◌^◌, ◌<◌, ◌≤◌, Bool, true, false, List, [], ◌∷◌, ◌++◌, length, get_or, take, drop, refl, sym, ap, subst, ◌∙◌, append_assoc, arith, inl, inr}
+use Rattle.std.specs.Prelude.{IsTrue, nat_le, nat_lt, ◌&&◌, ◌||◌, ◌==◌, not, Option, Some, None, if◌then◌else◌}
 use Rattle.std.specs.Int.{w32, from_be_bytes}
 use Rattle.std.specs.List.{list_all, flat_map, AllByRecursion}
 use Rattle.std.specs.Str.{is_utf8}
-use Rattle.std.proofs.lemmas.Bool.{cases_lt, leb-true, le-leb, and_parts, and_from, eqb-true, eq-eqb, not-false}
+use Rattle.std.proofs.lemmas.Bool.{cases_lt, leb-true, le-leb, lt-ltb, ltb-true, and_parts, and_from, eqb-true, eq-eqb, not-false}
 use Rattle.std.proofs.lemmas.List.{take_at, drop_at, drop-drop, take-append-drop, length-append, length-take, length-drop, get_or-drop, get_or-take, get_or_past}
 use Rattle.std.proofs.lemmas.Nat.{be_bytes_2, be_bytes_4, from_be_bytes-to_be_bytes_2, from_be_bytes-to_be_bytes_4}
+use Rattle.std.proofs.Math.Seq.{drop-cons}
+use Rattle.op_base.specs.Operation.{has_act, is_element, is_place}
+use Rattle.op_base.specs.Valid.{is_valid_id, is_valid_place}
+use Rattle.op_base.specs.declared.name.Kind.{Kind}
+use Rattle.op_base.specs.declared.tag.ElementId.{ElementId}
 use Rattle.op_base.specs.Name.{is_short, is_key, is_value, is_value_byte}
 use Rattle.op_base.specs.declared.operation.Act.{Act}
 use Rattle.op_base.specs.declared.operation.Act.TheVariants as acts
 use Rattle.frame_codec.specs.declared.fields.Verb.{Verb}
-use Rattle.frame_codec.specs.declared.fields.Verb.TheVariants.{Add, Rmv, Clear, Enable, Disable, Write, Inc, Dec}
+use Rattle.frame_codec.specs.declared.fields.Verb.TheVariants.{Add, Rmv, Clear, Enable, Disable, Write, Inc, Dec, Ins, Del}
 use Rattle.frame_codec.specs.declared.version.Version.{Version}
 use Rattle.frame_codec.specs.declared.version.Version.TheVariants.{One, Two}
-use Rattle.frame_codec.specs.Grammar.{epoch_field, length_field, number_field, text_field, argument_field, is_carried, is_sent, IsArgument}
-use Rattle.frame_codec.specs.Fault.{head_len, is_bad_epoch, length_len, length_at, numbers, text_of, behind_text, is_text_field}
-use Rattle.frame_codec.specs.Reading.{act_at, is_argument, behind_act}
-use Rattle.frame_codec.proofs.Codes.{verb_of}
+use Rattle.frame_codec.specs.Grammar.{epoch_field, length_field, number_field, text_field, id_field, place_field, argument_field, is_carried, is_sent, IsArgument}
+use Rattle.frame_codec.specs.Fault.{id_at, is_id_field, is_place_field, behind_place, head_len, is_bad_epoch, length_len, length_at, numbers, text_of, behind_text, is_text_field}
+use Rattle.frame_codec.specs.Reading.{place_at, act_at, is_argument, behind_act}
+use Rattle.frame_codec.proofs.Codes.{verb_of, names_place, names_element}
 
 abbrev pub IsBytes : List ℕ → Type 0
 IsBytes bytes = (i : ℕ) → get_or bytes i 0 < 256
@@ -69,6 +74,59 @@ numbers_again (e ∷ tag) rest fits =
 pub length-number_fields : (tag : List ℕ) → length (flat_map number_field tag) ≡ 4 * length tag
 length-number_fields [] = refl
 length-number_fields (e ∷ tag) = let others = length-number_fields tag in omega (arith, others)
+
+-- ---- ids and places
+
+-- nine bytes that are an id's are those of the id that they read as
+pub id_spelled : (bytes : List ℕ) → IsBytes bytes → is_id_field bytes ≡ true → (bytes ≡ id_field (id_at bytes) ++ drop 9 bytes) × (is_valid_id (id_at bytes) ≡ true)
+id_spelled bytes fits h =
+    let long : 9 ≤ length bytes = leb-true 9 (length bytes) (and_parts (nat_le 9 (length bytes)) (is_element (id_at bytes)) h).0 in
+    let id = id_at bytes in
+    let behind = IsBytes-drop 5 bytes fits in
+    let first : bytes ≡ number_field id.epoch ++ drop 4 bytes = number_spelled bytes fits (omega (arith, long)) in
+    let member : drop 4 bytes ≡ id.origin ∷ drop 5 bytes = drop-cons bytes 4 0 (omega (arith, long)) in
+    let last : drop 5 bytes ≡ number_field id.seq ++ drop 9 bytes = number_spelled (drop 5 bytes) behind (omega (arith, long, length-drop 5 bytes)) ∙ ap (λ (r : List ℕ). number_field id.seq ++ r) (drop-drop 4 5 bytes) in (
+      first ∙ (λ i. number_field id.epoch ++ (member ∙ ap (λ (r : List ℕ). id.origin ∷ r) last) i) ∙ sym (append_assoc (number_field id.epoch) (id.origin ∷ number_field id.seq) (drop 9 bytes)),
+      and_from _ _ (and_from _ _ (lt-ltb id.epoch 4294967296 (number_below (take 4 bytes) (IsBytes-take 4 bytes fits))) (lt-ltb id.origin 256 (fits 4))) (lt-ltb id.seq 4294967296 (number_below (take 4 (drop 5 bytes)) (IsBytes-take 4 (drop 5 bytes) behind))),
+    )
+
+-- an id that was written is read again
+pub record IsIdAgain (id : ElementId) (bytes rest : List ℕ) : Type 0 where
+  pub whole : is_id_field bytes ≡ true
+  pub id_is : id_at bytes ≡ id
+  pub behind : drop 9 bytes ≡ rest
+
+pub id_again : (id : ElementId) (rest : List ℕ) → is_element id ≡ true → is_valid_id id ≡ true → IsIdAgain id (id_field id ++ rest) rest
+id_again id rest named valid =
+    let two = and_parts (nat_lt id.epoch 4294967296 && nat_lt id.origin 256) (nat_lt id.seq 4294967296) valid in
+    let one = and_parts (nat_lt id.epoch 4294967296) (nat_lt id.origin 256) two.0 in
+    let epoch = from_be_bytes-to_be_bytes_4 id.epoch (ltb-true id.epoch 4294967296 one.0) in
+    let seq = from_be_bytes-to_be_bytes_4 id.seq (ltb-true id.seq 4294967296 two.1) in
+    let same : id_at (id_field id ++ rest) ≡ id = λ i. record { epoch = epoch i; origin = id.origin; seq = seq i } in
+    record { whole = and_from _ _ (le-leb 9 _ (omega arith)) (ap is_element same ∙ named); id_is = same; behind = refl }
+
+-- so is a place
+pub place_spelled : (bytes : List ℕ) → IsBytes bytes → is_place_field bytes ≡ true → (bytes ≡ place_field (place_at bytes) ++ behind_place bytes) × (is_valid_place (place_at bytes) ≡ true)
+place_spelled [] fits h = absurd cc
+place_spelled (b ∷ bytes) fits h = by (b == 0) refl (and_parts (nat_lt 0 (length (b ∷ bytes))) _ h).1 where
+  by : (t : Bool) → (b == 0) ≡ t → (t || (b == 1 && is_id_field bytes)) ≡ true
+      → (b ∷ bytes ≡ place_field (if t then None else Some (id_at bytes)) ++ (if t then bytes else drop 9 bytes)) × (is_valid_place (if t then None else Some (id_at bytes)) ≡ true)
+  by true e t = ((λ i. eqb-true b 0 e i ∷ bytes), refl)
+  by false e t =
+      let parts = and_parts (b == 1) (is_id_field bytes) t in
+      let id = id_spelled bytes (λ i. fits (suc i)) parts.1 in
+      ((λ i. eqb-true b 1 parts.0 i ∷ id.0 i), id.1)
+
+pub record IsPlaceAgain (place : Option ElementId) (bytes rest : List ℕ) : Type 0 where
+  pub whole : is_place_field bytes ≡ true
+  pub place_is : place_at bytes ≡ place
+  pub behind : behind_place bytes ≡ rest
+
+pub place_again : (place : Option ElementId) (rest : List ℕ) → is_place place ≡ true → is_valid_place place ≡ true → IsPlaceAgain place (place_field place ++ rest) rest
+place_again None rest named valid = record { whole = and_from _ _ (lt-ltb 0 (suc (length rest)) (omega arith)) refl; place_is = refl; behind = refl }
+place_again (Some id) rest named valid =
+    let t = id_again id rest named valid in
+    record { whole = and_from _ _ (lt-ltb 0 (suc (length (id_field id ++ rest))) (omega arith)) t.whole; place_is = ap Some t.id_is; behind = t.behind }
 
 -- ---- the epoch
 
@@ -179,6 +237,16 @@ argument_spelled version Disable bytes fits h = record { parts = refl; valid = t
 argument_spelled version Write bytes fits h = let t = text_spelled version (is_sent version) bytes fits h in record { parts = t.0; valid = t.1 }
 argument_spelled version Inc bytes fits h = let t = amount_spelled bytes fits h in record { parts = t.0; valid = t.1 }
 argument_spelled version Dec bytes fits h = let t = amount_spelled bytes fits h in record { parts = t.0; valid = t.1 }
+argument_spelled version Ins bytes fits h =
+    let tests = and_parts (is_text_field version (is_sent version) bytes) (is_place_field (behind_text version bytes)) h in
+    let t = text_spelled version (is_sent version) bytes fits tests.0 in
+    let p = place_spelled (behind_text version bytes) (IsBytes-behind version bytes fits) tests.1 in
+    let text = text_field version (text_of version bytes) in
+    record {
+      parts = t.0 ∙ ap (λ (r : List ℕ). text ++ r) p.0 ∙ sym (append_assoc text (place_field (place_at (behind_text version bytes))) (behind_place (behind_text version bytes)));
+      valid = (t.1, p.1);
+    }
+argument_spelled version Del bytes fits h = let t = id_spelled bytes fits h in record { parts = t.0; valid = t.1 }
 
 -- an argument that was written is read again
 pub record IsAgain (version : Version) (act : Act) (verb : Verb) (bytes rest : List ℕ) : Type 0 where
@@ -215,12 +283,27 @@ value_again version value rest valid =
     let small = short_value version value valid in
     record { whole = text_whole version (is_sent version) value rest small valid; value_is = text_again version value rest small; behind = behind_again version value rest small }
 
-pub argument_again : (version : Version) (act : Act) (rest : List ℕ) → IsArgument version act → IsAgain version act (verb_of act) (argument_field version act ++ rest) rest
-argument_again version (acts.Add v) rest valid = let t = value_again version v rest valid in record { whole = t.whole; act_is = ap acts.Add t.value_is; behind = t.behind }
-argument_again version (acts.Rmv v) rest valid = let t = value_again version v rest valid in record { whole = t.whole; act_is = ap acts.Rmv t.value_is; behind = t.behind }
-argument_again version acts.Clear rest valid = record { whole = refl; act_is = refl; behind = refl }
-argument_again version acts.Enable rest valid = record { whole = refl; act_is = refl; behind = refl }
-argument_again version acts.Disable rest valid = record { whole = refl; act_is = refl; behind = refl }
-argument_again version (acts.Write v) rest valid = let t = value_again version v rest valid in record { whole = t.whole; act_is = ap acts.Write t.value_is; behind = t.behind }
-argument_again version (acts.Inc a) rest valid = record { whole = amount_again a rest; act_is = ap acts.Inc (from_be_bytes-to_be_bytes_4 a valid); behind = refl }
-argument_again version (acts.Dec a) rest valid = record { whole = amount_again a rest; act_is = ap acts.Dec (from_be_bytes-to_be_bytes_4 a valid); behind = refl }
+pub argument_again : (version : Version) (kind : Kind) (act : Act) (rest : List ℕ) → IsTrue (has_act kind act) → IsArgument version act → IsAgain version act (verb_of act) (argument_field version act ++ rest) rest
+argument_again version kind (acts.Add v) rest has valid = let t = value_again version v rest valid in record { whole = t.whole; act_is = ap acts.Add t.value_is; behind = t.behind }
+argument_again version kind (acts.Rmv v) rest has valid = let t = value_again version v rest valid in record { whole = t.whole; act_is = ap acts.Rmv t.value_is; behind = t.behind }
+argument_again version kind acts.Clear rest has valid = record { whole = refl; act_is = refl; behind = refl }
+argument_again version kind acts.Enable rest has valid = record { whole = refl; act_is = refl; behind = refl }
+argument_again version kind acts.Disable rest has valid = record { whole = refl; act_is = refl; behind = refl }
+argument_again version kind (acts.Write v) rest has valid = let t = value_again version v rest valid in record { whole = t.whole; act_is = ap acts.Write t.value_is; behind = t.behind }
+argument_again version kind (acts.Inc a) rest has valid = record { whole = amount_again a rest; act_is = ap acts.Inc (from_be_bytes-to_be_bytes_4 a valid); behind = refl }
+argument_again version kind (acts.Dec a) rest has valid = record { whole = amount_again a rest; act_is = ap acts.Dec (from_be_bytes-to_be_bytes_4 a valid); behind = refl }
+argument_again version kind (acts.Ins v place) rest has valid =
+    let fields = place_field place ++ rest in
+    let t = value_again version v fields valid.0 in
+    let p = place_again place rest (names_place kind v place has) valid.1 in
+    let regrouped : (text_field version v ++ place_field place) ++ rest ≡ text_field version v ++ fields = append_assoc (text_field version v) (place_field place) rest in
+    let behind_is : behind_text version (text_field version v ++ fields) ≡ fields = t.behind in
+    let again : IsAgain version (acts.Ins v place) Ins (text_field version v ++ fields) rest = record {
+      whole = and_from _ _ t.whole (ap is_place_field behind_is ∙ p.whole);
+      act_is = λ i. acts.Ins (t.value_is i) ((ap place_at behind_is ∙ p.place_is) i);
+      behind = ap behind_place behind_is ∙ p.behind;
+    } in
+    subst (λ (b : List ℕ). IsAgain version (acts.Ins v place) Ins b rest) (sym regrouped) again
+argument_again version kind (acts.Del id) rest has valid =
+    let t = id_again id rest (names_element kind id has) valid in
+    record { whole = t.whole; act_is = ap acts.Del t.id_is; behind = t.behind }

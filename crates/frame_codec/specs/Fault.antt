@@ -3,8 +3,10 @@ use Rattle.std.specs.Prelude.{◌≡◌, ℕ, zero, suc, ◌+◌, ◌*◌, Bool,
 use Rattle.std.specs.List.{list_any}
 use Rattle.std.specs.Int.{w16, w32, from_be_bytes}
 use Rattle.op_base.specs.Name.{is_key}
+use Rattle.op_base.specs.Operation.{is_element}
+use Rattle.op_base.specs.declared.tag.ElementId.{ElementId}
 use Rattle.op_base.specs.declared.message.Message.{Message}
-use Rattle.frame_codec.specs.Grammar.{version_byte, is_sent}
+use Rattle.frame_codec.specs.Grammar.{version_byte, is_sent, last_code}
 use Rattle.frame_codec.specs.declared.fault.DecodeFault.{DecodeFault}
 use Rattle.frame_codec.specs.declared.fault.DecodeFault.TheVariants.{Frame, NoMemory}
 use Rattle.frame_codec.specs.declared.fault.FrameFault.{FrameFault}
@@ -53,12 +55,18 @@ length_at Two bytes = from_be_bytes w16 (take 2 bytes)
 abbrev pub code_byte : List ℕ → ℕ
 code_byte bytes = byte_at bytes 3
 
--- the codes that take a value, and those that take an amount
+-- the codes that take a value, a place behind it, an amount, and an id
 abbrev pub takes_value : ℕ → Bool
-takes_value code = code == 1 || code == 2 || code == 4 || code == 5 || code == 13
+takes_value code = code == 1 || code == 2 || code == 4 || code == 5 || code == 13 || code == 20
+
+abbrev pub takes_place : ℕ → Bool
+takes_place code = code == 20
 
 abbrev pub takes_amount : ℕ → Bool
 takes_amount code = code == 15 || code == 16 || code == 17 || code == 18
+
+abbrev pub takes_id : ℕ → Bool
+takes_id code = code == 21
 
 -- the first n numbers of 32 bits
 abbrev pub numbers : ℕ → List ℕ → List ℕ
@@ -90,22 +98,50 @@ abbrev pub behind_key : Version → ℕ → List ℕ → List ℕ
 behind_key version n bytes =
     if code_byte bytes == 0 then behind_timestamp version n bytes else behind_text version (behind_timestamp version n bytes)
 
+-- the id at the front
+abbrev pub id_at : List ℕ → ElementId
+id_at bytes = record { epoch = from_be_bytes w32 (take 4 bytes); origin = byte_at bytes 4; seq = from_be_bytes w32 (take 4 (drop 5 bytes)) }
+
+-- whether an id is whole, and one that an element can have
+abbrev pub is_id_field : List ℕ → Bool
+is_id_field bytes = nat_le 9 (length bytes) && is_element (id_at bytes)
+
+-- whether a place is whole: a byte 0, or a byte 1 and an id
+abbrev pub is_place_field : List ℕ → Bool
+is_place_field bytes = nat_lt 0 (length bytes) && (byte_at bytes 0 == 0 || (byte_at bytes 0 == 1 && is_id_field (drop 1 bytes)))
+
+-- what stands behind a place
+abbrev pub behind_place : List ℕ → List ℕ
+behind_place bytes = if byte_at bytes 0 == 0 then drop 1 bytes else drop 10 bytes
+
+-- whether the argument of a code is whole at the front, and one that the version has
+abbrev pub is_whole_argument : Version → ℕ → List ℕ → Bool
+is_whole_argument version code bytes =
+    (not (takes_value code) || is_text_field version (is_sent version) bytes)
+    && (not (takes_place code) || is_place_field (behind_text version bytes))
+    && (not (takes_amount code) || nat_le 4 (length bytes))
+    && (not (takes_id code) || is_id_field bytes)
+
+-- what stands behind the argument of a code
+abbrev pub behind_whole : Version → ℕ → List ℕ → List ℕ
+behind_whole version code bytes =
+    if takes_place code then behind_place (behind_text version bytes)
+    else if takes_value code then behind_text version bytes
+    else if takes_amount code then drop 4 bytes
+    else if takes_id code then drop 9 bytes
+    else bytes
+
 -- what stands behind the argument, where the code takes one
 abbrev pub behind_argument : Version → ℕ → List ℕ → List ℕ
-behind_argument version n bytes =
-    if takes_value (code_byte bytes) then behind_text version (behind_key version n bytes)
-    else if takes_amount (code_byte bytes) then drop 4 (behind_key version n bytes)
-    else behind_key version n bytes
+behind_argument version n bytes = behind_whole version (code_byte bytes) (behind_key version n bytes)
 
 -- the key is missing, cut or no key
 abbrev pub is_bad_key : Version → ℕ → List ℕ → Bool
 is_bad_key version n bytes = nat_lt 0 (code_byte bytes) && not (is_text_field version is_key (behind_timestamp version n bytes))
 
--- the value is missing, cut or no value of the version, or the amount is cut
+-- the argument is missing, cut, or none that the version has
 abbrev pub is_bad_argument : Version → ℕ → List ℕ → Bool
-is_bad_argument version n bytes =
-    (takes_value (code_byte bytes) && not (is_text_field version (is_sent version) (behind_key version n bytes)))
-    || (takes_amount (code_byte bytes) && nat_lt (length (behind_key version n bytes)) 4)
+is_bad_argument version n bytes = not (is_whole_argument version (code_byte bytes) (behind_key version n bytes))
 
 -- the origin's number is 0, or some number is above the limit
 abbrev pub is_bad_number : Version → ℕ → ℕ → List ℕ → Bool
@@ -125,7 +161,7 @@ fault_by version n epoch limit bytes = first_fault (
     ∷ (is_bad_epoch version epoch bytes, Epoch)
     ∷ (not (byte_at bytes 2 == n), Members)
     ∷ (nat_le n (byte_at bytes 1), Origin)
-    ∷ (nat_lt 19 (code_byte bytes), Code)
+    ∷ (nat_lt (last_code version) (code_byte bytes), Code)
     ∷ (is_bad_number version n limit bytes, Number)
     ∷ (is_bad_key version n bytes, BadKey)
     ∷ (is_bad_argument version n bytes, Argument)

@@ -1,16 +1,18 @@
 -- The grammar of frames, in two versions: which bytes spell which message, in a store of n members, in an epoch, with a
 -- limit that no entry of a timestamp is above.
-use Rattle.std.specs.Prelude.{◌≡◌, ℕ, ◌<◌, ◌≤◌, ◌^◌, Bool, true, ◌&&◌, nat_le, List, [], ◌∷◌, ◌++◌, length, IsTrue, All}
+use Rattle.std.specs.Prelude.{◌≡◌, ℕ, ◌<◌, ◌≤◌, ◌^◌, Bool, true, ◌&&◌, nat_le, List, [], ◌∷◌, ◌++◌, length, IsTrue, All, Option, Some, None}
 use Rattle.std.specs.List.{flat_map}
 use Rattle.std.specs.Int.{w16, w32, to_be_bytes}
 use Rattle.op_base.specs.Name.{is_key, is_value}
 use Rattle.op_base.specs.Code.{op_code}
 use Rattle.op_base.specs.Message.{fits}
+use Rattle.op_base.specs.Valid.{is_valid_id, is_valid_place}
 use Rattle.op_base.specs.declared.message.Message.{Message}
 use Rattle.op_base.specs.declared.operation.Act.{Act}
-use Rattle.op_base.specs.declared.operation.Act.TheVariants.{Add, Rmv, Clear, Enable, Disable, Write, Inc, Dec}
+use Rattle.op_base.specs.declared.operation.Act.TheVariants.{Add, Rmv, Clear, Enable, Disable, Write, Inc, Dec, Ins, Del}
 use Rattle.op_base.specs.declared.operation.Op.{Op}
 use Rattle.op_base.specs.declared.operation.Op.TheVariants as op
+use Rattle.op_base.specs.declared.tag.ElementId.{ElementId}
 use Rattle.frame_codec.specs.declared.version.Version.{Version}
 use Rattle.frame_codec.specs.declared.version.Version.TheVariants.{One, Two}
 
@@ -41,6 +43,11 @@ abbrev pub is_carried : Version → ℕ → Bool
 is_carried One len = nat_le len 64
 is_carried Two len = true
 
+-- the greatest code of a version: the first has none of lists
+abbrev pub last_code : Version → ℕ
+last_code One = 19
+last_code Two = 22
+
 -- ---- what they share
 
 -- a number of four bytes, the greatest part first
@@ -51,7 +58,16 @@ number_field n = to_be_bytes w32 n
 abbrev pub text_field : Version → List ℕ → List ℕ
 text_field version bytes = length_field version (length bytes) ++ bytes
 
--- the argument of an act: a value as a text, an amount as a number, or nothing
+-- an id of an element is its epoch, its member in one byte, and its number
+abbrev pub id_field : ElementId → List ℕ
+id_field id = number_field id.epoch ++ (id.origin ∷ number_field id.seq)
+
+-- a place in a list: a byte 0 for the head, or a byte 1 and the id of the element in front
+abbrev pub place_field : Option ElementId → List ℕ
+place_field None = 0 ∷ []
+place_field (Some id) = 1 ∷ id_field id
+
+-- the argument of an act: a value as a text, with its place where it has one, an amount as a number, an id, or nothing
 abbrev pub argument_field : Version → Act → List ℕ
 argument_field version (Add v) = text_field version v
 argument_field version (Rmv v) = text_field version v
@@ -61,6 +77,8 @@ argument_field version Disable = []
 argument_field version (Write v) = text_field version v
 argument_field version (Inc a) = number_field a
 argument_field version (Dec a) = number_field a
+argument_field version (Ins v place) = text_field version v ++ place_field place
+argument_field version (Del id) = id_field id
 
 -- the key and the argument; the no-op has neither
 abbrev pub operation_fields : Version → Op → List ℕ
@@ -77,7 +95,7 @@ frame_of version n epoch m =
 abbrev pub is_sent : Version → List ℕ → Bool
 is_sent version value = is_carried version (length value) && is_value value
 
--- the argument is one that its act can have: a value, or a number of 32 bits
+-- the argument is one that its act can have: a value, a number of 32 bits, or an id whose numbers fit their fields
 abbrev pub IsArgument : Version → Act → Type 0
 IsArgument version (Add v) = IsTrue (is_sent version v)
 IsArgument version (Rmv v) = IsTrue (is_sent version v)
@@ -87,6 +105,8 @@ IsArgument version Disable = Unit {0}
 IsArgument version (Write v) = IsTrue (is_sent version v)
 IsArgument version (Inc a) = a < 2 ^ 32
 IsArgument version (Dec a) = a < 2 ^ 32
+IsArgument version (Ins v place) = IsTrue (is_sent version v) × IsTrue (is_valid_place place)
+IsArgument version (Del id) = IsTrue (is_valid_id id)
 
 -- the key is a key, and the argument one of its act
 abbrev pub IsOperation : Version → Op → Type 0
@@ -98,6 +118,7 @@ pub record IsSpelling (version : Version) (n epoch limit : ℕ) (bytes : List �
   pub in_epoch : IsReadIn version epoch
   pub fits : IsTrue (fits n m)
   pub within : All (λ e. e ≤ limit) m.tag
+  pub code : op_code m.op ≤ last_code version
   pub operation : IsOperation version m.op
   pub spelled : bytes ≡ frame_of version n epoch m
 

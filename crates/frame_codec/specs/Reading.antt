@@ -5,22 +5,24 @@ use Rattle.op_base.specs.Name.{is_key}
 use Rattle.op_base.specs.declared.message.Message.{Message}
 use Rattle.op_base.specs.declared.name.Kind.{Kind}
 use Rattle.op_base.specs.declared.name.Kind.TheVariants.{AwSet, RwSet, EwFlag, DwFlag, MvReg, Counter, RCounter}
+use Rattle.op_base.specs.declared.name.Kind.TheVariants as kinds
 use Rattle.op_base.specs.declared.name.NameFault.{NameFault}
 use Rattle.op_base.specs.declared.name.NameFault.TheVariants.{NoMemory}
 use Rattle.op_base.specs.declared.operation.Act.{Act}
 use Rattle.op_base.specs.declared.operation.Act.TheVariants as acts
 use Rattle.op_base.specs.declared.operation.Op.{Op}
 use Rattle.op_base.specs.declared.operation.Op.TheVariants as op
+use Rattle.op_base.specs.declared.tag.ElementId.{ElementId}
 use Rattle.frame_codec.specs.declared.fault.FrameFault.{FrameFault}
 use Rattle.frame_codec.specs.declared.fault.FrameFault.TheVariants.{Short, Version as OfVersion, Epoch, Members, Origin, Code, BadKey, Argument, Rest}
 use Rattle.frame_codec.specs.declared.fault.DecodeFault.{DecodeFault}
 use Rattle.frame_codec.specs.declared.fault.DecodeFault.TheVariants.{Frame}
 use Rattle.frame_codec.specs.declared.fault.DecodeFault.TheVariants as faults
 use Rattle.frame_codec.specs.declared.fields.Verb.{Verb}
-use Rattle.frame_codec.specs.declared.fields.Verb.TheVariants.{Add, Rmv, Clear, Enable, Disable, Write, Inc, Dec}
+use Rattle.frame_codec.specs.declared.fields.Verb.TheVariants.{Add, Rmv, Clear, Enable, Disable, Write, Inc, Dec, Ins, Del}
 use Rattle.frame_codec.specs.declared.version.Version.{Version}
-use Rattle.frame_codec.specs.Grammar.{version_byte, is_sent}
-use Rattle.frame_codec.specs.Fault.{byte_at, code_byte, head_len, is_read_in, is_bad_epoch, timestamp_of, behind_timestamp, text_of, behind_text, is_text_field}
+use Rattle.frame_codec.specs.Grammar.{version_byte, is_sent, last_code}
+use Rattle.frame_codec.specs.Fault.{byte_at, code_byte, id_at, is_id_field, is_place_field, behind_place, head_len, is_read_in, is_bad_epoch, timestamp_of, behind_timestamp, text_of, behind_text, is_text_field}
 
 -- whether the text that a reader of names was given was a name
 abbrev pub is_name : {T : Type 0} → Result T NameFault → Bool
@@ -32,11 +34,16 @@ is_name (Err fault) = false
 abbrev pub rows : List (Kind × Verb)
 rows = (AwSet, Add) ∷ (AwSet, Rmv) ∷ (AwSet, Clear) ∷ (RwSet, Add) ∷ (RwSet, Rmv) ∷ (RwSet, Clear)
     ∷ (EwFlag, Enable) ∷ (EwFlag, Disable) ∷ (EwFlag, Clear) ∷ (DwFlag, Enable) ∷ (DwFlag, Disable) ∷ (DwFlag, Clear)
-    ∷ (MvReg, Write) ∷ (MvReg, Clear) ∷ (Counter, Inc) ∷ (Counter, Dec) ∷ (RCounter, Inc) ∷ (RCounter, Dec) ∷ []
+    ∷ (MvReg, Write) ∷ (MvReg, Clear) ∷ (Counter, Inc) ∷ (Counter, Dec) ∷ (RCounter, Inc) ∷ (RCounter, Dec) ∷ (RCounter, Clear)
+    ∷ (kinds.List, Ins) ∷ (kinds.List, Del) ∷ []
 
--- the kind and the verb of a code from 1 to 19
+-- the kind and the verb of a code from 1 to 22
 abbrev pub row_of : ℕ → Kind × Verb
-row_of code = get_or ((RCounter, Clear) ∷ rows) code (RCounter, Clear)
+row_of code = get_or ((kinds.List, Clear) ∷ rows) code (kinds.List, Clear)
+
+-- the place at the front
+abbrev pub place_at : List ℕ → Option ElementId
+place_at bytes = if byte_at bytes 0 == 0 then None else Some (id_at (drop 1 bytes))
 
 -- whether a verb's argument stands at the front
 abbrev pub is_argument : Version → Verb → List ℕ → Bool
@@ -48,6 +55,8 @@ is_argument version Disable bytes = true
 is_argument version Write bytes = is_text_field version (is_sent version) bytes
 is_argument version Inc bytes = nat_le 4 (length bytes)
 is_argument version Dec bytes = nat_le 4 (length bytes)
+is_argument version Ins bytes = is_text_field version (is_sent version) bytes && is_place_field (behind_text version bytes)
+is_argument version Del bytes = is_id_field bytes
 
 -- the act of a verb with the argument at the front
 abbrev pub act_at : Version → Verb → List ℕ → Act
@@ -59,6 +68,8 @@ act_at version Disable bytes = acts.Disable
 act_at version Write bytes = acts.Write (text_of version bytes)
 act_at version Inc bytes = acts.Inc (from_be_bytes w32 (take 4 bytes))
 act_at version Dec bytes = acts.Dec (from_be_bytes w32 (take 4 bytes))
+act_at version Ins bytes = acts.Ins (text_of version bytes) (place_at (behind_text version bytes))
+act_at version Del bytes = acts.Del (id_at bytes)
 
 -- what stands behind a verb's argument
 abbrev pub behind_act : Version → Verb → List ℕ → List ℕ
@@ -70,6 +81,8 @@ behind_act version Disable bytes = bytes
 behind_act version Write bytes = behind_text version bytes
 behind_act version Inc bytes = drop 4 bytes
 behind_act version Dec bytes = drop 4 bytes
+behind_act version Ins bytes = behind_place (behind_text version bytes)
+behind_act version Del bytes = drop 9 bytes
 
 -- the first fault of a key and an argument of this code at the front
 abbrev pub operation_fault : Version → ℕ → List ℕ → Option FrameFault
@@ -100,6 +113,15 @@ value_fault version bytes = or_else (if not (is_text_field version (is_sent vers
 abbrev pub amount_fault : List ℕ → Option FrameFault
 amount_fault bytes = or_else (if not (nat_le 4 (length bytes)) then Some Argument else None) (rest_fault (drop 4 bytes))
 
+-- the first fault of a value and a place with nothing behind them
+abbrev pub insertion_fault : Version → List ℕ → Option FrameFault
+insertion_fault version bytes =
+    or_else (if not (is_text_field version (is_sent version) bytes && is_place_field (behind_text version bytes)) then Some Argument else None) (rest_fault (behind_place (behind_text version bytes)))
+
+-- the first fault of an id with nothing behind it
+abbrev pub id_fault : List ℕ → Option FrameFault
+id_fault bytes = or_else (if not (is_id_field bytes) then Some Argument else None) (rest_fault (drop 9 bytes))
+
 -- the first fault of a verb's argument with nothing behind it
 abbrev pub act_fault : Version → Verb → List ℕ → Option FrameFault
 act_fault version verb bytes = or_else (if not (is_argument version verb bytes) then Some Argument else None) (rest_fault (behind_act version verb bytes))
@@ -127,7 +149,7 @@ head_fault version n epoch bytes =
     else if is_bad_epoch version epoch bytes then Some Epoch
     else if not (byte_at bytes 2 == n) then Some Members
     else if nat_le n (byte_at bytes 1) then Some Origin
-    else if nat_lt 19 (byte_at bytes 3) then Some Code
+    else if nat_lt (last_code version) (byte_at bytes 3) then Some Code
     else None
 
 -- the message is what the bytes say

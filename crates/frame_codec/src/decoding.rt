@@ -14,9 +14,6 @@ use byteorder::{BigEndian, ByteOrder};
 use op_base::Message;
 use std::alloc::Global;
 
-/// The greatest code of an operation.
-const LAST_CODE: u8 = 19;
-
 /// What stands in front of the timestamp.
 #[derive(Drop)]
 struct Head {
@@ -62,7 +59,7 @@ fn read_head(bytes: &[u8], n: u8, epoch: u32) -> Result<Head, FrameFault>
     if origin >= n {
         return Err(FrameFault::Origin);
     }
-    if code > LAST_CODE {
+    if code > version.last_code() {
         return Err(FrameFault::Code);
     }
     Ok(Head {

@@ -3,29 +3,43 @@
 ghost use Rattle.std.specs.Prelude.{◌≡◌, ◌+◌, ◌≤◌, ◌<◌, ◌++◌, ℕ, length, IsTrue, IfOk, OnOk, All};
 ghost use Rattle.std.specs.List.{flat_map};
 ghost use Rattle.op_base.specs.Message.{fits};
-ghost use Rattle.frame_codec.specs.Grammar.{number_field, length_field, text_field, argument_field, operation_fields, frame_of, IsArgument, IsOperation, IsSpelling};
+ghost use Rattle.op_base.specs.Valid.{is_valid_id, is_valid_place};
+ghost use Rattle.frame_codec.specs.Grammar.{number_field, length_field, text_field, id_field, place_field, argument_field, operation_fields, frame_of, IsArgument, IsOperation, IsSpelling};
 
 use crate::version::Version;
 use byteorder::{BigEndian, ByteOrder};
-use op_base::{Act, Message, NoMemory, Op, Tag};
+use op_base::{Act, ElementId, Message, NoMemory, Op, Tag};
 use std::alloc::Global;
 
-/// How many bytes an act's argument has, 0 to 4098.
+/// How many bytes a place has, 1 or 10.
+fn place_len(place: &Option<ElementId>) -> usize
+    ensures exact { result ≡ length (place_field place.now) }
+    ensures few { result ≤ 10 }
+{
+    match place {
+        None => 1,
+        Some(_) => 10,
+    }
+}
+
+/// How many bytes an act's argument has, 0 to 4108.
 fn argument_len(act: &Act) -> usize
     ensures exact { result ≡ length (argument_field Version.Two act.now) }
-    ensures few { result ≤ 4098 }
+    ensures few { result ≤ 4108 }
 {
     match act {
         Act::Add(value) | Act::Rmv(value) | Act::Write(value) => 2 + value.as_slice().len(),
         Act::Clear | Act::Enable | Act::Disable => 0,
         Act::Inc(_) | Act::Dec(_) => 4,
+        Act::Ins(value, place) => 2 + value.as_slice().len() + place_len(place),
+        Act::Del(_) => 9,
     }
 }
 
-/// How many bytes the key and the argument have, 0 to 4132.
+/// How many bytes the key and the argument have, 0 to 4142.
 fn operation_len(op: &Op) -> usize
     ensures exact { result ≡ length (operation_fields Version.Two op.now) }
-    ensures few { result ≤ 4132 }
+    ensures few { result ≤ 4142 }
 {
     match op {
         Op::NoOp => 0,
@@ -77,15 +91,44 @@ fn put_text(out: &mut Vec<u8>, text: &[u8]) -> Result<(), NoMemory>
     Ok(out.extend_from_slice(text)?)
 }
 
+/// Puts an element's id at the end.
+fn put_id(out: &mut Vec<u8>, id: ElementId) -> Result<(), NoMemory>
+    ensures written { OnOk result (out.new.items ≡ out.old.items ++ id_field id) }
+    ensures valid { IsTrue (is_valid_id id) }
+{
+    put_number(out, id.epoch)?;
+    out.push(id.origin)?;
+    put_number(out, id.seq)
+}
+
+/// Puts a place at the end.
+fn put_place(out: &mut Vec<u8>, place: Option<ElementId>) -> Result<(), NoMemory>
+    ensures written { OnOk result (out.new.items ≡ out.old.items ++ place_field place) }
+    ensures valid { OnOk result (IsTrue (is_valid_place place)) }
+{
+    match place {
+        None => Ok(out.push(0)?),
+        Some(id) => {
+            out.push(1)?;
+            put_id(out, id)
+        }
+    }
+}
+
 /// Puts an act's argument at the end.
 fn put_argument(out: &mut Vec<u8>, act: &Act) -> Result<(), NoMemory>
     ensures written { OnOk result (out.new.items ≡ out.old.items ++ argument_field Version.Two act.now) }
-    ensures valid { IsArgument Version.Two act.now }
+    ensures valid { OnOk result (IsArgument Version.Two act.now) }
 {
     match act {
         Act::Add(value) | Act::Rmv(value) | Act::Write(value) => put_text(out, value.as_slice()),
         Act::Clear | Act::Enable | Act::Disable => Ok(()),
         Act::Inc(amount) | Act::Dec(amount) => put_number(out, *amount),
+        Act::Ins(value, place) => {
+            put_text(out, value.as_slice())?;
+            put_place(out, *place)
+        }
+        Act::Del(id) => put_id(out, *id),
     }
 }
 

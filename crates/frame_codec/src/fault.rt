@@ -20,13 +20,14 @@ pub enum FrameFault {
     Members,
     /// The origin is no member.
     Origin,
-    /// There is no operation of this code.
+    /// The version has no operation of this code.
     Code,
     /// The timestamp's entry at the origin is 0, or some entry is above the limit.
     Number,
     /// The key of an update is missing, cut or no key.
     BadKey,
-    /// The value is missing, cut or none that the version has, or the amount is missing or cut.
+    /// The value is missing, cut or none that the version has; the amount is missing or cut; or a place or an id is missing,
+    /// cut or none.
     Argument,
     /// Bytes follow the last field.
     Rest,

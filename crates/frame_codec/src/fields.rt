@@ -11,13 +11,14 @@ ghost use Rattle.op_base.specs.Name.{is_key};
 ghost use Rattle.op_base.specs.declared.name.TheConstants.{VALUE_BYTES_IN_PLACE};
 ghost use Rattle.op_base.specs.declared.operation.Op.{Op as AnOp};
 ghost use Rattle.frame_codec.specs.InPlace.{IsActInPlace, IsInPlace};
-ghost use Rattle.frame_codec.specs.Fault.{numbers, length_len, length_at, text_of, behind_text, is_text_field};
-ghost use Rattle.frame_codec.specs.Reading.{is_name, act_at, row_of, rest_fault, value_fault, amount_fault, act_fault, fields_fault, IsWhy, SaysOperation};
+ghost use Rattle.frame_codec.specs.Grammar.{is_sent};
+ghost use Rattle.frame_codec.specs.Fault.{numbers, length_len, length_at, text_of, behind_text, is_text_field, id_at, is_id_field, is_place_field, behind_place};
+ghost use Rattle.frame_codec.specs.Reading.{is_name, place_at, act_at, row_of, rest_fault, value_fault, amount_fault, insertion_fault, id_fault, act_fault, fields_fault, IsWhy, SaysOperation};
 
 use crate::fault::{DecodeFault, FrameFault};
 use crate::version::Version;
 use byteorder::{BigEndian, ByteOrder};
-use op_base::{Act, Key, Kind, NameFault, NoMemory, ObjectId, Op, Tag, Update, Value};
+use op_base::{Act, ElementId, Key, Kind, NameFault, NoMemory, ObjectId, Op, Tag, Update, Value};
 use std::alloc::Global;
 
 /// An act without its argument.
@@ -31,6 +32,8 @@ enum Verb {
     Write,
     Inc,
     Dec,
+    Ins,
+    Del,
 }
 
 /// The timestamp of n members, 1 to 16, whose numbers stand at the front.
@@ -137,21 +140,103 @@ fn no_rest(rest: &[u8]) -> Result<(), FrameFault>
     }
 }
 
+/// A value behind its length, or want of memory for it, and what stands behind it.
+fn value_field(
+    alloc: Global,
+    version: Version,
+    bytes: &[u8],
+) -> Result<(Result<Value, NoMemory>, &[u8]), FrameFault>
+    ensures tested { is_ok result ≡ is_text_field version (is_sent version) bytes.now }
+    ensures fault { IfErr result (λ fault. fault ≡ FrameFault.Argument) }
+    ensures value { IfOk result (λ x. IfOk x.0 (λ value. value ≡ text_of version bytes.now)) }
+    ensures in_place { length (text_of version bytes.now) ≤ VALUE_BYTES_IN_PLACE → IfOk result (λ x. IsOk x.0) }
+    ensures rest { IfOk result (λ x. x.1.now ≡ behind_text version bytes.now) }
+{
+    let Some((text, rest)) = text_field(version, bytes) else {
+        return Err(FrameFault::Argument);
+    };
+    if !version.carries(text.len()) {
+        return Err(FrameFault::Argument);
+    }
+    name_or(Value::read(alloc, text), FrameFault::Argument).map(|value| (value, rest))
+}
+
 /// A value behind its length, with nothing behind it.
 fn last_value(alloc: Global, version: Version, bytes: &[u8]) -> Result<Value, DecodeFault>
     ensures fault { MatchResult result (λ _. value_fault version bytes.now ≡ None) (IsWhy (value_fault version bytes.now)) }
     ensures value { IfOk result (λ value. value ≡ text_of version bytes.now) }
     ensures in_place { length (text_of version bytes.now) ≤ VALUE_BYTES_IN_PLACE → IfErr result (λ fault. fault ≢ DecodeFault.NoMemory) }
 {
-    let Some((text, rest)) = text_field(version, bytes) else {
-        return Err(DecodeFault::Frame(FrameFault::Argument));
-    };
-    if !version.carries(text.len()) {
-        return Err(DecodeFault::Frame(FrameFault::Argument));
-    }
-    let value = name_or(Value::read(alloc, text), FrameFault::Argument)?;
+    let (value, rest) = value_field(alloc, version, bytes)?;
     no_rest(rest)?;
     Ok(value?)
+}
+
+/// An id that an element can have, and what stands behind it. `None` where it is cut or can't be one.
+fn id_field(bytes: &[u8]) -> Option<(ElementId, &[u8])>
+    ensures whole { is_some result ≡ is_id_field bytes.now }
+    ensures id { IfSome result (λ x. x.0 ≡ id_at bytes.now) }
+    ensures rest { IfSome result (λ x. x.1.now ≡ drop 9 bytes.now) }
+{
+    let (front, rest) = bytes.split_at_checked(9)?;
+    let epoch = BigEndian::read_u32(front);
+    let seq = BigEndian::read_u32(&front[5..]);
+    let id = ElementId {
+        epoch,
+        origin: front[4],
+        seq,
+    };
+    if id.is_element() {
+        Some((id, rest))
+    } else {
+        None
+    }
+}
+
+/// A place in a list, and what stands behind it. `None` where it is cut or is none.
+fn place_field(bytes: &[u8]) -> Option<(Option<ElementId>, &[u8])>
+    ensures whole { is_some result ≡ is_place_field bytes.now }
+    ensures place { IfSome result (λ x. x.0 ≡ place_at bytes.now) }
+    ensures rest { IfSome result (λ x. x.1.now ≡ behind_place bytes.now) }
+{
+    let (first, rest) = bytes.split_first()?;
+    match *first {
+        0 => Some((None, rest)),
+        1 => {
+            let (id, behind) = id_field(rest)?;
+            Some((Some(id), behind))
+        }
+        _ => None,
+    }
+}
+
+/// A value behind its length and its place, with nothing behind them.
+fn last_insertion(
+    alloc: Global,
+    version: Version,
+    bytes: &[u8],
+) -> Result<(Value, Option<ElementId>), DecodeFault>
+    ensures fault { MatchResult result (λ _. insertion_fault version bytes.now ≡ None) (IsWhy (insertion_fault version bytes.now)) }
+    ensures value { IfOk result (λ x. x.0 ≡ text_of version bytes.now) }
+    ensures place { IfOk result (λ x. x.1 ≡ place_at (behind_text version bytes.now)) }
+    ensures in_place { length (text_of version bytes.now) ≤ VALUE_BYTES_IN_PLACE → IfErr result (λ fault. fault ≢ DecodeFault.NoMemory) }
+{
+    let (value, behind) = value_field(alloc, version, bytes)?;
+    let Some((place, rest)) = place_field(behind) else {
+        return Err(DecodeFault::Frame(FrameFault::Argument));
+    };
+    no_rest(rest)?;
+    Ok((value?, place))
+}
+
+/// An id, with nothing behind it.
+fn last_id(bytes: &[u8]) -> Result<ElementId, FrameFault>
+    ensures fault { MatchResult result (λ _. id_fault bytes.now ≡ None) (λ fault. id_fault bytes.now ≡ Some fault) }
+    ensures id { IfOk result (λ id. id ≡ id_at bytes.now) }
+{
+    let (id, rest) = id_field(bytes).ok_or(FrameFault::Argument)?;
+    no_rest(rest)?;
+    Ok(id)
 }
 
 /// An amount, with nothing behind it.
@@ -164,7 +249,7 @@ fn last_amount(bytes: &[u8]) -> Result<u32, FrameFault>
     Ok(BigEndian::read_u32(front))
 }
 
-/// The kind and the verb of an update's code. For a number that is none they are those of 19.
+/// The kind and the verb of an update's code. For a number that is none they are those of 22.
 fn kind_and_verb(code: u8) -> (Kind, Verb)
     ensures { result ≡ row_of code }
 {
@@ -187,7 +272,10 @@ fn kind_and_verb(code: u8) -> (Kind, Verb)
         16 => (Kind::Counter, Verb::Dec),
         17 => (Kind::RCounter, Verb::Inc),
         18 => (Kind::RCounter, Verb::Dec),
-        _ => (Kind::RCounter, Verb::Clear),
+        19 => (Kind::RCounter, Verb::Clear),
+        20 => (Kind::List, Verb::Ins),
+        21 => (Kind::List, Verb::Del),
+        _ => (Kind::List, Verb::Clear),
     }
 }
 
@@ -203,6 +291,11 @@ fn last_act(alloc: Global, version: Version, verb: Verb, bytes: &[u8]) -> Result
         Verb::Write => Ok(Act::Write(last_value(alloc, version, bytes)?)),
         Verb::Inc => Ok(Act::Inc(last_amount(bytes)?)),
         Verb::Dec => Ok(Act::Dec(last_amount(bytes)?)),
+        Verb::Ins => {
+            let (value, place) = last_insertion(alloc, version, bytes)?;
+            Ok(Act::Ins(value, place))
+        }
+        Verb::Del => Ok(Act::Del(last_id(bytes)?)),
         Verb::Clear => {
             no_rest(bytes)?;
             Ok(Act::Clear)
@@ -220,7 +313,7 @@ fn last_act(alloc: Global, version: Version, verb: Verb, bytes: &[u8]) -> Result
 
 /// The operation of a code, with its key and its argument and nothing behind them.
 pub fn operation(alloc: Global, version: Version, code: u8, bytes: &[u8]) -> Result<Op, DecodeFault>
-    requires { code ≤ 19 }
+    requires { code ≤ 22 }
     ensures fault { MatchResult result (λ _. fields_fault version code bytes.now ≡ None) (IsWhy (fields_fault version code bytes.now)) }
     ensures operation { IfOk result (λ op. SaysOperation version code bytes.now op) }
     ensures in_place { (op : AnOp) → SaysOperation version code bytes.now op → IsInPlace op → IfErr result (λ fault. fault ≢ DecodeFault.NoMemory) }

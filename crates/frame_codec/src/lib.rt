@@ -6,8 +6,9 @@
 //!
 //! A frame is these fields and nothing behind them: the version, the origin, the number of members and the
 //! operation's code, one byte each; in version 2 the epoch; a number of 32 bits for each member; then, for an update,
-//! the key as a length and that many bytes, and the argument: a value like a key, an amount as a number of 32 bits, or
-//! nothing. A length has one byte in version 1 and two in version 2. Version 2 is written; version 1 is read in epoch 0.
+//! the key as a length and that many bytes, and the argument: a value like a key, behind it a place where the act has one, an
+//! amount as a number of 32 bits, an id of an element, or nothing. A length has one byte in version 1 and two in version 2.
+//! Version 1 has no lists. Version 2 is written; version 1 is read in epoch 0.
 #![tactic(auto)]
 
 mod decoding;

@@ -3,7 +3,7 @@
 ghost use Rattle.std.specs.Prelude.{◌≡◌, length};
 
 use super::*;
-use op_base::{Act, Key, Kind, Message, ObjectId, Op, Tag, Update, Value};
+use op_base::{Act, ElementId, Key, Kind, Message, ObjectId, Op, Tag, Update, Value};
 use std::alloc::Global;
 use std::test::Fail;
 
@@ -321,6 +321,98 @@ fn values_end_at_the_versions_bounds(rt: HostRuntime) -> Result<(), Fail> {
         );
     }
     Ok(())
+}
+
+/// `ins x` at the head of `list:d`, the message `0:1` of a store of one member in epoch 0.
+const AT_HEAD: [u8; 19] = *b"\x02\0\x01\x14\0\0\0\0\0\0\0\x01\0\x01d\0\x01x\0";
+
+/// `ins x` behind element 7.15.2 of the same.
+const BEHIND: [u8; 28] =
+    *b"\x02\0\x01\x14\0\0\0\0\0\0\0\x01\0\x01d\0\x01x\x01\0\0\0\x07\x0F\0\0\0\x02";
+
+/// `del` of that element.
+const DELETED: [u8; 24] = *b"\x02\0\x01\x15\0\0\0\0\0\0\0\x01\0\x01d\0\0\0\x07\x0F\0\0\0\x02";
+
+/// `clear` of the list.
+const CLEARED: [u8; 15] = *b"\x02\0\x01\x16\0\0\0\0\0\0\0\x01\0\x01d";
+
+/// The message `0:1` of a store of one member that does this to `list:d`.
+fn does(alloc: Global, act: Act) -> Result<Message, Fail> {
+    let mut tag = Tag::zero(1);
+    tag.set(0, 1);
+    let update = Update::new(ObjectId::read(alloc, b"list:d")?, act)
+        .ok()
+        .ok_or("an act of a list")?;
+    Ok(Message {
+        origin: 0,
+        tag,
+        op: Op::Update(update),
+    })
+}
+
+/// Whether these bytes are read as a message of this act, and it is written as they are.
+fn is_written_so(alloc: Global, act: Act, bytes: &[u8]) -> Result<bool, Fail> {
+    let wanted = does(alloc, act)?;
+    let message = decode(alloc, bytes, 1, 0, LIMIT)?;
+    let written = encode(alloc, &message, 1, 0)?;
+    Ok(message == wanted && written.as_slice() == bytes)
+}
+
+#[test]
+fn acts_of_lists_are_written_and_read(rt: HostRuntime) -> Result<(), Fail> {
+    let alloc = rt.alloc();
+    let id = ElementId {
+        epoch: 7,
+        origin: 15,
+        seq: 2,
+    };
+    let first = Act::Ins(Value::read(alloc, b"x")?, None);
+    assert_eq!(rt; is_written_so(alloc, first, &AT_HEAD)?, true);
+    let behind = Act::Ins(Value::read(alloc, b"x")?, Some(id));
+    assert_eq!(rt; is_written_so(alloc, behind, &BEHIND)?, true);
+    assert_eq!(rt; is_written_so(alloc, Act::Del(id), &DELETED)?, true);
+    assert_eq!(rt; is_written_so(alloc, Act::Clear, &CLEARED)?, true);
+    Ok(())
+}
+
+#[test]
+fn an_argument_of_a_list_is_whole(rt: HostRuntime) {
+    for len in 15..28 {
+        assert_eq!(rt;
+            number(&decode(rt.alloc(), &BEHIND[..len], 1, 0, LIMIT)),
+            8,
+            "{len} bytes"
+        );
+    }
+    for len in 15..24 {
+        assert_eq!(rt;
+            number(&decode(rt.alloc(), &DELETED[..len], 1, 0, LIMIT)),
+            8,
+            "{len} bytes"
+        );
+    }
+    // a place that is neither 0 nor 1, a member 16, a number 0
+    for (place, byte) in [(18, 2), (23, 16), (27, 0)] {
+        let mut bytes = BEHIND;
+        bytes[place] = byte;
+        assert_eq!(rt;
+            number(&decode(rt.alloc(), &bytes, 1, 0, LIMIT)),
+            8,
+            "{byte} at {place}"
+        );
+    }
+    // a place 0 with an id behind it, a code 23, and a code 22 in version 1
+    for (place, byte, wanted) in [(18, 0, 9), (3, 23, 5)] {
+        let mut bytes = BEHIND;
+        bytes[place] = byte;
+        assert_eq!(rt;
+            number(&decode(rt.alloc(), &bytes, 1, 0, LIMIT)),
+            wanted,
+            "{byte} at {place}"
+        );
+    }
+    let old = b"\x01\0\x01\x16\0\0\0\x01\x01d".as_slice();
+    assert_eq!(rt; number(&decode(rt.alloc(), old, 1, 0, LIMIT)), 5);
 }
 
 #[test]

@@ -1,13 +1,13 @@
 //! The two versions of frames, and what differs between them.
 
 ghost use Rattle.std.specs.Prelude.{◌≡◌, ◌≤◌};
-ghost use Rattle.frame_codec.specs.Grammar.{version_byte, is_carried};
+ghost use Rattle.frame_codec.specs.Grammar.{version_byte, is_carried, last_code};
 ghost use Rattle.frame_codec.specs.Fault.{version_at, head_len, length_len, is_read_in};
 
 /// A version of frames.
 #[derive(Clone, Copy, Debug, PartialEq, Eq)]
 pub enum Version {
-    /// It has no epoch, a length is one byte, and a value has at most 64 bytes. It is read in epoch 0 alone.
+    /// It has no epoch and no lists, a length is one byte, and a value has at most 64 bytes. It is read in epoch 0 alone.
     One,
     /// It has an epoch, a length is two bytes, and a value may have any length. It is read and written.
     Two,
@@ -66,6 +66,17 @@ impl Version {
         match self {
             Version::One => epoch == 0,
             Version::Two => true,
+        }
+    }
+
+    /// The greatest code that it has, 19 or 22.
+    pub fn last_code(self) -> u8
+        ensures exact { result ≡ last_code self }
+        ensures most { result ≤ 22 }
+    {
+        match self {
+            Version::One => 19,
+            Version::Two => 22,
         }
     }
 

@@ -9,12 +9,13 @@ use Rattle.std.specs.Cmp.Lexicographic.{texts_ties, bytes_decides}
 use Rattle.std.proofs.lemmas.Cmp.{ranked}
 use Rattle.op_base.specs.declared.name.Kind.{Kind}
 use Rattle.op_base.specs.declared.name.Kind.TheVariants.{AwSet, RwSet, EwFlag, DwFlag, MvReg, Counter, RCounter}
+use Rattle.op_base.specs.declared.name.Kind.TheVariants as kind
 use Rattle.op_base.specs.Name.{kinds}
 use Rattle.op_base.specs.Object.{kind_place}
 use Rattle.op_base.specs.Order.{text_cmp, object_cmp}
 use Rattle.op_base.specs.Laws.{ItemsAreTiedToThemselvesAlone}
 
-kind_at_place : (kind : Kind) → get_or kinds (kind_place kind) AwSet ≡ kind
+kind_at_place : (k : Kind) → get_or kinds (kind_place k) AwSet ≡ k
 kind_at_place AwSet = refl
 kind_at_place RwSet = refl
 kind_at_place EwFlag = refl
@@ -22,6 +23,7 @@ kind_at_place DwFlag = refl
 kind_at_place MvReg = refl
 kind_at_place Counter = refl
 kind_at_place RCounter = refl
+kind_at_place kind.List = refl
 
 kinds_tied : (kind other : Kind) → nat_cmp (kind_place kind) (kind_place other) ≡ Equal → kind ≡ other
 kinds_tied kind other h =

@@ -6,6 +6,7 @@ use Rattle.std.proofs.lemmas.Bool.{cond-true, and_parts}
 use Rattle.std.proofs.lemmas.Str.{IsUtf8-from_ascii, IsUtf8-from_is_utf8}
 use Rattle.op_base.specs.Name.{is_key, is_key_byte, is_value}
 use Rattle.op_base.specs.declared.name.Kind.TheVariants.{AwSet, RwSet, EwFlag, DwFlag, MvReg, Counter, RCounter}
+use Rattle.op_base.specs.declared.name.Kind.TheVariants as kinds
 use Rattle.op_base.specs.Laws.{ObjectsHaveTheirText}
 
 pub object_from_text : ObjectsHaveTheirText
@@ -16,6 +17,7 @@ object_from_text DwFlag key h = cond-true _ _ _ h
 object_from_text MvReg key h = cond-true _ _ _ h
 object_from_text Counter key h = cond-true _ _ _ h
 object_from_text RCounter key h = cond-true _ _ _ h
+object_from_text kinds.List key h = cond-true _ _ _ h
 
 -- a key's bytes are ASCII
 key_byte_is_ascii : (b : ℕ) → is_key_byte b ≡ true → b < 128

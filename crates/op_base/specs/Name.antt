@@ -6,6 +6,7 @@ use Rattle.std.specs.Cmp.Lexicographic.{pointwise}
 use Rattle.std.specs.Str.{is_utf8}
 use Rattle.op_base.specs.declared.name.Kind.{Kind}
 use Rattle.op_base.specs.declared.name.Kind.TheVariants.{AwSet, RwSet, EwFlag, DwFlag, MvReg, Counter, RCounter}
+use Rattle.op_base.specs.declared.name.Kind.TheVariants as kind
 use Rattle.op_base.specs.declared.name.NameFault.{NameFault}
 use Rattle.op_base.specs.declared.name.NameFault.TheVariants.{Empty, TooLong, BadByte, NoType, NotUtf8, NoMemory}
 
@@ -62,10 +63,11 @@ kind_word DwFlag = codes "dwflag"
 kind_word MvReg = codes "mvreg"
 kind_word Counter = codes "counter"
 kind_word RCounter = codes "rcounter"
+kind_word kind.List = codes "list"
 
 -- the kinds, in their order
 abbrev pub kinds : List Kind
-kinds = AwSet ∷ RwSet ∷ EwFlag ∷ DwFlag ∷ MvReg ∷ Counter ∷ RCounter ∷ []
+kinds = AwSet ∷ RwSet ∷ EwFlag ∷ DwFlag ∷ MvReg ∷ Counter ∷ RCounter ∷ kind.List ∷ []
 
 -- the kind of a list whose word this is
 abbrev pub kind_among : List Kind → List ℕ → Option Kind

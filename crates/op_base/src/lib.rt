@@ -15,7 +15,7 @@ mod tests;
 mod validity;
 
 pub use laws::{items_are_in_one_order, names_are_exactly_what_is_read};
-pub use list::{ByteList, IdList, ListOf, MessageList, StepList, Text, ValueList};
+pub use list::{ByteList, ElementIdList, IdList, ListOf, MessageList, StepList, Text, ValueList};
 pub use memory::NoMemory;
 pub use message::{Entry, Message};
 pub use name::{
@@ -24,5 +24,5 @@ pub use name::{
 pub use operation::{Act, Op, Update};
 pub use order::item_order;
 pub use outcome::{Answer, Cell, Crook, Item, Step};
-pub use tag::{MOST_MEMBERS, MessageId, Tag};
+pub use tag::{ElementId, MOST_MEMBERS, MessageId, Tag};
 pub use validity::{operations_are_valid, updates_are_valid};

@@ -9,7 +9,7 @@ use crate::memory::NoMemory;
 use crate::message::Message;
 use crate::name::Value;
 use crate::outcome::Step;
-use crate::tag::MessageId;
+use crate::tag::{ElementId, MessageId};
 use std::alloc::Global;
 use std::marker::Model;
 
@@ -128,6 +128,9 @@ pub type StepList = ListOf<Step>;
 
 /// Ids of messages.
 pub type IdList = ListOf<MessageId>;
+
+/// Ids of elements of a list, in its order.
+pub type ElementIdList = ListOf<ElementId>;
 
 impl<T: PartialEq> PartialEq for ListOf<T> {
     ghost eq = { pointwise T.eq };

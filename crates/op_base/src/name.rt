@@ -1,4 +1,4 @@
-//! Names: the seven kinds, keys, values and objects.
+//! Names: the eight kinds, keys, values and objects.
 //!
 //! Their texts are this project's own profile. UTF-8 is tested by `simdutf8`.
 
@@ -7,6 +7,9 @@ ghost use Rattle.op_base.specs.declared.name.TheConstants.{VALUE_BYTES_IN_PLACE}
 ghost use Rattle.std.specs.List.{list_all};
 ghost use Rattle.std.specs.Prelude.{nat_eq, refl};
 ghost use Rattle.std.specs.Str.{is_utf8};
+ghost use Rattle.std.proofs.Common.{rules};
+ghost use Rattle.std.specs.Hash as fed;
+ghost use Rattle.std.specs.Cmp.Rules.{hashing};
 ghost use Rattle.std.specs.Ordering.{nat_cmp, as_partial_cmp};
 ghost use Rattle.std.specs.Cmp.{partial_equiv_from_equiv};
 ghost use Rattle.std.specs.Cmp.Lexicographic.{pointwise, slice_cmp, nat_list_eq_equiv, nat_list_cmp_total, texts_ties, texts_po};
@@ -17,6 +20,7 @@ use smallvec::SmallVec;
 use std::alloc::{AllocError, Global};
 use std::cmp::Ordering;
 use std::error::Error;
+use std::hash::{Hash, Hasher};
 use std::marker::Model;
 use std::{fmt, str};
 
@@ -46,6 +50,8 @@ pub enum Kind {
     Counter,
     /// A counter that can be cleared.
     RCounter,
+    /// A list, into which values are put behind others.
+    List,
 }
 
 /// Why a text is no name.
@@ -140,7 +146,7 @@ impl Model for Value {
 }
 
 /// The name of an object: its kind and its key. Its text is the kind's word, a colon and the key.
-#[derive(Debug, PartialEq, Eq, PartialOrd, Ord, Drop)]
+#[derive(Clone, Debug, PartialEq, Eq, PartialOrd, Ord, Hash, Drop)]
 pub struct ObjectId {
     /// The type of the object.
     pub kind: Kind,
@@ -161,6 +167,7 @@ impl Kind {
             Kind::MvReg => "mvreg",
             Kind::Counter => "counter",
             Kind::RCounter => "rcounter",
+            Kind::List => "list",
         }
     }
 
@@ -176,6 +183,7 @@ impl Kind {
             b"mvreg" => Some(Kind::MvReg),
             b"counter" => Some(Kind::Counter),
             b"rcounter" => Some(Kind::RCounter),
+            b"list" => Some(Kind::List),
             _ => None,
         }
     }
@@ -434,6 +442,27 @@ impl fmt::Debug for Key {
     }
 }
 
+impl Clone for Key {
+    ghost is_clone = { λ key copy. copy ≡ key };
+
+    fn clone(&self) -> Result<Key, AllocError> {
+        Ok(Key {
+            len: self.len,
+            bytes: self.bytes,
+        })
+    }
+}
+
+impl Clone for Value {
+    ghost is_clone = { λ value copy. copy ≡ value };
+
+    fn clone(&self) -> Result<Value, AllocError> {
+        Ok(Value {
+            bytes: SmallVec::from_slice(*self.bytes.allocator(), self.as_slice())?,
+        })
+    }
+}
+
 impl PartialEq for Key {
     ghost eq = { pointwise nat_eq };
 
@@ -469,6 +498,16 @@ impl Ord for Key {
 
     fn cmp(&self, other: &Key) -> Ordering {
         self.as_str().cmp(other.as_str())
+    }
+}
+
+impl Hash for Key {
+    ghost hash_input = { fed.str };
+
+    ghost respects_eq = { Prim.search (hashing, rules) };
+
+    fn hash<H: Hasher>(&self, state: &mut H) {
+        self.as_str().hash(state);
     }
 }
 

@@ -4,10 +4,11 @@
 //! (arXiv 1710.04469). The kinds' acts and their codes are this project's own profile.
 
 ghost use Rattle.std.specs.Prelude.{◌≡◌, IsTrue, Some, is_ok, IfOk, IfErr};
-ghost use Rattle.op_base.specs.Operation.{act_code, has_act};
+ghost use Rattle.op_base.specs.Operation.{act_code, has_act, is_place};
 
 use crate::memory::NoMemory;
 use crate::name::{Kind, ObjectId, Value};
+use crate::tag::ElementId;
 use std::alloc::Global;
 
 /// What is done to an object.
@@ -29,6 +30,10 @@ pub enum Act {
     Inc(u32),
     /// Takes an amount from a counter.
     Dec(u32),
+    /// Puts a value into a list: behind an element, or at the head.
+    Ins(Value, Option<ElementId>),
+    /// Takes an element out of a list.
+    Del(ElementId),
 }
 
 /// An object and an act of its kind.
@@ -51,7 +56,18 @@ pub enum Op {
     Update(Update),
 }
 
-/// The code of an act at a kind, 1 to 19. `None` exactly where the kind has no such act.
+/// Whether a value can be put there: at the head, or behind an element.
+fn is_place(place: Option<ElementId>) -> bool
+    ensures { result ≡ is_place place }
+{
+    match place {
+        None => true,
+        Some(id) => id.is_element(),
+    }
+}
+
+/// The code of an act at a kind, 1 to 22. `None` exactly where the kind has no such act, or the act names what can't be an
+/// element.
 fn act_code(kind: Kind, act: &Act) -> Option<u8>
     ensures { result ≡ act_code kind act.now }
 {
@@ -75,6 +91,9 @@ fn act_code(kind: Kind, act: &Act) -> Option<u8>
         (Kind::RCounter, Act::Inc(_)) => 17,
         (Kind::RCounter, Act::Dec(_)) => 18,
         (Kind::RCounter, Act::Clear) => 19,
+        (Kind::List, Act::Ins(_, place)) if is_place(*place) => 20,
+        (Kind::List, Act::Del(id)) if id.is_element() => 21,
+        (Kind::List, Act::Clear) => 22,
         _ => return None,
     };
     Some(code)
@@ -94,6 +113,8 @@ impl Act {
             Act::Write(value) => Ok(Act::Write(value.copy(alloc)?)),
             Act::Inc(amount) => Ok(Act::Inc(*amount)),
             Act::Dec(amount) => Ok(Act::Dec(*amount)),
+            Act::Ins(value, place) => Ok(Act::Ins(value.copy(alloc)?, *place)),
+            Act::Del(id) => Ok(Act::Del(*id)),
         }
     }
 }
@@ -145,7 +166,7 @@ impl Update {
 impl Op {
     ghost use Rattle.op_base.specs.Code.{op_code};
 
-    /// The code of the operation, 0 to 19.
+    /// The code of the operation, 0 to 22.
     pub fn code(&self) -> u8
         ensures { result ≡ op_code self.now }
     {

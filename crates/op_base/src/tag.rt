@@ -41,6 +41,28 @@ pub struct MessageId {
     pub seq: u32,
 }
 
+/// The id of an element of a list: that of the message which put it in, and its epoch. It is printed `epoch.origin.number`.
+#[derive(Clone, Copy, Debug, PartialEq, Eq, PartialOrd, Ord, Hash)]
+pub struct ElementId {
+    /// The epoch in which it was put in.
+    pub epoch: u32,
+    /// The member that put it in.
+    pub origin: u8,
+    /// How many messages the member had sent in that epoch with the one that put it in, from 1.
+    pub seq: u32,
+}
+
+impl ElementId {
+    ghost use Rattle.op_base.specs.Operation.{is_element};
+
+    /// Whether an element can have it: it is of a member below 16, with a number from 1.
+    pub fn is_element(self) -> bool
+        ensures { result ≡ is_element self }
+    {
+        self.origin <= 15 && self.seq >= 1
+    }
+}
+
 impl Tag {
     /// The timestamp of so many members before anything was sent: all zeros.
     pub fn zero(n: u8) -> Tag

@@ -2,8 +2,8 @@
 //! table of operations.
 
 use crate::{
-    Act, ByteList, Entry, Key, Kind, MOST_MEMBERS, Message, MessageId, NameFault, NoMemory,
-    ObjectId, Op, Tag, Update, Value, item_order,
+    Act, ByteList, ElementId, Entry, Key, Kind, MOST_MEMBERS, Message, MessageId, NameFault,
+    NoMemory, ObjectId, Op, Tag, Update, Value, item_order,
 };
 use std::alloc::Global;
 use std::cmp::Ordering;
@@ -69,7 +69,7 @@ fn names_are_refused_at_their_bounds(rt: HostRuntime) {
     for (bytes, fault) in values {
         assert_eq!(rt; Value::read(alloc, bytes).err(), fault, "value {bytes:?}");
     }
-    let objects: [(&[u8], Option<NameFault>); 19] = [
+    let objects: [(&[u8], Option<NameFault>); 20] = [
         (b"awset:s", None),
         (b"rwset:s", None),
         (b"ewflag:s", None),
@@ -77,6 +77,7 @@ fn names_are_refused_at_their_bounds(rt: HostRuntime) {
         (b"mvreg:s", None),
         (b"counter:s", None),
         (b"rcounter:s", None),
+        (b"list:s", None),
         (b"", NO_TYPE),
         (b":s", NO_TYPE),
         (b"s", NO_TYPE),
@@ -123,8 +124,17 @@ fn faults_are_told(rt: HostRuntime) -> Result<(), Fail> {
     Ok(())
 }
 
+/// An element of epoch 7.
+fn element(origin: u8, seq: u32) -> ElementId {
+    ElementId {
+        epoch: 7,
+        origin,
+        seq,
+    }
+}
+
 /// One act of each sort.
-fn acts(alloc: Global) -> Result<[Act; 8], NameFault> {
+fn acts(alloc: Global) -> Result<[Act; 10], NameFault> {
     Ok([
         Act::Add(Value::read(alloc, b"v")?),
         Act::Rmv(Value::read(alloc, b"v")?),
@@ -134,6 +144,8 @@ fn acts(alloc: Global) -> Result<[Act; 8], NameFault> {
         Act::Write(Value::read(alloc, b"v")?),
         Act::Inc(u32::MAX),
         Act::Dec(7),
+        Act::Ins(Value::read(alloc, b"v")?, None),
+        Act::Del(element(15, 1)),
     ])
 }
 
@@ -153,14 +165,15 @@ fn agrees(alloc: Global, object: &ObjectId, act: &Act, code: u8) -> Result<bool,
 fn each_kind_has_its_acts(rt: HostRuntime) -> Result<(), Fail> {
     let alloc = rt.alloc();
     // the code of each act at each kind, and 0 where the kind has no such act
-    let table: [(&[u8], [u8; 8]); 7] = [
-        (b"awset:s", [1, 2, 3, 0, 0, 0, 0, 0]),
-        (b"rwset:s", [4, 5, 6, 0, 0, 0, 0, 0]),
-        (b"ewflag:s", [0, 0, 9, 7, 8, 0, 0, 0]),
-        (b"dwflag:s", [0, 0, 12, 10, 11, 0, 0, 0]),
-        (b"mvreg:s", [0, 0, 14, 0, 0, 13, 0, 0]),
-        (b"counter:s", [0, 0, 0, 0, 0, 0, 15, 16]),
-        (b"rcounter:s", [0, 0, 19, 0, 0, 0, 17, 18]),
+    let table: [(&[u8], [u8; 10]); 8] = [
+        (b"awset:s", [1, 2, 3, 0, 0, 0, 0, 0, 0, 0]),
+        (b"rwset:s", [4, 5, 6, 0, 0, 0, 0, 0, 0, 0]),
+        (b"ewflag:s", [0, 0, 9, 7, 8, 0, 0, 0, 0, 0]),
+        (b"dwflag:s", [0, 0, 12, 10, 11, 0, 0, 0, 0, 0]),
+        (b"mvreg:s", [0, 0, 14, 0, 0, 13, 0, 0, 0, 0]),
+        (b"counter:s", [0, 0, 0, 0, 0, 0, 15, 16, 0, 0]),
+        (b"rcounter:s", [0, 0, 19, 0, 0, 0, 17, 18, 0, 0]),
+        (b"list:s", [0, 0, 22, 0, 0, 0, 0, 0, 20, 21]),
     ];
     let acts = acts(alloc)?;
     for (text, codes) in table {
@@ -172,6 +185,28 @@ fn each_kind_has_its_acts(rt: HostRuntime) -> Result<(), Fail> {
                 "{object:?} {act:?}"
             );
         }
+    }
+    Ok(())
+}
+
+#[test]
+fn a_list_takes_ids_of_members(rt: HostRuntime) -> Result<(), Fail> {
+    let alloc = rt.alloc();
+    let list = ObjectId::read(alloc, b"list:s")?;
+    for (id, is_one) in [
+        (element(0, 1), true),
+        (element(15, u32::MAX), true),
+        (element(16, 1), false),
+        (element(0, 0), false),
+    ] {
+        let behind = Act::Ins(Value::read(alloc, b"v")?, Some(id));
+        let codes = if is_one { (20, 21) } else { (0, 0) };
+        assert_eq!(rt; agrees(alloc, &list, &behind, codes.0)?, true, "{id:?}");
+        assert_eq!(rt;
+            agrees(alloc, &list, &Act::Del(id), codes.1)?,
+            true,
+            "{id:?}"
+        );
     }
     Ok(())
 }
@@ -274,5 +309,6 @@ fn items_stand_in_order(rt: HostRuntime) -> Result<(), Fail> {
     assert_eq!(rt; set.is_same(&counter), false);
     assert_eq!(rt; set.kind.word(), "awset");
     assert_eq!(rt; Kind::read(b"mvreg"), Some(Kind::MvReg));
+    assert_eq!(rt; Kind::read(b"list"), Some(Kind::List));
     Ok(())
 }

@@ -2,21 +2,34 @@
 //! that does nothing.
 
 ghost use Rattle.std.specs.Prelude.{IsTrue};
-ghost use Rattle.op_base.specs.Valid.{is_valid_act, is_valid_update, is_valid};
+ghost use Rattle.op_base.specs.Valid.{is_valid_id, is_valid_act, is_valid_update, is_valid};
 
 use crate::operation::{Act, Op, Update};
+use crate::tag::ElementId;
+
+/// The numbers of an id are ones of 32 bits and 8.
+fn ids_are_valid(id: ElementId)
+    ensures { IsTrue (is_valid_id id) }
+{
+    let _numbers = (id.epoch, id.origin, id.seq);
+}
 
 /// The value that an act names is a value, and its amount a number of 32 bits.
 fn acts_are_valid(act: &Act)
     ensures { IsTrue (is_valid_act act.now) }
 {
     match act {
-        Act::Add(value) | Act::Rmv(value) | Act::Write(value) => {
+        Act::Add(value) | Act::Rmv(value) | Act::Write(value) | Act::Ins(value, None) => {
             let _bytes = value.as_slice();
         }
         Act::Inc(amount) | Act::Dec(amount) => {
             let _amount = *amount;
         }
+        Act::Ins(value, Some(id)) => {
+            let _bytes = value.as_slice();
+            ids_are_valid(*id);
+        }
+        Act::Del(id) => ids_are_valid(*id),
         Act::Clear | Act::Enable | Act::Disable => {}
     }
 }
