@@ -12,6 +12,7 @@ use Rattle.op_base.specs.declared.message.Message.{Message}
 use Rattle.op_base.specs.declared.name.ObjectId.{ObjectId}
 use Rattle.op_base.specs.declared.name.Kind.{Kind}
 use Rattle.op_base.specs.declared.name.Kind.TheVariants.{AwSet, RwSet, EwFlag, DwFlag, MvReg, Counter, RCounter}
+use Rattle.op_base.specs.declared.name.Kind.TheVariants as kinds
 use Rattle.op_base.specs.declared.operation.Act.{Act}
 use Rattle.op_base.specs.declared.operation.Update.{Update}
 use Rattle.op_base.specs.declared.operation.Op.{Op}
@@ -48,6 +49,7 @@ covers_as_value DwFlag later earlier = refl
 covers_as_value MvReg later earlier = refl
 covers_as_value Counter later earlier = refl
 covers_as_value RCounter later earlier = refl
+covers_as_value kinds.List later earlier = refl
 
 -- an operation covers a kept one where it covers the place that this names
 covers_kept : (later : Op) (u : Update) → store_keeps u ≡ true → is_covered_by store_covers (op.Update u) later ≡ covers_place later u.object (value_of u.act)
@@ -136,7 +138,7 @@ module _ (w : ℕ) (h : History) (m : Message) (t : IsTrue (is_history w (with_m
   abbrev Stays : Event → Type 0
   Stays e = is_stable_event h e ≡ true → (is_stable_event (with_message h m) e ≡ true) × (before e ≡ true)
 
-  stable_event_stays : All Stays (events h)
+  pub stable_event_stays : All Stays (events h)
   stable_event_stays = All-append Stays (events_from 0 h.past) (events_in (epoch_of h) ms)
       (λ k d l stable. (past_is_stable (with_message h m) k d l, (let between = epochs_are_between 0 h.past k d l in earlier_is_before (slice_index_or (events_from 0 h.past) k d) (present_event h m) (omega (arith, between.1)))))
       (All-map Stays (event_of (epoch_of h)) ms (All-weaker (λ e. was_stable e ≡ true → (now_stable e ≡ true) × (happened_before e m ≡ true)) (λ e. Stays (event_of (epoch_of h) e)) (λ e stays stable.

@@ -9,7 +9,7 @@ use Rattle.op_base.specs.declared.name.ObjectId.{ObjectId}
 use Rattle.op_base.specs.declared.name.Kind.{Kind}
 use Rattle.op_base.specs.declared.name.Kind.TheVariants.{AwSet, RwSet, EwFlag, DwFlag, MvReg, RCounter}
 use Rattle.op_base.specs.declared.operation.Act.{Act}
-use Rattle.op_base.specs.declared.operation.Act.TheVariants.{Add, Rmv, Clear, Enable, Disable, Write, Inc, Dec}
+use Rattle.op_base.specs.declared.operation.Act.TheVariants.{Add, Rmv, Clear, Enable, Disable, Write, Inc, Dec, Ins, Del}
 use Rattle.op_base.specs.declared.operation.Update.{Update}
 use Rattle.op_base.specs.declared.operation.Op.{Op}
 use Rattle.op_base.specs.declared.operation.Op.TheVariants as op
@@ -106,6 +106,8 @@ module _ (v : List ℕ) where
   set_act_names (Write x) t = absurd (false≢true t)
   set_act_names (Inc a) t = absurd (false≢true t)
   set_act_names (Dec a) t = absurd (false≢true t)
+  set_act_names (Ins x p) t = absurd (false≢true t)
+  set_act_names (Del x) t = absurd (false≢true t)
 
   awset_covering : (later : Act) → has_act AwSet later ≡ true → (is_clear later || same_value (value_of later) (Some v)) ≡ (is_add_of v later || (is_rmv_of v later || is_clear later))
   awset_covering (Add x) t = sym (or-false (same_text x v))

@@ -17,10 +17,10 @@ use Rattle.op_base.specs.declared.operation.Op.{Op}
 use Rattle.op_base.specs.declared.operation.Op.TheVariants as op
 use Rattle.causal_model.specs.Acts.{acts_on, is_clear, amount_of, share_of}
 use Rattle.causal_model.specs.Covering.{store_covers}
-use Rattle.causal_model.specs.History.{History, Event, events, with_message, is_before, is_history}
+use Rattle.causal_model.specs.History.{History, Event, events, with_message, is_before, is_history, is_act_on}
 use Rattle.causal_model.specs.Laws.Events.{present_event}
 use Rattle.causal_model.specs.Log.{is_covered_by}
-use Rattle.causal_model.specs.Query.{is_act_on, is_live, total_of, counter_sum, rcounter_sum}
+use Rattle.causal_model.specs.Query.{is_live, total_of, counter_sum, rcounter_sum}
 use Rattle.causal_model.specs.Settled.{is_stable_event, is_uncovered_event, has_settled, has_pending}
 use Rattle.causal_model.proofs.Events.{event_never_before_itself, later_are_not_before, events_of_one_more, uncovered_events_of_one_more}
 use Rattle.causal_model.proofs.Lists.{filter-filter}

@@ -16,8 +16,9 @@ use Rattle.op_base.specs.Order.{text_cmp, object_cmp, item_cmp}
 use Rattle.op_base.specs.declared.name.ObjectId.{ObjectId}
 use Rattle.op_base.specs.declared.name.Kind.{Kind}
 use Rattle.op_base.specs.declared.name.Kind.TheVariants.{AwSet, RwSet, EwFlag, DwFlag, MvReg, RCounter}
+use Rattle.op_base.specs.declared.name.Kind.TheVariants as kinds
 use Rattle.op_base.specs.declared.operation.Act.{Act}
-use Rattle.op_base.specs.declared.operation.Act.TheVariants.{Add, Rmv, Enable, Disable, Write, Inc, Dec}
+use Rattle.op_base.specs.declared.operation.Act.TheVariants.{Add, Rmv, Enable, Disable, Write, Inc, Dec, Clear, Del}
 use Rattle.op_base.specs.declared.operation.Update.{Update}
 use Rattle.op_base.specs.declared.operation.Op.{Op}
 use Rattle.op_base.specs.declared.operation.Op.TheVariants as op
@@ -25,10 +26,10 @@ use Rattle.op_base.specs.declared.outcome.Cell.{Cell}
 use Rattle.causal_model.specs.Acts.{acts_on, value_of, is_add_of, is_rmv_of, is_write_of, is_enable, is_disable, amount_of, share_of}
 use Rattle.causal_model.specs.CellSteps.{with_act}
 use Rattle.causal_model.specs.Covering.{keeps_act, store_keeps}
-use Rattle.causal_model.specs.History.{Event}
+use Rattle.causal_model.specs.History.{Event, is_act_on}
 use Rattle.causal_model.specs.Items.{zero_cell}
 use Rattle.causal_model.specs.Log.{is_kept}
-use Rattle.causal_model.specs.Query.{is_act_on, counter_sum}
+use Rattle.causal_model.specs.Query.{counter_sum}
 use Rattle.causal_model.specs.Settled.{on_cell, sum_cell}
 use Rattle.causal_model.proofs.Cells.{restrict, marks, gather, zero_join, gather-marks, gather-on_cells, gather_same, gather_none, restrict_both, fold-sums, cell_of}
 use Rattle.causal_model.proofs.Rules.{object_from_same}
@@ -136,6 +137,16 @@ dwflag_value v act = refl
 pub rcounter_value : (v : List ℕ) (act : Act) → put_cell RCounter (Some v) act ≡ zero_cell
 rcounter_value v (Inc a) = refl
 rcounter_value v act = refl
+
+pub list_object : (act : Act) → put_cell kinds.List None act ≡ zero_cell
+list_object (Del x) = refl
+list_object Clear = refl
+list_object act = refl
+
+pub list_value : (v : List ℕ) (act : Act) → put_cell kinds.List (Some v) act ≡ zero_cell
+list_value v (Del x) = refl
+list_value v Clear = refl
+list_value v act = refl
 
 -- ---- what events give, where a test lets them
 

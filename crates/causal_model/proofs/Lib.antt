@@ -54,3 +54,14 @@ pub mod MovedCells
 pub mod MovedSums
 pub mod ObjectParts
 pub mod Regrouping
+mod PathOrder
+pub mod Ranks
+pub mod SameLists
+pub mod Paths
+pub mod KeptLists
+pub mod ListPlaces
+pub mod GoneElements
+pub mod ListHistories
+pub mod ListsOfOneMore
+pub mod KeptOfOneMore
+pub mod ShownLists

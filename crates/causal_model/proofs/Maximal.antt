@@ -8,10 +8,10 @@ use Rattle.std.proofs.lemmas.List.Folds.{Any-from_list_any}
 use Rattle.std.proofs.lemmas.List.Sums.{AllPass-from_list_all, list_all-from_AllPass}
 use Rattle.op_base.specs.declared.name.ObjectId.{ObjectId}
 use Rattle.causal_model.specs.Acts.{is_clear}
-use Rattle.causal_model.specs.History.{History, Event, events, is_before, is_history}
+use Rattle.causal_model.specs.History.{History, Event, events, is_before, is_history, is_act_on}
 use Rattle.causal_model.specs.Laws.Events.{IsMaximal}
 use Rattle.causal_model.specs.Order.{is_followed}
-use Rattle.causal_model.specs.Query.{is_act_on, is_live}
+use Rattle.causal_model.specs.Query.{is_live}
 use Rattle.causal_model.proofs.Elements.{same_tests, no_item, item_from_list_any, list_any-from_item, list_any-from_none, list_any_agree, list_any-or, list_any-same, before_is_earlier}
 use Rattle.causal_model.proofs.Events.{event_never_before_itself, events_are_transitive, later_are_not_before}
 

@@ -14,10 +14,9 @@ use Rattle.op_base.specs.declared.operation.Op.TheVariants as op
 use Rattle.op_base.specs.declared.operation.Update.{Update}
 use Rattle.causal_model.specs.Acts.{acts_on}
 use Rattle.causal_model.specs.Covering.{keeps_act, store_keeps, store_covers}
-use Rattle.causal_model.specs.History.{History, Event, epoch_of, events, events_from, events_in}
+use Rattle.causal_model.specs.History.{History, Event, epoch_of, events, events_from, events_in, is_act_on}
 use Rattle.causal_model.specs.Log.{is_kept, is_uncovered, log_of}
 use Rattle.causal_model.specs.Parts.{has_uncovered, has_logged}
-use Rattle.causal_model.specs.Query.{is_act_on}
 use Rattle.causal_model.specs.Settled.{is_stable_event, is_uncovered_event, is_settled, is_pending, has_settled, has_pending}
 use Rattle.causal_model.specs.Stability.{stable_vector, is_stable}
 use Rattle.causal_model.specs.Laws.Events.{present_event}

@@ -27,9 +27,9 @@ use Rattle.op_base.specs.declared.operation.Op.{Op}
 use Rattle.op_base.specs.declared.operation.Op.TheVariants as op
 use Rattle.op_base.proofs.Orders.{items_tied}
 use Rattle.causal_model.specs.Acts.{acts_on, value_of, is_add_of, is_rmv_of, is_write_of, is_enable, is_disable, amount_of, share_of}
-use Rattle.causal_model.specs.History.{History, Event, events}
+use Rattle.causal_model.specs.History.{History, Event, events, is_act_on}
 use Rattle.causal_model.specs.Items.{zero_cell, cell_in, is_filled, Rise}
-use Rattle.causal_model.specs.Query.{is_act_on, counter_sum}
+use Rattle.causal_model.specs.Query.{counter_sum}
 use Rattle.causal_model.specs.Settled.{is_settled, is_pending, on_cell, sum_cell, remove_wins_cell, object_cell, value_cell, settled_cell, put_place, put_place_of, places_of, settled_items}
 use Rattle.causal_model.proofs.Lists.{fold_has}
 use Rattle.causal_model.proofs.Rules.{object_from_same}

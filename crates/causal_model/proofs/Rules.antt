@@ -11,8 +11,9 @@ use Rattle.op_base.specs.Order.{text_cmp}
 use Rattle.op_base.specs.declared.name.ObjectId.{ObjectId}
 use Rattle.op_base.specs.declared.name.Kind.{Kind}
 use Rattle.op_base.specs.declared.name.Kind.TheVariants.{AwSet, RwSet, EwFlag, DwFlag, MvReg, Counter, RCounter}
+use Rattle.op_base.specs.declared.name.Kind.TheVariants as kinds
 use Rattle.op_base.specs.declared.operation.Act.{Act}
-use Rattle.op_base.specs.declared.operation.Act.TheVariants.{Add, Rmv, Clear, Enable, Disable, Write, Inc, Dec}
+use Rattle.op_base.specs.declared.operation.Act.TheVariants.{Add, Rmv, Clear, Enable, Disable, Write, Inc, Dec, Ins, Del}
 use Rattle.op_base.specs.declared.operation.Update.{Update}
 use Rattle.op_base.proofs.Orders.{items_tied}
 use Rattle.causal_model.specs.Acts.{value_of, is_clear, same_value}
@@ -43,6 +44,8 @@ clear_has_none (Some v) Disable t same = t
 clear_has_none (Some v) (Write x) t same = t
 clear_has_none (Some v) (Inc a) t same = t
 clear_has_none (Some v) (Dec a) t same = t
+clear_has_none (Some v) (Ins x p) t same = t
+clear_has_none (Some v) (Del x) t same = t
 
 set_covers : (last later earlier : Act) → (is_clear last || same_value (value_of last) (value_of later)) ≡ true → (is_clear later || same_value (value_of later) (value_of earlier)) ≡ true → (is_clear last || same_value (value_of last) (value_of earlier)) ≡ true
 set_covers last later earlier first second = elim (or_cases (is_clear last) (same_value (value_of last) (value_of later)) first) [
@@ -60,6 +63,7 @@ act_covers EwFlag last later earlier first second = first
 act_covers DwFlag last later earlier first second = first
 act_covers MvReg last later earlier first second = first
 act_covers Counter last later earlier first second = first
+act_covers kinds.List last later earlier first second = first
 act_covers RCounter last later earlier first second = first
 
 -- ---- the laws

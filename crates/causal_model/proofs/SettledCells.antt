@@ -9,6 +9,7 @@ use Rattle.op_base.specs.declared.message.Message.{Message}
 use Rattle.op_base.specs.declared.name.ObjectId.{ObjectId}
 use Rattle.op_base.specs.declared.name.Kind.{Kind}
 use Rattle.op_base.specs.declared.name.Kind.TheVariants.{AwSet, RwSet, EwFlag, DwFlag, MvReg, Counter, RCounter}
+use Rattle.op_base.specs.declared.name.Kind.TheVariants as kinds
 use Rattle.op_base.specs.declared.operation.Act.{Act}
 use Rattle.op_base.specs.declared.operation.Act.TheVariants.{Add, Enable}
 use Rattle.op_base.specs.declared.operation.Op.{Op}
@@ -18,14 +19,13 @@ use Rattle.causal_model.specs.Acts.{acts_on, is_add_of, is_rmv_of, is_write_of, 
 use Rattle.causal_model.specs.CellSteps.{cell_settled, marks_settled, is_put_in}
 use Rattle.causal_model.specs.Log.{log_of, is_kept, is_uncovered}
 use Rattle.causal_model.specs.Covering.{keeps_act, store_keeps, store_covers}
-use Rattle.causal_model.specs.History.{History, Event, events, events_in, events_from, epoch_of}
-use Rattle.causal_model.specs.Query.{is_act_on}
+use Rattle.causal_model.specs.History.{History, Event, events, events_in, events_from, epoch_of, is_act_on}
 use Rattle.causal_model.specs.Settled.{is_stable_event, is_uncovered_event, is_settled, is_pending, has_settled, has_pending, object_cell, value_cell, settled_cell}
 use Rattle.causal_model.specs.Stability.{stable_vector, is_stable}
 use Rattle.causal_model.proofs.Cells.{marks}
 use Rattle.causal_model.proofs.Elements.{list_any-map, list_any_agree, list_any-filter}
 use Rattle.causal_model.proofs.Events.{event_of, epochs_are_between, present_is_covered_in_present}
-use Rattle.causal_model.proofs.KindCells.{put_cell, given, given_on, given_marks, given_sum, given_none, awset_puts, rwset_puts, mvreg_puts, ewflag_puts, dwflag_puts, rcounter_puts, awset_object, rwset_object, mvreg_object, ewflag_value, dwflag_value, rcounter_value}
+use Rattle.causal_model.proofs.KindCells.{put_cell, given, given_on, given_marks, given_sum, given_none, awset_puts, rwset_puts, mvreg_puts, ewflag_puts, dwflag_puts, rcounter_puts, awset_object, rwset_object, mvreg_object, ewflag_value, dwflag_value, rcounter_value, list_object, list_value}
 use Rattle.causal_model.proofs.Rules.{object_from_same}
 
 -- ---- events of epochs that are over, and of the present one
@@ -113,6 +113,8 @@ module _ (h : History) (object : ObjectId) where
   cell_is_given MvReg None is other = sym (given_none object None (is_settled h) (events h) (as_kind MvReg is None _ mvreg_object))
   cell_is_given Counter value is other = absurd (other refl)
   cell_is_given RCounter None is other = sym (given_sum object None (is_settled h) (events h) (as_kind RCounter is None _ rcounter_puts))
+  cell_is_given kinds.List None is other = sym (given_none object None (is_settled h) (events h) (as_kind kinds.List is None _ list_object))
+  cell_is_given kinds.List (Some v) is other = sym (given_none object (Some v) (is_settled h) (events h) (as_kind kinds.List is (Some v) _ (list_value v)))
   cell_is_given RCounter (Some v) is other = sym (given_none object (Some v) (is_settled h) (events h) (as_kind RCounter is (Some v) _ (rcounter_value v)))
 
   pub settled_is_given : (value : Option (List ℕ)) → object.kind ≢ Counter → settled_cell h object value ≡ cell_settled object.kind (is_put_in (log_of h) object value) (settled_given h object value)

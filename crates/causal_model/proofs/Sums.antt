@@ -14,7 +14,7 @@ use Rattle.op_base.specs.Object.{same_object}
 use Rattle.op_base.specs.Valid.{is_valid, is_valid_act}
 use Rattle.op_base.specs.declared.name.ObjectId.{ObjectId}
 use Rattle.op_base.specs.declared.operation.Act.{Act}
-use Rattle.op_base.specs.declared.operation.Act.TheVariants.{Add, Rmv, Clear, Enable, Disable, Write, Inc, Dec}
+use Rattle.op_base.specs.declared.operation.Act.TheVariants.{Add, Rmv, Clear, Enable, Disable, Write, Inc, Dec, Ins, Del}
 use Rattle.op_base.specs.declared.operation.Op.{Op}
 use Rattle.op_base.specs.declared.operation.Op.TheVariants as op
 use Rattle.causal_model.specs.Counts.{is_carried}
@@ -60,6 +60,8 @@ amount_is_small Enable t = omega arith
 amount_is_small Disable t = omega arith
 amount_is_small (Write v) t = omega arith
 amount_is_small (Inc a) t = let l = ltb-true a 4294967296 t in omega (arith, l)
+amount_is_small (Ins v p) t = omega arith
+amount_is_small (Del x) t = omega arith
 amount_is_small (Dec a) t = let l = ltb-true a 4294967296 t in omega (arith, l, abs_of_pos a)
 
 share_is_small : (object : ObjectId) (o : Op) → is_valid o ≡ true → nat_abs (share_of object o) ≤ 4294967296

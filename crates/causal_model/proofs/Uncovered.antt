@@ -8,14 +8,15 @@ use Rattle.op_base.specs.Operation.{has_act}
 use Rattle.op_base.specs.declared.name.ObjectId.{ObjectId}
 use Rattle.op_base.specs.declared.name.Kind.{Kind}
 use Rattle.op_base.specs.declared.name.Kind.TheVariants.{AwSet, RwSet, EwFlag, DwFlag, MvReg, Counter, RCounter}
+use Rattle.op_base.specs.declared.name.Kind.TheVariants as kinds
 use Rattle.op_base.specs.declared.operation.Act.{Act}
 use Rattle.op_base.specs.declared.outcome.Answer.TheVariants.{Values, Flag, Sum}
 use Rattle.causal_model.specs.Acts.{is_add_of, is_rmv_of, is_write_of, is_write, is_clear, is_enable, is_disable, share_of}
 use Rattle.causal_model.specs.Covering.{keeps_act, covers_act, store_covers}
-use Rattle.causal_model.specs.History.{History, Event, events, is_before, is_history}
+use Rattle.causal_model.specs.History.{History, Event, events, is_before, is_history, is_act_on}
 use Rattle.causal_model.specs.Log.{is_covered_by}
 use Rattle.causal_model.specs.Parts.{puts, takes, is_in, has, has_uncovered, has_by_uncovered, uncovered_answer}
-use Rattle.causal_model.specs.Query.{is_act_on, is_live, add_wins, remove_wins, counter_sum, rcounter_sum, answer_as, answer}
+use Rattle.causal_model.specs.Query.{is_live, add_wins, remove_wins, counter_sum, rcounter_sum, answer_as, answer}
 use Rattle.causal_model.specs.Settled.{is_uncovered_event}
 use Rattle.causal_model.proofs.Covers.{is_amount, acts_on_agree, acts_on-or, acts_on_none, covered_is, puts_as, puts_is, awset_covers, awset_keeps, rwset_covers, rwset_keeps, mvreg_covers, mvreg_keeps, ewflag_covers, ewflag_keeps, dwflag_covers, dwflag_keeps, rcounter_keeps, share_none}
 use Rattle.causal_model.proofs.Elements.{list_any_agree, list_any-from_none}
@@ -109,6 +110,7 @@ answer_by w h object t MvReg e = ap Values (filter_agree _ _ (λ v. has_by w h o
 answer_by w h object t EwFlag e = ap Flag (has_by w h object t EwFlag None e)
 answer_by w h object t DwFlag e = ap Flag (has_by w h object t DwFlag None e)
 answer_by w h object t Counter e = refl
+answer_by w h object t kinds.List e = refl
 answer_by w h object t RCounter e = ap Sum (rcounter_by_uncovered w h object t e)
 
 pub answers_are_of_uncovered : (w : ℕ) (h : History) (object : ObjectId) → IsTrue (is_history w h) → answer object (events h) ≡ uncovered_answer object.kind object (events h)

@@ -15,15 +15,16 @@ use Rattle.op_base.specs.Object.{same_object}
 use Rattle.op_base.specs.Order.{text_cmp}
 use Rattle.op_base.specs.declared.name.Kind.{Kind}
 use Rattle.op_base.specs.declared.name.Kind.TheVariants.{AwSet, RwSet, EwFlag, DwFlag, MvReg, Counter, RCounter}
+use Rattle.op_base.specs.declared.name.Kind.TheVariants as kinds
 use Rattle.op_base.specs.declared.name.ObjectId.{ObjectId}
 use Rattle.op_base.specs.declared.operation.Act.{Act}
-use Rattle.op_base.specs.declared.operation.Act.TheVariants.{Add, Rmv, Clear, Enable, Disable, Write, Inc, Dec}
+use Rattle.op_base.specs.declared.operation.Act.TheVariants.{Add, Rmv, Clear, Enable, Disable, Write, Inc, Dec, Ins, Del}
 use Rattle.op_base.specs.declared.operation.Op.{Op}
 use Rattle.op_base.specs.declared.operation.Op.TheVariants as op
 use Rattle.causal_model.specs.Acts.{acts_on, is_add_of, is_write_of, value_of, same_value}
-use Rattle.causal_model.specs.History.{Event}
+use Rattle.causal_model.specs.History.{Event, is_act_on}
 use Rattle.causal_model.specs.Parts.{has}
-use Rattle.causal_model.specs.Query.{is_act_on, put_value, put_named, put_of, named_values, values_that, TextsRise}
+use Rattle.causal_model.specs.Query.{put_value, put_named, put_of, named_values, values_that, TextsRise}
 use Rattle.causal_model.specs.Laws.Answers.{is_named}
 use Rattle.causal_model.proofs.Members.{no_member, member_here, member_later, member_cases, member_of_filter, list_any_weaker, pairs_head, pairs_tail, one_rising_list}
 
@@ -146,6 +147,8 @@ add_names value Disable t = t
 add_names value (Write v) t = absurd (false≢true t)
 add_names value (Inc a) t = t
 add_names value (Dec a) t = t
+add_names value (Ins v p) t = t
+add_names value (Del x) t = t
 
 write_names : (value : List ℕ) (act : Act) → is_write_of value act ≡ true → names value act ≡ true
 write_names value (Add v) t = absurd (false≢true t)
@@ -156,6 +159,8 @@ write_names value Disable t = t
 write_names value (Write v) t = t
 write_names value (Inc a) t = t
 write_names value (Dec a) t = t
+write_names value (Ins v p) t = t
+write_names value (Del x) t = t
 
 some_names : (object : ObjectId) (value : List ℕ) (puts : Act → Bool) (rest : Event → Bool) (es : List Event) → ((act : Act) → puts act ≡ true → names value act ≡ true)
     → list_any (λ e. is_act_on object puts e && rest e) es ≡ true → is_named object value es ≡ true
@@ -169,6 +174,7 @@ only_named_of EwFlag object es value t = absurd (false≢true t)
 only_named_of DwFlag object es value t = absurd (false≢true t)
 only_named_of Counter object es value t = absurd (false≢true t)
 only_named_of RCounter object es value t = absurd (false≢true t)
+only_named_of kinds.List object es value t = absurd (false≢true t)
 
 pub only_named_are_in : (object : ObjectId) (es : List Event) (value : List ℕ) → IsTrue (has object.kind object es (Some value)) → IsTrue (is_named object value es)
 only_named_are_in object es value t = only_named_of object.kind object es value t

@@ -9,6 +9,7 @@ use Rattle.op_base.specs.Order.{item_cmp}
 use Rattle.op_base.specs.declared.name.ObjectId.{ObjectId}
 use Rattle.op_base.specs.declared.name.Kind.{Kind}
 use Rattle.op_base.specs.declared.name.Kind.TheVariants.{AwSet, RwSet, EwFlag, DwFlag, MvReg, Counter, RCounter}
+use Rattle.op_base.specs.declared.name.Kind.TheVariants as kinds
 use Rattle.op_base.specs.declared.message.Message.{Message}
 use Rattle.op_base.specs.declared.operation.Act.{Act}
 use Rattle.op_base.specs.declared.operation.Act.TheVariants.{Add, Rmv, Enable, Disable, Write}
@@ -35,6 +36,7 @@ covers_value DwFlag act value = true
 covers_value MvReg act value = true
 covers_value Counter act value = false
 covers_value RCounter act value = is_clear act
+covers_value kinds.List act value = false
 
 -- whether an operation covers what is settled of an object and a value
 abbrev pub covers_place : Op → ObjectId → Option (List ℕ) → Bool

@@ -4,8 +4,9 @@ use Rattle.std.specs.Prelude.{Bool, true, false, ◌&&◌, ◌||◌}
 use Rattle.op_base.specs.Object.{same_object}
 use Rattle.op_base.specs.declared.name.Kind.{Kind}
 use Rattle.op_base.specs.declared.name.Kind.TheVariants.{AwSet, RwSet, EwFlag, DwFlag, MvReg, Counter, RCounter}
+use Rattle.op_base.specs.declared.name.Kind.TheVariants as kinds
 use Rattle.op_base.specs.declared.operation.Act.{Act}
-use Rattle.op_base.specs.declared.operation.Act.TheVariants.{Add, Rmv, Enable, Disable, Write, Inc, Dec}
+use Rattle.op_base.specs.declared.operation.Act.TheVariants.{Add, Rmv, Clear, Enable, Disable, Write, Inc, Dec, Del}
 use Rattle.op_base.specs.declared.operation.Update.{Update}
 use Rattle.causal_model.specs.Acts.{value_of, is_clear, same_value}
 
@@ -20,6 +21,8 @@ keeps_act DwFlag Disable = true
 keeps_act MvReg (Write v) = true
 keeps_act RCounter (Inc a) = true
 keeps_act RCounter (Dec a) = true
+keeps_act kinds.List (Del id) = true
+keeps_act kinds.List Clear = true
 keeps_act kind act = false
 
 -- Whether a later act of a kind covers an earlier one that is logged. In a set an act covers those of its value and a
@@ -32,6 +35,7 @@ covers_act DwFlag later earlier = true
 covers_act MvReg later earlier = true
 covers_act Counter later earlier = false
 covers_act RCounter later earlier = is_clear later
+covers_act kinds.List later earlier = false
 
 -- the table's rule of what is logged, over updates
 abbrev pub store_keeps : Update → Bool

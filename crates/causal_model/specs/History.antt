@@ -3,6 +3,9 @@
 use Rattle.std.specs.Prelude.{ℕ, ◌↔◌, ◌+◌, Bool, not, ◌&&◌, ◌||◌, ◌==◌, nat_lt, nat_le, List, [], ◌∷◌, ◌++◌, map, length, Contains}
 use Rattle.std.specs.List.{list_all}
 use Rattle.op_base.specs.declared.message.Message.{Message}
+use Rattle.op_base.specs.declared.name.ObjectId.{ObjectId}
+use Rattle.op_base.specs.declared.operation.Act.{Act}
+use Rattle.causal_model.specs.Acts.{acts_on}
 use Rattle.causal_model.specs.Order.{happened_before}
 use Rattle.causal_model.specs.Counts.{are_carried}
 use Rattle.causal_model.specs.Stability.{carries_operation, unstable_messages}
@@ -69,6 +72,10 @@ SameEvents g h = (e : Event) → (Contains (events g) e ↔ Contains (events h) 
 -- whether a happened before b: in an earlier epoch, or in one epoch by their timestamps
 abbrev pub is_before : Event → Event → Bool
 is_before a b = nat_lt a.epoch b.epoch || ((a.epoch == b.epoch) && happened_before a.message b.message)
+
+-- whether an event does an act that passes to an object
+abbrev pub is_act_on : ObjectId → (Act → Bool) → Event → Bool
+is_act_on object passes e = acts_on object passes e.message.op
 
 -- whether a chapter is one of a store of 1 to 16 members with a window w
 abbrev pub is_chapter_of : ℕ → Chapter → Bool

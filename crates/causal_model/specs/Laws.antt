@@ -3,3 +3,4 @@ pub mod States
 pub mod Events
 pub mod Cells
 pub mod Answers
+pub mod Lists

@@ -5,11 +5,14 @@ pub mod Crook
 pub mod Chapter
 pub mod History
 pub mod Acts
+pub mod Elements
 pub mod Query
 pub mod Covering
+pub mod ListSteps
 pub mod Log
 pub mod Items
 pub mod Settled
+pub mod KeptElements
 pub mod CellSteps
 pub mod Parts
 pub mod Follows
@@ -25,6 +28,7 @@ pub use Rattle.op_base.specs.Object
 pub use Rattle.op_base.specs.Operation
 pub use Rattle.op_base.specs.Valid
 pub mod Worked
+pub mod WorkedLists
 pub mod Table
 pub mod States
 pub mod Laws

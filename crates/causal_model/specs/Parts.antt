@@ -5,6 +5,8 @@ use Rattle.std.specs.List.{list_any}
 use Rattle.op_base.specs.declared.name.ObjectId.{ObjectId}
 use Rattle.op_base.specs.declared.name.Kind.{Kind}
 use Rattle.op_base.specs.declared.name.Kind.TheVariants.{AwSet, RwSet, EwFlag, DwFlag, MvReg, Counter, RCounter}
+use Rattle.op_base.specs.declared.name.Kind.TheVariants as kinds
+use Rattle.causal_model.specs.Elements.{list_values}
 use Rattle.op_base.specs.declared.message.Message.{Message}
 use Rattle.op_base.specs.declared.operation.Act.{Act}
 use Rattle.op_base.specs.declared.outcome.Answer.{Answer}
@@ -13,9 +15,9 @@ use Rattle.op_base.specs.declared.outcome.Cell.{Cell}
 use Rattle.op_base.specs.declared.outcome.Item.{Item}
 use Rattle.causal_model.specs.Acts.{acts_on, is_add_of, is_rmv_of, is_write_of, is_enable, is_disable}
 use Rattle.causal_model.specs.Log.{log_of}
-use Rattle.causal_model.specs.History.{History, Event}
+use Rattle.causal_model.specs.History.{History, Event, is_act_on}
 use Rattle.causal_model.specs.Items.{cell_in}
-use Rattle.causal_model.specs.Query.{is_act_on, awset_has, rwset_has, mvreg_has, ewflag_on, dwflag_on, counter_sum, values_that}
+use Rattle.causal_model.specs.Query.{awset_has, rwset_has, mvreg_has, ewflag_on, dwflag_on, counter_sum, values_that}
 use Rattle.causal_model.specs.Settled.{is_uncovered_event, settled_cell}
 
 -- whether an act puts in a value, or turns on a flag
@@ -60,11 +62,12 @@ has_logged object log passes = list_any (λ m. acts_on object passes m.op) log
 abbrev pub has_by_parts : Kind → ObjectId → Cell → List Message → Option (List ℕ) → Bool
 has_by_parts kind object cell log value = is_in kind (cell.on || has_logged object log (puts value)) (cell.off || has_logged object log (takes value))
 
--- the answer of a kind by the uncovered events alone; of `counter` by all
+-- the answer of a kind by the uncovered events alone; of `counter` and of a list by all
 abbrev pub uncovered_answer : Kind → ObjectId → List Event → Answer
 uncovered_answer EwFlag object events = Flag (has_by_uncovered EwFlag object events None)
 uncovered_answer DwFlag object events = Flag (has_by_uncovered DwFlag object events None)
 uncovered_answer Counter object events = Sum (counter_sum object events)
+uncovered_answer kinds.List object events = Values (list_values object events)
 uncovered_answer RCounter object events = Sum (counter_sum object (filter (is_uncovered_event events) events))
 uncovered_answer kind object events = Values (values_that (λ value. has_by_uncovered kind object events (Some value)) object events)
 

@@ -9,18 +9,16 @@ use Rattle.op_base.specs.Order.{text_cmp}
 use Rattle.op_base.specs.declared.name.ObjectId.{ObjectId}
 use Rattle.op_base.specs.declared.name.Kind.{Kind}
 use Rattle.op_base.specs.declared.name.Kind.TheVariants.{AwSet, RwSet, EwFlag, DwFlag, MvReg, Counter, RCounter}
+use Rattle.op_base.specs.declared.name.Kind.TheVariants as kinds
 use Rattle.op_base.specs.declared.outcome.Answer.{Answer}
 use Rattle.op_base.specs.declared.outcome.Answer.TheVariants.{Values, Flag, Sum}
 use Rattle.op_base.specs.declared.operation.Act.{Act}
 use Rattle.op_base.specs.declared.operation.Op.{Op}
 use Rattle.op_base.specs.declared.operation.Op.TheVariants as op
 use Rattle.causal_model.specs.Order.{is_followed}
-use Rattle.causal_model.specs.History.{Event, is_before}
-use Rattle.causal_model.specs.Acts.{acts_on, is_add_of, is_rmv_of, is_write_of, is_write, is_clear, is_enable, is_disable, value_of, share_of}
-
--- whether an event does an act that passes to an object
-abbrev pub is_act_on : ObjectId → (Act → Bool) → Event → Bool
-is_act_on object passes e = acts_on object passes e.message.op
+use Rattle.causal_model.specs.History.{Event, is_before, is_act_on}
+use Rattle.causal_model.specs.Elements.{list_values}
+use Rattle.causal_model.specs.Acts.{is_add_of, is_rmv_of, is_write_of, is_write, is_clear, is_enable, is_disable, value_of, share_of}
 
 -- an operation is voided where a clear of its object happened after it, and live otherwise
 abbrev pub is_live : ObjectId → List Event → Event → Bool
@@ -112,6 +110,7 @@ answer_as DwFlag object events = Flag (dwflag_on object events)
 answer_as MvReg object events = Values (values_that (mvreg_has object events) object events)
 answer_as Counter object events = Sum (counter_sum object events)
 answer_as RCounter object events = Sum (rcounter_sum object events)
+answer_as kinds.List object events = Values (list_values object events)
 
 -- what an object is after events
 abbrev pub answer : ObjectId → List Event → Answer

@@ -18,8 +18,8 @@ use Rattle.causal_model.specs.Covering.{store_covers}
 use Rattle.causal_model.specs.Items.{is_filled}
 use Rattle.causal_model.specs.Log.{is_covered_by}
 use Rattle.causal_model.specs.Order.{is_followed}
-use Rattle.causal_model.specs.History.{History, Event, epoch_of, events, is_before}
-use Rattle.causal_model.specs.Query.{is_act_on, counter_sum}
+use Rattle.causal_model.specs.History.{History, Event, epoch_of, events, is_before, is_act_on}
+use Rattle.causal_model.specs.Query.{counter_sum}
 use Rattle.causal_model.specs.Stability.{stable_vector, is_stable}
 
 -- whether an event is stable: it is of an epoch that is over, or a stable message of the present one

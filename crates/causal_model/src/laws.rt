@@ -5,6 +5,7 @@ mod answers;
 mod cells;
 mod delivery;
 mod events;
+mod lists;
 mod states;
 
 pub use answers::{answers_come_from_parts, sums_are_bounded, values_are_exactly_those_that_pass};
@@ -18,6 +19,9 @@ pub use delivery::{
 pub use events::{
     answers_are_of_uncovered_events, equal_events_answer_alike, events_are_ordered,
     maximal_events_are_there, one_event_more,
+};
+pub use lists::{
+    elements_of_one_message_more, lists_come_from_kept_elements, lists_stay_over_epochs, ranks_rise,
 };
 pub use states::{
     calls_keep_states, calls_note_one_group, early_messages_are_one_list, journals_are_of_groups,

@@ -12,16 +12,18 @@ mod outcome;
 mod room;
 mod rule;
 mod worked;
+mod worked_lists;
 
 pub use items::ItemView;
 pub use laws::{
     a_chapter_grows, a_chapter_is_bounded, answers_are_of_uncovered_events,
     answers_come_from_parts, calls_keep_states, calls_note_one_group, cells_of_one_message_more,
-    early_messages_are_one_list, equal_events_answer_alike, events_are_ordered, ids_are_apart,
-    items_are_the_cells, items_with_equal_cells_are_equal, journals_are_of_groups,
+    early_messages_are_one_list, elements_of_one_message_more, equal_events_answer_alike,
+    events_are_ordered, ids_are_apart, items_are_the_cells, items_with_equal_cells_are_equal,
+    journals_are_of_groups, lists_come_from_kept_elements, lists_stay_over_epochs,
     maximal_events_are_there, messages_are_ordered, nothing_was_delivered_yet, one_event_more,
-    one_member_alone, one_message_more, own_messages_are_next, stable_messages_stay_behind,
-    steps_end, sums_are_bounded, the_end_of_an_epoch_keeps_events,
+    one_member_alone, one_message_more, own_messages_are_next, ranks_rise,
+    stable_messages_stay_behind, steps_end, sums_are_bounded, the_end_of_an_epoch_keeps_events,
     the_table_meets_the_laws_of_rules, unstable_messages_are_numbered,
     unstable_messages_tell_a_crook, values_are_exactly_those_that_pass, windows_bound_what_is_kept,
 };
@@ -43,4 +45,8 @@ pub use worked::{
     messages_are_seen_or_concurrent, no_ops_are_held_at_their_window,
     operations_wait_for_their_window, the_lowest_member_is_taken_first,
     what_was_concurrent_stays_so,
+};
+pub use worked_lists::{
+    an_element_stays_for_those_behind_it, an_order_walks_the_tree, deleted_elements_are_tombs,
+    elements_outlive_their_epoch, later_elements_come_first, nothing_is_kept_of_what_is_settled,
 };

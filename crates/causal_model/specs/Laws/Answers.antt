@@ -12,8 +12,8 @@ use Rattle.op_base.specs.declared.outcome.Item.{Item}
 use Rattle.causal_model.specs.Acts.{value_of, same_value}
 use Rattle.causal_model.specs.Covering.{store_keeps}
 use Rattle.causal_model.specs.Items.{cell_in}
-use Rattle.causal_model.specs.History.{History, Event, events, is_history, is_limited}
-use Rattle.causal_model.specs.Query.{TextsRise, is_act_on, counter_sum, rcounter_sum, total_of, values_that, IsWithin}
+use Rattle.causal_model.specs.History.{History, Event, events, is_history, is_limited, is_act_on}
+use Rattle.causal_model.specs.Query.{TextsRise, counter_sum, rcounter_sum, total_of, values_that, IsWithin}
 use Rattle.causal_model.specs.Settled.{has_settled, has_pending, settled_cell}
 use Rattle.causal_model.specs.Parts.{has, has_by_parts, has_uncovered, has_logged, ArePartsOf}
 use Rattle.causal_model.specs.Log.{log_of}

@@ -10,8 +10,8 @@ use Rattle.causal_model.specs.Acts.{is_clear, share_of}
 use Rattle.causal_model.specs.Covering.{store_covers}
 use Rattle.causal_model.specs.Log.{is_covered_by, is_uncovered}
 use Rattle.causal_model.specs.Order.{same_id, is_followed}
-use Rattle.causal_model.specs.History.{History, Event, events, SameEvents, epoch_of, with_message, is_before, is_history, is_limited}
-use Rattle.causal_model.specs.Query.{is_act_on, is_live, rcounter_sum, counter_sum, answer}
+use Rattle.causal_model.specs.History.{History, Event, events, SameEvents, epoch_of, with_message, is_before, is_history, is_limited, is_act_on}
+use Rattle.causal_model.specs.Query.{is_live, rcounter_sum, counter_sum, answer}
 use Rattle.causal_model.specs.Settled.{is_stable_event, is_uncovered_event, has_settled, has_pending}
 use Rattle.causal_model.specs.Parts.{has, has_by_uncovered, uncovered_answer}
 
