@@ -14,6 +14,7 @@ use Rattle.op_base.specs.Name.{same_text}
 use Rattle.op_base.specs.Order.{text_cmp}
 use Rattle.op_base.specs.declared.name.Kind.{Kind}
 use Rattle.op_base.specs.declared.name.Kind.TheVariants.{AwSet, RwSet, EwFlag, DwFlag, MvReg, Counter, RCounter}
+use Rattle.op_base.specs.declared.name.Kind.TheVariants as kinds
 use Rattle.causal_model.specs.Parts.{is_in}
 use Rattle.causal_model.proofs.Elements.{item_from_list_any}
 use Rattle.causal_model.proofs.Members.{pairs_head, pairs_tail}
@@ -46,6 +47,7 @@ is_in_none DwFlag taken = refl
 is_in_none MvReg taken = refl
 is_in_none Counter taken = refl
 is_in_none RCounter taken = refl
+is_in_none kinds.List taken = refl
 
 pub in_is_put : (kind : Kind) (put taken : Bool) → is_in kind put taken ≡ true → put ≡ true
 in_is_put kind true taken t = refl

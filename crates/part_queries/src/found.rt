@@ -42,6 +42,7 @@ fn found_of(act: &Act) -> Option<Found<'_>>
             },
         }),
         Act::Clear | Act::Enable | Act::Disable | Act::Inc(_) | Act::Dec(_) => None,
+        Act::Ins(_, _) | Act::Del(_) => None,
     }
 }
 

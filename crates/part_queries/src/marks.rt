@@ -32,7 +32,8 @@ impl Marks {
     {
         match kind {
             Kind::RwSet | Kind::DwFlag => self.put && !self.taken,
-            Kind::AwSet | Kind::EwFlag | Kind::MvReg | Kind::Counter | Kind::RCounter => self.put,
+            Kind::AwSet | Kind::EwFlag | Kind::MvReg => self.put,
+            Kind::Counter | Kind::RCounter | Kind::List => self.put,
         }
     }
 }

@@ -99,7 +99,7 @@ impl Items {
     {
         match (update.object.kind, value_of(&update.act)) {
             (kind, Some(value)) if is_set(kind) => self.place_span(&update.object, Some(value)),
-            (Kind::Counter, _) => (0, 0),
+            (Kind::Counter | Kind::List, _) => (0, 0),
             (Kind::RCounter, _) if !matches!(update.act, Act::Clear) => (0, 0),
             _ => self.span(&update.object),
         }

@@ -1,4 +1,4 @@
-//! The rules of the store's seven kinds: which operations its log keeps, and which later one covers an earlier one.
+//! The rules of the store's eight kinds: which operations its log keeps, and which later one covers an earlier one.
 //!
 //! That an operation may not need to be logged, and may make logged ones redundant, is the idea of Baquero, Almeida and
 //! Shoker (arXiv 1710.04469); the table is this project's own profile.
@@ -56,6 +56,7 @@ fn keeps_act(kind: Kind, act: &Act) -> bool
             | (Kind::DwFlag, Act::Enable | Act::Disable)
             | (Kind::MvReg, Act::Write(_))
             | (Kind::RCounter, Act::Inc(_) | Act::Dec(_))
+            | (Kind::List, Act::Del(_) | Act::Clear)
     )
 }
 
@@ -67,7 +68,7 @@ fn covers_act(kind: Kind, later: &Act, earlier: &Act) -> bool
         Kind::AwSet | Kind::RwSet => is_clear(later)
             || same_value(value_of(later), value_of(earlier)),
         Kind::EwFlag | Kind::DwFlag | Kind::MvReg => true,
-        Kind::Counter => false,
+        Kind::Counter | Kind::List => false,
         Kind::RCounter => is_clear(later),
     }
 }
@@ -85,6 +86,7 @@ fn value_of(act: &Act) -> Option<&Value>
     match act {
         Act::Add(value) | Act::Rmv(value) | Act::Write(value) => Some(value),
         Act::Clear | Act::Enable | Act::Disable | Act::Inc(_) | Act::Dec(_) => None,
+        Act::Ins(_, _) | Act::Del(_) => None,
     }
 }
 

@@ -2,7 +2,7 @@
 
 use crate::StoreRule;
 use causal_model::TypeRule;
-use op_base::{Act, ObjectId, Update, Value};
+use op_base::{Act, ElementId, ObjectId, Update, Value};
 use std::alloc::Global;
 use std::test::Fail;
 
@@ -86,6 +86,26 @@ fn acts_are_kept_and_covered_as_their_kind_says(rt: HostRuntime) -> Result<(), F
     assert_eq!(rt;
         covers(&StoreRule, alloc, b"rcounter:c", Act::Clear, Act::Dec(1))?,
         true
+    );
+    Ok(())
+}
+
+#[test]
+fn a_list_keeps_what_takes_out(rt: HostRuntime) -> Result<(), Fail> {
+    let alloc = rt.alloc();
+    let id = ElementId {
+        epoch: 0,
+        origin: 1,
+        seq: 1,
+    };
+    let list = ObjectId::read(alloc, b"list:l")?;
+    assert_eq!(rt; keeps(&StoreRule, list, Act::Del(id)), true);
+    let list = ObjectId::read(alloc, b"list:l")?;
+    let value = Value::read(alloc, b"v")?;
+    assert_eq!(rt; keeps(&StoreRule, list, Act::Ins(value, Some(id))), false);
+    assert_eq!(rt;
+        covers(&StoreRule, alloc, b"list:l", Act::Clear, Act::Del(id))?,
+        false
     );
     Ok(())
 }
