@@ -1,0 +1,15 @@
+pub mod Chained
+pub mod ChainFields
+pub mod Depths
+pub mod Lending
+pub mod Nodes
+pub mod Forests
+pub mod Laws
+pub mod Planted
+pub mod Listed
+pub mod ListFields
+pub mod Shown
+pub mod Heads
+pub mod Putting
+pub mod Taking
+pub mod Removals
