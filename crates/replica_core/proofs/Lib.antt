@@ -1,6 +1,7 @@
 pub mod Alone
 pub mod AllSettled
 pub mod Bounds
+pub mod Insertions
 pub mod MovesStable
 pub mod ObjectParts
 pub mod Keeps
@@ -17,3 +18,4 @@ pub mod Starts
 pub mod StepParts
 pub mod Steps
 pub mod Takes
+pub mod KeptLists

@@ -48,16 +48,6 @@ one_is_all w s step new is none =
       stands = subst (StandsFor new) (sym (ap (λ (some : List Step × State). some.1) all)) is.stands;
     }
 
--- two replicas are of the same settings where each is of those of one between them
-pub same_settings_after : (old now new : Replica) → SameSettings old now → SameSettings now new → SameSettings old new
-same_settings_after old now new first next = record {
-  me = next.me ∙ first.me;
-  n = next.n ∙ first.n;
-  w = next.w ∙ first.w;
-  limit = next.limit ∙ first.limit;
-  epoch = next.epoch ∙ first.epoch;
-}
-
 -- a replica makes the steps that can be made from what it was, and there is room for those of the early messages
 pub record IsMaking (old now : Replica) (made : List Step) (capacity : ℕ) : Type 0 where
   pub settings : SameSettings old now

@@ -1,4 +1,4 @@
--- What is stable, while it is moved from the log into the items.
+-- What is stable, while it is moved from the log into items and lists.
 use Rattle.std.proofs.Common.{◌≡◌, ℕ, ◌+◌, ◌<◌, Bool, true, false, not, ◌&&◌, ◌==◌, nat_eq, take, IsTrue, List, [], ◌∷◌, ◌++◌, length, All, if◌then◌else◌, refl, sym, ap, subst, ◌∙◌, length-append, arith}
 use Rattle.std.specs.Cmp.Lexicographic.{pointwise, bytes_decides}
 use Rattle.std.specs.List.{filter}
@@ -25,6 +25,7 @@ use Rattle.polog.specs.Standing.{IsLogOf, IsLogged, KeepsStripped}
 use Rattle.polog.specs.Value.{Log, without_stable, is_settled}
 use Rattle.stable_state.specs.Shelf.{Shelved}
 use Rattle.stable_state.specs.Standing.{AreAbsorbed}
+use Rattle.list_type.specs.Listed.{Listed, AreListsMoved}
 use Rattle.replica_core.specs.Settling.{AreLogged, AreWaiting}
 
 -- numbers are equal where they are as many, and equal with what stands behind them
@@ -90,7 +91,7 @@ module _ (n w me : ℕ) (messages : List Message) (m : Message) (chapter : IsTru
 
 -- ---- where something may
 
-module _ {w limit : ℕ} {h : History} {m : Message} {log : Log} {items : Shelved} {id : MessageId} {before stable : List ℕ} (ready : AreLogged w limit h m log items id before stable) where
+module _ {w limit : ℕ} {h : History} {m : Message} {log : Log} {items : Shelved} {lists : Listed} {epoch : ℕ} {id : MessageId} {before stable : List ℕ} (ready : AreLogged w limit h m log items lists epoch id before stable) where
   -- the messages are a chapter, and the stable counts one number a member
   chapter_of : IsTrue (is_chapter h.present.n w h.present.me (h.present.messages ++ m ∷ []))
   chapter_of = (IsHistory-from_test w (with_message h m) ready.of_history).chapter
@@ -106,7 +107,7 @@ module _ {w limit : ℕ} {h : History} {m : Message} {log : Log} {items : Shelve
       let origin : id.origin ≡ m.origin = ap (λ (i : MessageId). i.origin) ready.of_message in
       omega (arith, length-stable, (last_is_next h.present.n w h.present.me h.present.messages m chapter_of).1.member)
 
-  -- where the counts stay and don't cover the id, log and items are done
+  -- where the counts stay and don't cover the id, log, items and lists are done
   module _ (same : stable ≡ before) (covered : covers stable id ≡ false) where
     same_counts : stable_vector h.present.n h.present.me (with_message h m).present.messages ≡ stable_vector h.present.n h.present.me h.present.messages
     same_counts = sym ready.counts ∙ same ∙ ready.counts_before
@@ -114,18 +115,26 @@ module _ {w limit : ℕ} {h : History} {m : Message} {log : Log} {items : Shelve
     is_unstable : is_stable (stable_vector h.present.n h.present.me (with_message h m).present.messages) m ≡ false
     is_unstable = (λ i. covers (sym ready.counts i) (sym ready.of_message i)) ∙ covered
 
+    nothing_goes : stripped_of h m ≡ []
+    nothing_goes = none_is_stripped h.present.n w h.present.me h.present.messages m chapter_of same_counts is_unstable
+
     pub all_are_absorbed_already : AreAbsorbed h m (length (stripped_of h m)) items
-    all_are_absorbed_already = subst (λ es. AreAbsorbed h m (length es) items) (sym (none_is_stripped h.present.n w h.present.me h.present.messages m chapter_of same_counts is_unstable)) ready.are_absorbed
+    all_are_absorbed_already = subst (λ es. AreAbsorbed h m (length es) items) (sym nothing_goes) ready.are_absorbed
+
+    pub all_are_moved_already : AreListsMoved h m (length (stripped_of h m)) lists
+    all_are_moved_already = subst (λ es. AreListsMoved h m (length es) lists) (sym nothing_goes) ready.are_lists
 
     pub is_log_already : IsLogOf store_keeps store_covers h.present.n h.present.me (with_message h m).present.messages log
     is_log_already = logged_is_log h.present.n w h.present.me h.present.messages m chapter_of same_counts is_unstable log ready.is_logged
 
   -- otherwise what is stripped waits
-  pub are_waiting : {stripped : Log} → KeepsStripped stable log stripped → AreWaiting w limit h m 0 stripped items
+  pub are_waiting : {stripped : Log} → KeepsStripped stable log stripped → AreWaiting w limit h m 0 stripped items lists epoch
   are_waiting keeps = record {
     few = ready.few;
     of_history = ready.of_history;
     of_limit = ready.of_limit;
     is_stripped = keeps store_keeps store_covers h.present.n w h.present.me h.present.messages m chapter_of ready.counts ready.is_logged;
     are_absorbed = ready.are_absorbed;
+    in_epoch = ready.in_epoch;
+    are_lists = ready.are_lists;
   }

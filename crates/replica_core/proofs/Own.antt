@@ -16,7 +16,7 @@ use Rattle.causal_model.proofs.Counts.{length-next_tag, number-own_message}
 use Rattle.causal_model.proofs.Journals.{IsSent, given_is_sent}
 use Rattle.causal_model.proofs.Limits.{counts_are_within, own_message_is_carried}
 use Rattle.causal_model.proofs.States.{own_keeps_state}
-use Rattle.replica_core.specs.Rules.{StandsFor, IsDraft, fields_of}
+use Rattle.replica_core.specs.Rules.{StandsFor, SameSettings, IsDraft, fields_of}
 use Rattle.replica_core.specs.Standing.{Fields, Standing}
 use Rattle.replica_core.specs.declared.replica.Replica.{Replica}
 use Rattle.replica_core.proofs.Stands.{member_of, chapter_of, carried_of}
@@ -71,3 +71,8 @@ module _ (r : Replica) (m : Message) (draft : (s : State) → StandsFor r s → 
 
   pub draft_is_state : (s : State) → StandsFor r s → IsState r.w r.limit (with_own s m)
   draft_is_state s stands = is_state_with (fields_of r) s stands m (draft s stands).given (draft s stands).valid
+
+  -- also where a replica of the same settings sends it
+  pub draft_is_state_of : (new : Replica) → SameSettings r new → (s : State) → StandsFor r s → IsState new.w new.limit (with_own s m)
+  draft_is_state_of new same s stands =
+      subst (λ w. IsState w new.limit (with_own s m)) (sym same.w) (subst (λ limit. IsState r.w limit (with_own s m)) (sym same.limit) (draft_is_state s stands))

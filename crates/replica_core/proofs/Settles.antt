@@ -1,27 +1,38 @@
--- Log and items, while a history's next message is put into them.
-use Rattle.std.proofs.Common.{◌≡◌, ℕ, ◌+◌, ◌*◌, ◌^◌, ◌<◌, ◌≤◌, Bool, true, false, not, ◌&&◌, inl, inr, IsTrue, Some, None, List, [], ◌∷◌, ◌++◌, length, if◌then◌else◌, refl, sym, ap, subst, ◌∙◌, length-append, append-nil, mul-le-mul, arith}
+-- Log, items and lists, while a history's next message is put into them.
+use Rattle.std.proofs.Common.{◌≡◌, ℕ, ◌+◌, ◌*◌, ◌^◌, ◌<◌, ◌≤◌, Bool, true, false, not, ◌&&◌, inl, inr, IsTrue, All, Option, Some, None, is_some, List, [], ◌∷◌, ◌++◌, length, if◌then◌else◌, refl, sym, ap, subst, ◌∙◌, length-append, append-nil, mul-le-mul, arith}
 use Rattle.std.specs.List.{filter}
+use denote.Struct.Props.{props}
 use Rattle.std.proofs.Math.Dec.{T_prop}
 use Rattle.std.proofs.lemmas.Bool.{cond-true, cond-false, cases_Bool}
 use Rattle.std.proofs.lemmas.List.Filters.{length-filter_both}
-use Rattle.op_base.specs.Message.{fits, id_of}
+use Rattle.op_base.specs.Message.{fits, id_of, number}
+use Rattle.op_base.specs.Object.{same_object}
 use Rattle.op_base.specs.declared.message.Entry.{Entry}
 use Rattle.op_base.specs.declared.message.Message.{Message}
 use Rattle.op_base.specs.declared.name.Kind.{Kind}
 use Rattle.op_base.specs.declared.name.Kind.TheVariants.{AwSet, RwSet, EwFlag, DwFlag, MvReg, Counter, RCounter}
+use Rattle.op_base.specs.declared.name.Kind.TheVariants as kinds
+use Rattle.op_base.specs.declared.name.ObjectId.{ObjectId}
+use Rattle.op_base.specs.declared.operation.Act.{Act}
+use Rattle.op_base.specs.declared.operation.Act.TheVariants.{Ins}
 use Rattle.op_base.specs.declared.operation.Op.{Op}
 use Rattle.op_base.specs.declared.operation.Op.TheVariants as op
 use Rattle.op_base.specs.declared.operation.Update.{Update}
 use Rattle.op_base.specs.declared.tag.MessageId.{MessageId}
 use Rattle.causal_model.specs.Acts.{value_of}
 use Rattle.causal_model.specs.CellSteps.{is_counter, cell_uncovered, cell_absorbed, cell_moved}
-use Rattle.causal_model.specs.Log.{stripped_of, is_kept, is_covered_by, kept_log}
+use Rattle.causal_model.specs.Elements.{same_element, element_of, puts_at}
+use Rattle.causal_model.specs.KeptElements.{kept_elements}
+use Rattle.causal_model.specs.Laws.Events.{present_event}
+use Rattle.causal_model.specs.ListSteps.{insertion_of, insertion_in, kept_put}
+use Rattle.causal_model.specs.Log.{log_of, stripped_of, is_kept, is_covered_by, kept_log, message_of}
 use Rattle.causal_model.specs.Chapter.{is_chapter}
 use Rattle.causal_model.specs.Covering.{store_keeps, store_covers}
-use Rattle.causal_model.specs.History.{History, with_message}
+use Rattle.causal_model.specs.History.{History, with_message, epoch_of}
 use Rattle.causal_model.specs.Items.{cell_in}
 use Rattle.causal_model.specs.Order.{happened_before}
 use Rattle.causal_model.proofs.Histories.{IsHistory-from_test, IsLimited-from_test}
+use Rattle.causal_model.proofs.KeptOfOneMore.{new_id_is_fresh}
 use Rattle.causal_model.proofs.Lengths.{chapter_is_bounded}
 use Rattle.causal_model.proofs.MovedCells.{counter_is_not_kept}
 use Rattle.causal_model.proofs.MovedSums.{moved_sums_are_bounded}
@@ -33,6 +44,9 @@ use Rattle.stable_state.specs.Laws.{HasRange}
 use Rattle.stable_state.specs.Shelf.{Shelved}
 use Rattle.stable_state.specs.Standing.{AreSettledOf, AreAbsorbed, AreMoved}
 use Rattle.stable_state.proofs.Moves.{covered_is_absorbed, all_are_moved, not_applied, moved_at_once, sum_fits}
+use Rattle.list_type.specs.Listed.{Listed, AreListsOf, AreListsMoved, AreWithin}
+use Rattle.list_type.specs.Putting.{IsFresh}
+use Rattle.replica_core.specs.Insertions.{is_insertion, element_room, entry_put, CanBePut}
 use Rattle.replica_core.specs.Settling.{AreReady, AreLogged, with_logged, applied_of, room_of, CanBeApplied}
 use Rattle.replica_core.proofs.Steps.{last_fits}
 
@@ -56,6 +70,7 @@ is_counter-true DwFlag e = cc
 is_counter-true MvReg e = cc
 is_counter-true Counter e = refl
 is_counter-true RCounter e = cc
+is_counter-true kinds.List e = cc
 
 -- it is a proposition that an update can be put into items
 pub range_is_prop : (items : Shelved) (u : Update) → IsProp (HasRange items u)
@@ -80,6 +95,68 @@ is_applied (op.Update v) u is = by (is_counter v.object.kind) is where
 -- and where none is, all are moved once they are absorbed
 pub none_is_applied : (h : History) (m : Message) (items : Shelved) → ((u : Update) → applied_of m.op ≡ Some u → ⊥) → AreAbsorbed h m (length (stripped_of h m)) items → AreMoved h m items
 none_is_applied h m items none of = all_are_moved h m items of (not_applied m.op (λ u is kind. none u (ap applied_of is ∙ cond-true (is_counter u.object.kind) (Some u) None (ap is_counter kind))))
+
+-- ---- an element that is put in
+
+-- it can be put in where there is room for it and it is new
+pub can_be_put : (epoch origin : ℕ) (tag : List ℕ) (o : Op) (lists : Listed) → ((u : Update) → IsFresh epoch (record { origin = origin; tag = tag; update = u }) lists) → AreWithin (2 ^ 63) lists → element_room o ≤ lists.spare
+    → CanBePut epoch (entry_put origin tag o) lists
+can_be_put epoch origin tag op.NoOp lists fresh deep = λ room. tt
+can_be_put epoch origin tag (op.Update u) lists fresh deep = by (is_insertion (op.Update u)) where
+  by : (puts : Bool) → (if puts then 1 else 0) ≤ lists.spare → CanBePut epoch (if puts then Some (record { origin = origin; tag = tag; update = u }) else None) lists
+  by true room = (room, fresh u, deep)
+  by false room = tt
+
+-- it is a proposition that it is new
+pub fresh_is_prop : (epoch : ℕ) (entry : Entry) (lists : Listed) → IsProp (IsFresh epoch entry lists)
+fresh_is_prop epoch entry lists = hlevel props
+
+-- the room that its entry asks for is that of its operation
+abbrev pub room_of_entry : Option Entry → ℕ
+room_of_entry e = if is_some e then 1 else 0
+
+pub entry_is_room : (origin : ℕ) (tag : List ℕ) (o : Op) → room_of_entry (entry_put origin tag o) ≡ element_room o
+entry_is_room origin tag op.NoOp = refl
+entry_is_room origin tag (op.Update u) = by (is_insertion (op.Update u)) where
+  by : (puts : Bool) → room_of_entry (if puts then Some (record { origin = origin; tag = tag; update = u }) else None) ≡ (if puts then 1 else 0)
+  by true = refl
+  by false = refl
+
+-- what an entry says of the message that puts its element in
+pub record IsPutBy (m : Message) (entry : Entry) : Type 0 where
+  pub is : m ≡ message_of entry
+  pub puts : puts_at (λ place. true) entry.update.act ≡ true
+
+pub put_by : (m : Message) (entry : Entry) → entry_put m.origin m.tag m.op ≡ Some entry → IsPutBy m entry
+put_by m entry = of m.op refl where
+  of : (o : Op) → m.op ≡ o → entry_put m.origin m.tag o ≡ Some entry → IsPutBy m entry
+  of op.NoOp is put = cc
+  of (op.Update u) is put = by (puts_at (λ place. true) u.act) refl put where
+    by : (puts : Bool) → puts_at (λ place. true) u.act ≡ puts → (if puts then Some (record { origin = m.origin; tag = m.tag; update = u }) else None) ≡ Some entry → IsPutBy m entry
+    by true puts some =
+        let same : record { origin = m.origin; tag = m.tag; update = u } ≡ entry = cc in
+        let of_update : m ≡ record { origin = m.origin; tag = m.tag; op = op.Update u } = ap (λ o. record { origin = m.origin; tag = m.tag; op = o }) is in
+        record {
+          is = of_update ∙ ap message_of same;
+          puts = subst (λ (e : Entry). puts_at (λ place. true) e.update.act ≡ true) same puts;
+        }
+    by false puts none = cc
+
+either_way : {X : Type 0} (b : Bool) (x : X) → (if b then x else x) ≡ x
+either_way true x = refl
+either_way false x = refl
+
+-- where no entry puts one in, no list gets one
+puts_in_none : (object : ObjectId) (origin : ℕ) (tag : List ℕ) (o : Op) → ((e : Entry) → entry_put origin tag o ≡ Some e → ⊥) → insertion_in object o ≡ None
+puts_in_none object origin tag op.NoOp none = refl
+puts_in_none object origin tag (op.Update u) none = by u.act refl where
+  by : (act : Act) → u.act ≡ act → (if same_object u.object object then insertion_of act else None) ≡ None
+  by (Ins v place) is = absurd (none (record { origin = origin; tag = tag; update = u }) (cond-true (puts_at (λ place. true) u.act) (Some (record { origin = origin; tag = tag; update = u })) None (ap (puts_at (λ place. true)) is)))
+  by act is = either_way (same_object u.object object) None
+
+pub none_is_put : (h : History) (m : Message) (lists : Listed) → ((e : Entry) → entry_put m.origin m.tag m.op ≡ Some e → ⊥) → AreListsOf h lists → AreListsMoved h m 0 lists
+none_is_put h m lists none of object is_list =
+    of object is_list ∙ ap (kept_put object (epoch_of h) (log_of h) m (kept_elements h object)) (sym (puts_in_none object m.origin m.tag m.op none))
 
 -- ---- how many entries there are
 
@@ -136,7 +213,7 @@ module _ (n me : ℕ) (messages : List Message) where
 
 -- ---- what the calls ask for
 
-module _ {w limit : ℕ} {h : History} {log : Log} {items : Shelved} {m : Message} {before stable : List ℕ} (ready : AreReady w limit h log items m before stable) where
+module _ {w limit : ℕ} {h : History} {log : Log} {items : Shelved} {lists : Listed} {epoch : ℕ} {m : Message} {before stable : List ℕ} (ready : AreReady w limit h log items lists epoch m before stable) where
   -- the messages are a chapter with the next one, which fits the store
   chapter_of : IsTrue (is_chapter h.present.n w h.present.me (h.present.messages ++ m ∷ []))
   chapter_of = (IsHistory-from_test w (with_message h m) ready.of_history).chapter
@@ -179,18 +256,26 @@ module _ {w limit : ℕ} {h : History} {log : Log} {items : Shelved} {m : Messag
         omega (arith, length-append h.present.messages (m ∷ []))
 
   -- what is stable can be moved once the message is logged
-  pub are_logged : {logged : Log} {covered : Shelved} → IsLogged store_keeps store_covers h.present.n h.present.me h.present.messages m logged → AreAbsorbed h m 0 covered → (id : MessageId) → id ≡ id_of m
-      → AreLogged w limit h m logged covered id before stable
-  are_logged is absorbed id same = record {
+  pub are_logged : {logged : Log} {covered : Shelved} {put : Listed} → IsLogged store_keeps store_covers h.present.n h.present.me h.present.messages m logged → AreAbsorbed h m 0 covered → AreListsMoved h m 0 put
+      → (id : MessageId) → id ≡ id_of m → AreLogged w limit h m logged covered put epoch id before stable
+  are_logged is absorbed lists_put id same = record {
     few = ready.few;
     of_history = ready.of_history;
     of_limit = ready.of_limit;
     is_logged = is;
     are_absorbed = absorbed;
+    in_epoch = ready.in_epoch;
+    are_lists = lists_put;
     of_message = same;
     counts_before = ready.counts_before;
     counts = ready.counts;
   }
+
+  -- no element has the id of the one that the message puts in
+  pub fresh_of : (u : Update) → IsFresh epoch (record { origin = m.origin; tag = m.tag; update = u }) lists
+  fresh_of u object is_list =
+      subst (λ k. All (λ e. same_element e.id (record { epoch = k; origin = m.origin; seq = number m }) ≡ false) (lists.kept object)) (sym ready.in_epoch)
+      (subst (All (λ e. same_element e.id (element_of (present_event h m)) ≡ false)) (sym (ready.are_of.are_lists object is_list)) (new_id_is_fresh w h m object ready.of_history))
 
   -- the sum of what is applied at once fits
   pub applied_has_range : (u : Update) (absorbed : Shelved) → m.op ≡ op.Update u → u.object.kind ≡ Counter → AreAbsorbed h m (length (stripped_of h m)) absorbed → HasRange absorbed u

@@ -1,5 +1,5 @@
 -- What one message more makes of each part of a replica, each by the part's own clause.
-use Rattle.std.proofs.Common.{◌≡◌, ℕ, ◌+◌, ◌*◌, ◌<◌, ◌≤◌, ◌==◌, Bool, true, false, IsTrue, List, [], ◌∷◌, ◌++◌, length, slice_set, All, if◌then◌else◌, sym, ap, ap₂, subst, ◌∙◌, arith}
+use Rattle.std.proofs.Common.{◌≡◌, ℕ, ◌+◌, ◌*◌, ◌^◌, ◌<◌, ◌≤◌, ◌==◌, Bool, true, false, IsTrue, List, [], ◌∷◌, ◌++◌, length, length-append, slice_set, All, if◌then◌else◌, sym, ap, ap₂, subst, ◌∙◌, arith}
 use denote.Struct.Props.{props}
 use Rattle.std.proofs.Math.Logic.{∥∥₁_elim}
 use Rattle.std.proofs.lemmas.Bool.{eq-eqb, ne_eqb}
@@ -29,10 +29,13 @@ use Rattle.stable_state.specs.Shelf.{Shelved}
 use Rattle.outbox.specs.Sent.{Sent, ComesAfter, room_of, unstable_in}
 use Rattle.outbox.specs.Standing.{IsBeforeDrop, DropsAfter}
 use Rattle.outbox.proofs.Nexts.{next_is_pushed}
+use Rattle.list_type.specs.Listed.{Listed, AreWithin}
+use Rattle.replica_core.specs.Insertions.{insertions, element_room}
 use Rattle.replica_core.specs.Settling.{AreOf, AreReady}
 use Rattle.replica_core.specs.Standing.{Fields, Standing}
 use Rattle.replica_core.specs.Steps.{KeepsMatrix, is_due_after, with_own_sent}
-use Rattle.replica_core.proofs.Stands.{member_of}
+use Rattle.replica_core.proofs.KeptLists.{lists_of, depths_of}
+use Rattle.replica_core.proofs.Stands.{member_of, within_more}
 use Rattle.replica_core.proofs.Steps.{last_fits}
 
 -- these are the stable counts of all messages that a matrix is of
@@ -124,18 +127,20 @@ module _ (f : Fields) (s : State) (m : Message) (stands : Standing f s) (is : Is
       = subst (λ o. DropsAfter stable o new) is_held drops f.w f.me s.history.present.messages m (member_of f s stands) chapter_with outbox_before_drop counts in
       dropped ∙ ap (λ messages. record { n = f.n; w = f.w; messages = messages }) (sym (ap (λ (o : Sent). o.messages) dropped) ∙ left)
 
-  -- log and items
+  -- log, items and lists
   pub ready_with : 1 ≤ f.w → f.limit ≤ 1000000 → (before stable : List ℕ) → TellsStable f.matrix before → stable ≡ stable_vector f.n f.me (s.history.present.messages ++ m ∷ [])
-      → AreReady f.w f.limit s.history f.log f.items m before stable
+      → AreReady f.w f.limit s.history f.log f.items f.lists f.epoch m before stable
   ready_with wide few before stable tells counts = record {
     wide = wide;
     few = few;
     of_history = is.is_history;
     of_limit = is.is_limited;
+    in_epoch = sym stands.in_epoch;
     are_of = record {
       is_log = subst (λ n. IsLogOf store_keeps store_covers n s.history.present.me s.history.present.messages f.log) (sym stands.of_store)
           (subst (λ me. IsLogOf store_keeps store_covers f.n me s.history.present.messages f.log) (sym stands.of_member) stands.log);
       are_settled = stands.items;
+      are_lists = lists_of f s stands;
     };
     room = stands.log_room ∙ ap (λ n. n * f.w) (sym stands.of_store);
     counts_before = tells f.n f.me s.history.present.messages stands.matrix ∙ ap₂ (λ n me. stable_vector n me s.history.present.messages) (sym stands.of_store) (sym stands.of_member);
@@ -143,14 +148,15 @@ module _ (f : Fields) (s : State) (m : Message) (stands : Standing f s) (is : Is
   }
 
   -- all together
-  standing_with : (counts : List ℕ) (matrix : Known) (window : Window) (log : Log) (items : Shelved) (outbox : Sent) (due : Bool)
+  standing_with : (counts : List ℕ) (matrix : Known) (window : Window) (log : Log) (items : Shelved) (lists : Listed) (outbox : Sent) (due : Bool)
       → counts ≡ slice_set f.counts m.origin (entry m.tag m.origin) → IsMatrixOf f.n f.me (s.history.present.messages ++ m ∷ []) matrix
-      → IsWindowOf f.n f.w f.me (s.history.present.messages ++ m ∷ []) window → AreOf (with_message s.history m) log items → log.room ≡ f.log.room
-      → length log.entries + length f.buffer.early ≤ items.spare
+      → IsWindowOf f.n f.w f.me (s.history.present.messages ++ m ∷ []) window → AreOf (with_message s.history m) log items lists → log.room ≡ f.log.room
+      → length log.entries + length f.buffer.early ≤ items.spare → insertions f.buffer.early ≤ lists.spare
+      → AreWithin (f.epoch * 2 ^ 24 + length s.history.present.messages + 1) lists
       → outbox ≡ record { n = f.n; w = f.w; messages = outbox_of f.n f.me (s.history.present.messages ++ m ∷ []) }
       → due ≡ is_due_after f.me f.due m
-      → Standing (record f { counts = counts; matrix = matrix; window = window; log = log; items = items; outbox = outbox; due = due }) (with_own s m)
-  standing_with counts matrix window log items outbox due is_counts of_matrix of_window of_parts room spare sent is_due = record {
+      → Standing (record f { counts = counts; matrix = matrix; window = window; log = log; items = items; lists = lists; outbox = outbox; due = due }) (with_own s m)
+  standing_with counts matrix window log items lists outbox due is_counts of_matrix of_window of_parts room spare elements deep sent is_due = record {
     is_state = is;
     of_member = stands.of_member;
     of_store = stands.of_store;
@@ -164,27 +170,33 @@ module _ (f : Fields) (s : State) (m : Message) (stands : Standing f s) (is : Is
     log_room = room ∙ stands.log_room;
     items = of_parts.are_settled;
     items_room = spare;
+    lists =
+        let messages = s.history.present.messages in
+        ∣ (of_parts.are_lists, within_more (f.epoch * 2 ^ 24 + length messages + 1) (f.epoch * 2 ^ 24 + length (messages ++ m ∷ [])) lists (omega (arith, length-append messages (m ∷ []))) deep) ∣₁;
+    lists_room = elements;
     outbox = sent;
     due = is_due ∙ due_with;
   }
 
 -- All parts after the message, by their clauses: the fields stand for the state with it.
-module _ (f : Fields) (m : Message) (wide : 1 ≤ f.w) (few : f.limit ≤ 1000000) (counts before stable : List ℕ) (matrix : Known) (pushed window : Window) (held outbox : Sent) (log : Log) (items : Shelved) (due : Bool)
+module _ (f : Fields) (m : Message) (wide : 1 ≤ f.w) (few : f.limit ≤ 1000000) (counts before stable : List ℕ) (matrix : Known) (pushed window : Window) (held outbox : Sent) (log : Log) (items : Shelved) (lists : Listed) (due : Bool)
     (is_counts : counts ≡ slice_set f.counts m.origin (entry m.tag m.origin))
     (keeps : KeepsMatrix m f.matrix matrix) (told : TellsStable f.matrix before) (tells : TellsStable matrix stable)
     (pushes : (messages : List Message) → IsWindowOf f.n f.w f.me messages f.window → IsWindowWith f.n f.w f.me messages m pushed) (drops : DropsHeld stable pushed window)
     (is_held : held ≡ record { n = f.outbox.n; w = f.outbox.w; messages = with_own_sent f.matrix.me m f.outbox.messages })
     (is_outbox : outbox ≡ record { n = held.n; w = held.w; messages = unstable_in stable held.messages }) (forgets : DropsAfter stable held outbox)
-    (settles : (h : History) → AreReady f.w f.limit h f.log f.items m before stable → AreOf (with_message h m) log items) (room : log.room ≡ f.log.room)
+    (settles : (h : History) → AreReady f.w f.limit h f.log f.items f.lists f.epoch m before stable → AreOf (with_message h m) log items lists) (room : log.room ≡ f.log.room)
     (had_room : length f.log.entries + length f.buffer.early + 1 ≤ f.items.spare) (spare : f.items.spare + length log.entries ≤ items.spare + (length f.log.entries + 1))
+    (had_elements : insertions f.buffer.early + element_room m.op ≤ f.lists.spare) (elements : f.lists.spare ≤ lists.spare + element_room m.op) (deep : (most : ℕ) → AreWithin most f.lists → AreWithin (most + 1) lists)
     (is_due : due ≡ is_due_after f.me f.due m) where
   pub all_stand : (s : State) → Standing f s → IsState f.w f.limit (with_own s m)
-      → Standing (record f { counts = counts; matrix = matrix; window = window; log = log; items = items; outbox = outbox; due = due }) (with_own s m)
+      → Standing (record f { counts = counts; matrix = matrix; window = window; log = log; items = items; lists = lists; outbox = outbox; due = due }) (with_own s m)
   all_stand s stands is =
       let messages = s.history.present.messages in
       let after = stable_with f s m stands is matrix stable keeps tells in
-      standing_with f s m stands is counts matrix window log items outbox due is_counts (matrix_with f s m stands is matrix keeps)
-      (window_with f s m stands is pushed window stable after (pushes messages) drops) (settles s.history (ready_with f s m stands is wide few before stable told after)) room (omega (arith, had_room, spare))
+      standing_with f s m stands is counts matrix window log items lists outbox due is_counts (matrix_with f s m stands is matrix keeps)
+      (window_with f s m stands is pushed window stable after (pushes messages) drops) (settles s.history (ready_with f s m stands is wide few before stable told after)) room (omega (arith, had_room, spare)) (omega (arith, had_elements, elements))
+      (deep (f.epoch * 2 ^ 24 + length messages) (depths_of f s stands))
       (outbox_with f s m stands is held outbox stable after is_held is_outbox forgets) is_due
 
 -- what is true of the next message of fields that stand for some state, where it is a proposition

@@ -1,5 +1,5 @@
 -- The next early message of a state: how it is taken out of the buffer of fields that stand for the state, and what becomes of it.
-use Rattle.std.proofs.Common.{◌≡◌, ◌≢◌, ℕ, ◌<◌, false, not, ◌&&◌, ◌==◌, nat_lt, IsTrue, List, [], ◌∷◌, ◌++◌, length, refl, sym, ap, ap₂, subst, ◌∙◌, Option, Some, None, Result, Ok, Err, if◌then◌else◌, arith}
+use Rattle.std.proofs.Common.{◌≡◌, ◌≢◌, ℕ, ◌+◌, ◌<◌, ◌≤◌, false, not, ◌&&◌, ◌==◌, nat_lt, IsTrue, List, [], ◌∷◌, ◌++◌, length, refl, sym, ap, ap₂, subst, ◌∙◌, Option, Some, None, Result, Ok, Err, if◌then◌else◌, arith}
 use Rattle.std.proofs.lemmas.Bool.{and_parts, eqb-true, ne_eqb}
 use Rattle.std.specs.List.{Contains}
 use Rattle.std.proofs.lemmas.List.FromFn.{length-map-range_with_len}
@@ -33,9 +33,11 @@ use Rattle.causal_buffer.specs.Buffer.{Buffer, with_messages as with_early_messa
 use Rattle.causal_buffer.specs.Standing.{IsNextInState, TakesNext}
 use Rattle.causal_buffer.proofs.Standing.{next_id_is_of_message}
 use Rattle.replica_core.specs.Rules.{StandsFor, fields_of}
+use Rattle.replica_core.specs.Insertions.{insertions, element_room}
 use Rattle.replica_core.specs.Standing.{Fields, Standing, StandsForSome}
 use Rattle.replica_core.specs.Steps.{state_without, IsNextOf, IsStepOf}
 use Rattle.replica_core.specs.declared.replica.Replica.{Replica}
+use Rattle.replica_core.proofs.Insertions.{insertions_without, taken_insertion}
 use Rattle.replica_core.proofs.Stands.{member_of, chapter_of, with_buffer}
 
 without_is_state : (w limit : ℕ) (id : MessageId) (s : State) → IsState w limit s → IsState w limit (state_without id s)
@@ -89,6 +91,7 @@ module _ (f : Fields) (s : State) (stands : Standing f s) (id : MessageId) where
         early = ap (λ (b : Buffer). b.early) is ∙ ap (without id) stands.buffer.early;
       })
       (omega (arith, stands.items_room, ap (λ (b : Buffer). length b.early) is, length-filter_both (λ m. not (has_id id m)) (λ m. not (not (has_id id m))) (λ m. refl) f.buffer.early))
+      (omega (arith, stands.lists_room, ap (λ (b : Buffer). insertions b.early) is, insertions_without id f.buffer.early))
 
   -- by the id of what is next the next message is found
   next_is_found : (taken : Option Message) → IsNextInState f.counts f.buffer (Some id) → TakesNext id f.buffer taken → (m : Message) × (taken ≡ Some m) × IsTaken s id m
@@ -119,6 +122,13 @@ module _ (f : Fields) (s : State) (stands : Standing f s) (id : MessageId) where
       subst (λ early. length (without id early) < length early) (sym stands.buffer.early)
       (fewer_pass (λ (y : Message). not (has_id id y)) s.early m there.0 (ap not (ap (λ i. has_id i m) taken.of_id ∙ has_own_id m)))
 
+  -- and it puts in no more than one element, of those that there is room for
+  elements_are_left : (m : Message) → IsTaken s id m → insertions (without id f.buffer.early) + element_room m.op ≤ insertions f.buffer.early
+  elements_are_left m taken =
+      let there = found (is_deliverable s.history.present.n (counted s.history)) s.early m taken.next in
+      subst (λ early. insertions (without id early) + element_room m.op ≤ insertions early) (sym stands.buffer.early)
+      (taken_insertion id s.early m there.0 (ap (λ i. has_id i m) taken.of_id ∙ has_own_id m))
+
 -- what is true of it for some state, where it is a proposition
 module _ (f : Fields) (some : ∥ StandsForSome f ∥₁) (id : MessageId) (next : IsNextInState f.counts f.buffer (Some id)) where
   pub next_is_found_in : (taken : Option Message) → TakesNext id f.buffer taken → ((m : Message) → taken ≡ Some m → ⊥) → ⊥
@@ -126,6 +136,9 @@ module _ (f : Fields) (some : ∥ StandsForSome f ∥₁) (id : MessageId) (next
 
   pub fewer_are_left_in : (m : Message) → TakesNext id f.buffer (Some m) → length (without id f.buffer.early) < length f.buffer.early
   fewer_are_left_in m takes = ∥∥₁_elim some (search props) (λ x. fewer_are_left f x.0 x.1 id m (is_taken f x.0 x.1 id m next takes))
+
+  pub elements_are_left_in : (m : Message) → TakesNext id f.buffer (Some m) → insertions (without id f.buffer.early) + element_room m.op ≤ insertions f.buffer.early
+  elements_are_left_in m takes = ∥∥₁_elim some (search props) (λ x. elements_are_left f x.0 x.1 id m (is_taken f x.0 x.1 id m next takes))
 
 -- ---- the next message of a state, which is early no more
 

@@ -1,6 +1,7 @@
 pub mod Numbers
 pub mod Standing
 pub mod Rules
+pub mod Insertions
 pub mod Settling
 pub mod Steps
 pub use Rattle.causal_model.specs.Counts

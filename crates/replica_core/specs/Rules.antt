@@ -9,6 +9,7 @@ use Rattle.causal_model.specs.declared.outcome.Local.{Local}
 use Rattle.causal_model.specs.declared.outcome.Local.TheVariants as local
 use Rattle.causal_model.specs.declared.outcome.Beat.{Beat}
 use Rattle.causal_model.specs.declared.outcome.Beat.TheVariants as beat
+use Rattle.list_type.specs.Shown.{shown as lists_shown}
 use Rattle.stable_state.specs.Shown.{shown}
 use Rattle.replica_core.specs.Standing.{Fields, Standing}
 use Rattle.replica_core.specs.declared.replica.Replica.{Replica}
@@ -16,7 +17,7 @@ use Rattle.replica_core.specs.declared.replica.Replica.{Replica}
 -- the fields of a replica
 abbrev pub fields_of : Replica → Fields
 fields_of r =
-    record { me = r.me; n = r.n; w = r.w; limit = r.limit; epoch = r.epoch; counts = r.counts; matrix = r.matrix; window = r.window; buffer = r.buffer; log = r.log; items = shown r.items; outbox = r.outbox; due = r.due }
+    record { me = r.me; n = r.n; w = r.w; limit = r.limit; epoch = r.epoch; counts = r.counts; matrix = r.matrix; window = r.window; buffer = r.buffer; log = r.log; items = shown r.items; lists = lists_shown r.lists; outbox = r.outbox; due = r.due }
 
 -- the fields of a replica stand for a state
 abbrev pub StandsFor : Replica → State → Type 0
@@ -30,7 +31,7 @@ pub record SameSettings (before new : Replica) : Type 0 where
   pub limit : new.limit ≡ before.limit
   pub epoch : new.epoch ≡ before.epoch
 
--- nothing changed: at most more room was taken for items
+-- nothing changed: at most more room was taken for items and elements
 pub record Unchanged (before new : Replica) : Type 0 where
   pub settings : SameSettings before new
   pub counts : new.counts ≡ before.counts
@@ -40,6 +41,8 @@ pub record Unchanged (before new : Replica) : Type 0 where
   pub log : new.log ≡ before.log
   pub items : (shown new.items).items ≡ (shown before.items).items
   pub spare : (shown before.items).spare ≤ (shown new.items).spare
+  pub lists : (lists_shown new.lists).kept ≡ (lists_shown before.lists).kept
+  pub lists_spare : (lists_shown before.lists).spare ≤ (lists_shown new.lists).spare
   pub outbox : new.outbox ≡ before.outbox
   pub due : new.due ≡ before.due
 

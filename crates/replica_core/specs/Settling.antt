@@ -1,4 +1,4 @@
--- What log and items are while a message is put into them.
+-- What log, items and lists are while a message is put into them.
 use Rattle.std.specs.Prelude.{◌≡◌, ℕ, ◌≤◌, ◌*◌, IsTrue, List, Option, Some, None, if◌then◌else◌}
 use Rattle.op_base.specs.Message.{id_of}
 use Rattle.op_base.specs.declared.message.Message.{Message}
@@ -9,33 +9,37 @@ use Rattle.op_base.specs.declared.operation.Update.{Update}
 use Rattle.op_base.specs.declared.tag.MessageId.{MessageId}
 use Rattle.causal_model.specs.CellSteps.{is_counter}
 use Rattle.causal_model.specs.Covering.{store_keeps, store_covers}
-use Rattle.causal_model.specs.History.{History, with_message, is_history, is_limited}
+use Rattle.causal_model.specs.History.{History, with_message, is_history, is_limited, epoch_of}
 use Rattle.causal_model.specs.Stability.{stable_vector}
+use Rattle.list_type.specs.Listed.{Listed, AreListsOf, AreListsMoved}
 use Rattle.polog.specs.Value.{Log, with_entry}
 use Rattle.polog.specs.Standing.{IsLogOf, IsLogged, IsStripped}
 use Rattle.stable_state.specs.Laws.{HasRange}
 use Rattle.stable_state.specs.Shelf.{Shelved}
 use Rattle.stable_state.specs.Standing.{AreSettledOf, AreAbsorbed}
 
--- log and items are those of a history
-pub record AreOf (h : History) (log : Log) (items : Shelved) : Type 0 where
+-- log, items and lists are those of a history
+pub record AreOf (h : History) (log : Log) (items : Shelved) (lists : Listed) : Type 0 where
   pub is_log : IsLogOf store_keeps store_covers h.present.n h.present.me h.present.messages log
   pub are_settled : AreSettledOf h items
+  pub are_lists : AreListsOf h lists
 
--- They are those of a history, and a message is its next one. The stable counts are the first without it, the second with it.
-pub record AreReady (w limit : ℕ) (h : History) (log : Log) (items : Shelved) (m : Message) (before stable : List ℕ) : Type 0 where
+-- They are those of a history of this epoch, and a message is its next one. The stable counts are the first without it, the
+-- second with it.
+pub record AreReady (w limit : ℕ) (h : History) (log : Log) (items : Shelved) (lists : Listed) (epoch : ℕ) (m : Message) (before stable : List ℕ) : Type 0 where
   pub wide : 1 ≤ w
   pub few : limit ≤ 1000000
   pub of_history : IsTrue (is_history w (with_message h m))
   pub of_limit : IsTrue (is_limited limit (with_message h m))
-  pub are_of : AreOf h log items
+  pub in_epoch : epoch ≡ epoch_of h
+  pub are_of : AreOf h log items lists
   pub room : log.room ≡ h.present.n * w
   pub counts_before : before ≡ stable_vector h.present.n h.present.me h.present.messages
   pub counts : stable ≡ stable_vector h.present.n h.present.me (with_message h m).present.messages
 
 -- so it is for some history
-abbrev pub AreReadyForSome : Log → Shelved → Message → List ℕ → List ℕ → Type 0
-AreReadyForSome log items m before stable = (w : ℕ) × (limit : ℕ) × (h : History) × AreReady w limit h log items m before stable
+abbrev pub AreReadyForSome : Log → Shelved → Listed → ℕ → Message → List ℕ → List ℕ → Type 0
+AreReadyForSome log items lists epoch m before stable = (w : ℕ) × (limit : ℕ) × (h : History) × AreReady w limit h log items lists epoch m before stable
 
 -- a log with a message's update, where its kind is logged
 abbrev pub with_logged : ℕ → List ℕ → Op → Log → Log
@@ -57,31 +61,35 @@ abbrev pub CanBeApplied : Option Update → Shelved → Type 0
 CanBeApplied None items = Unit {0}
 CanBeApplied (Some u) items = (u.object.kind ≡ Counter) × (1 ≤ items.spare) × HasRange items u
 
--- What a history's next message covers is gone from log and items, and the message is in the log where its kind is logged.
--- This is its id, and the stable counts are the first without it, the second with it.
-pub record AreLogged (w limit : ℕ) (h : History) (m : Message) (log : Log) (items : Shelved) (id : MessageId) (before stable : List ℕ) : Type 0 where
+-- What a history's next message covers is gone from log and items, the message is in the log where its kind is logged, and the
+-- element that it puts in is in its list. This is its id, and the stable counts are the first without it, the second with it.
+pub record AreLogged (w limit : ℕ) (h : History) (m : Message) (log : Log) (items : Shelved) (lists : Listed) (epoch : ℕ) (id : MessageId) (before stable : List ℕ) : Type 0 where
   pub few : limit ≤ 1000000
   pub of_history : IsTrue (is_history w (with_message h m))
   pub of_limit : IsTrue (is_limited limit (with_message h m))
   pub is_logged : IsLogged store_keeps store_covers h.present.n h.present.me h.present.messages m log
   pub are_absorbed : AreAbsorbed h m 0 items
+  pub in_epoch : epoch ≡ epoch_of h
+  pub are_lists : AreListsMoved h m 0 lists
   pub of_message : id ≡ id_of m
   pub counts_before : before ≡ stable_vector h.present.n h.present.me h.present.messages
   pub counts : stable ≡ stable_vector h.present.n h.present.me (with_message h m).present.messages
 
 -- so it is for some history
-abbrev pub AreLoggedForSome : Log → Shelved → MessageId → List ℕ → List ℕ → Type 0
-AreLoggedForSome log items id before stable = (w : ℕ) × (limit : ℕ) × (h : History) × (m : Message) × AreLogged w limit h m log items id before stable
+abbrev pub AreLoggedForSome : Log → Shelved → Listed → ℕ → MessageId → List ℕ → List ℕ → Type 0
+AreLoggedForSome log items lists epoch id before stable = (w : ℕ) × (limit : ℕ) × (h : History) × (m : Message) × AreLogged w limit h m log items lists epoch id before stable
 
 -- What is stable with a history's next message was stripped from the log, and the first k entries of that were handed out and
--- are in the items. Those that are left wait.
-pub record AreWaiting (w limit : ℕ) (h : History) (m : Message) (k : ℕ) (log : Log) (items : Shelved) : Type 0 where
+-- are in items and lists. Those that are left wait.
+pub record AreWaiting (w limit : ℕ) (h : History) (m : Message) (k : ℕ) (log : Log) (items : Shelved) (lists : Listed) (epoch : ℕ) : Type 0 where
   pub few : limit ≤ 1000000
   pub of_history : IsTrue (is_history w (with_message h m))
   pub of_limit : IsTrue (is_limited limit (with_message h m))
   pub is_stripped : IsStripped store_keeps store_covers h.present.n h.present.me h.present.messages m k log
   pub are_absorbed : AreAbsorbed h m k items
+  pub in_epoch : epoch ≡ epoch_of h
+  pub are_lists : AreListsMoved h m k lists
 
 -- so it is for some history, of which none is absorbed yet
-abbrev pub AreWaitingForSome : Log → Shelved → Type 0
-AreWaitingForSome log items = (w : ℕ) × (limit : ℕ) × (h : History) × (m : Message) × AreWaiting w limit h m 0 log items
+abbrev pub AreWaitingForSome : Log → Shelved → Listed → ℕ → Type 0
+AreWaitingForSome log items lists epoch = (w : ℕ) × (limit : ℕ) × (h : History) × (m : Message) × AreWaiting w limit h m 0 log items lists epoch

@@ -1,8 +1,8 @@
 -- When the fields of a replica stand for a state: a history, which they need not keep, and the early messages. One set of
 -- fields stands for many histories.
-use Rattle.std.specs.Prelude.{◌≡◌, ℕ, ◌+◌, ◌*◌, ◌≤◌, Bool, List, length}
+use Rattle.std.specs.Prelude.{◌≡◌, ℕ, ◌+◌, ◌*◌, ◌^◌, ◌≤◌, Bool, List, length}
 use Rattle.causal_model.specs.Covering.{store_keeps, store_covers}
-use Rattle.causal_model.specs.History.{epoch_of}
+use Rattle.causal_model.specs.History.{History, epoch_of}
 use Rattle.causal_model.specs.State.{State, counted}
 use Rattle.causal_model.specs.Sending.{outbox_of, is_noop_due}
 use Rattle.causal_model.specs.States.{IsState}
@@ -17,6 +17,8 @@ use Rattle.polog.specs.Standing.{IsLogOf}
 use Rattle.stable_state.specs.Shelf.{Shelved}
 use Rattle.stable_state.specs.Standing.{AreSettledOf}
 use Rattle.outbox.specs.Sent.{Sent}
+use Rattle.list_type.specs.Listed.{Listed, AreListsOf, AreWithin}
+use Rattle.replica_core.specs.Insertions.{insertions}
 
 -- the fields of a replica, as contracts see its parts
 pub record Fields : Type 0 where
@@ -31,8 +33,13 @@ pub record Fields : Type 0 where
   pub buffer : Buffer
   pub log : Log
   pub items : Shelved
+  pub lists : Listed
   pub outbox : Sent
   pub due : Bool
+
+-- lists are those of a history, and none of their elements stands deeper than so many
+abbrev pub AreListsWithin : History → ℕ → Listed → Type 0
+AreListsWithin h most lists = ∥ (AreListsOf h lists × AreWithin most lists) ∥₁
 
 -- fields stand for a state
 pub record Standing (f : Fields) (s : State) : Type 0 where
@@ -56,6 +63,10 @@ pub record Standing (f : Fields) (s : State) : Type 0 where
   pub items : AreSettledOf s.history f.items
   -- and these have room for what each entry of the log and each early message can make of them
   pub items_room : length f.log.entries + length f.buffer.early ≤ f.items.spare
+  -- the lists are what is kept of those of the history; no element stands deeper than there were messages, of which an epoch
+  -- has fewer than 2 ^ 24; and there is room for each element that an early message can put in
+  pub lists : AreListsWithin s.history (f.epoch * 2 ^ 24 + length s.history.present.messages) f.lists
+  pub lists_room : insertions f.buffer.early ≤ f.lists.spare
   -- the own messages that aren't stable are sent again, oldest first
   pub outbox : f.outbox ≡ record { n = f.n; w = f.w; messages = outbox_of f.n f.me s.history.present.messages }
   -- whether a no-op is due

@@ -30,8 +30,8 @@ impl Replica {
         true
     }
 
-    /// The replica that begins the next epoch as member `me` of `n` members: it has what this one has settled, and no message
-    /// of that epoch. It takes the memory for all but more items. This one stays.
+    /// The replica that begins the next epoch as member `me` of `n` members: it has what this one has settled, its lists, and no
+    /// message of that epoch. It takes the memory for all but more items and elements. This one stays.
     pub fn next(&self, alloc: Global, me: u8, n: u8) -> Result<Replica, NoMemory>
         requires numbers { IsTrue (are_numbers me n self.now.w self.now.limit) }
         requires settled { (s : State) → StandsFor self.now s → IsTrue (is_all_stable s.history.present) }
@@ -55,6 +55,7 @@ impl Replica {
             buffer: CausalBuffer::create(alloc, n, self.w)?,
             log: Polog::create(alloc, n, self.w)?,
             items: self.items.copy(alloc)?,
+            lists: self.lists.copy(alloc)?,
             outbox: Outbox::create(alloc, n, self.w)?,
             due: false,
         })

@@ -3,7 +3,9 @@
 ghost use Rattle.std.specs.Prelude.{◌≡◌, ◌⊎◌, IfOk, Some};
 ghost use Rattle.op_base.specs.declared.name.Kind.TheVariants as kinds;
 ghost use Rattle.op_base.specs.declared.outcome.Answer.TheVariants as answers;
+ghost use Rattle.causal_model.specs.Elements.{list_ids};
 ghost use Rattle.causal_model.specs.History.{events};
+ghost use Rattle.causal_model.specs.KeptElements.{tombs_of};
 ghost use Rattle.causal_model.specs.Parts.{has};
 ghost use Rattle.causal_model.specs.Query.{answer};
 ghost use Rattle.causal_model.specs.State.{State};
@@ -11,7 +13,7 @@ ghost use Rattle.causal_model.specs.State.{State};
 use crate::replica::Replica;
 use counter_types::count_sum;
 use flag_register_types::{flag_on, mvreg_values};
-use op_base::{Answer, Kind, NoMemory, ObjectId, Value};
+use op_base::{Answer, ElementIdList, Kind, NoMemory, ObjectId, Value};
 use set_types::{set_contains, set_values};
 use std::alloc::Global;
 
@@ -55,8 +57,27 @@ impl Replica {
         )
     }
 
-    /// What an object is, whatever its kind: the values of a set or a register in byte order, whether a flag is on, or the
-    /// value of a counter.
+    /// The ids of a list's elements, in its order. `NoMemory` leaves nothing behind.
+    pub fn list_ids(&self, alloc: Global, object: &ObjectId) -> Result<ElementIdList, NoMemory>
+        requires kind { object.now.kind ≡ kinds.List }
+        ensures ids { IfOk result (λ ids. (s : State) → StandsFor self.now s → ids ≡ list_ids object.now (events s.history)) }
+    {
+        let entries = self.log.of_object(object);
+        self.lists.ids(alloc, self.epoch, entries, object)
+    }
+
+    /// How many elements of a list are kept that aren't shown: their deletion, or that of one below them, isn't stable yet. It
+    /// takes no memory.
+    pub fn tombs(&self, object: &ObjectId) -> usize
+        requires kind { object.now.kind ≡ kinds.List }
+        ensures count { (s : State) → StandsFor self.now s → result ≡ tombs_of s.history object.now }
+    {
+        self.lists
+            .tombs(self.epoch, self.log.of_object(object), object)
+    }
+
+    /// What an object is, whatever its kind: the values of a set or a register in byte order, those of a list in its order,
+    /// whether a flag is on, or the value of a counter.
     pub fn answer(&self, alloc: Global, object: &ObjectId) -> Result<Answer, NoMemory>
         ensures answer { IfOk result (λ a. (s : State) → StandsFor self.now s → a ≡ answer object.now (events s.history)) }
     {
@@ -69,6 +90,7 @@ impl Replica {
             Kind::MvReg => Answer::Values(mvreg_values(alloc, entries, &items, object)?),
             Kind::EwFlag | Kind::DwFlag => Answer::Flag(flag_on(entries, &items, object)),
             Kind::Counter | Kind::RCounter => Answer::Sum(count_sum(entries, &items, object)),
+            Kind::List => Answer::Values(self.lists.values(alloc, self.epoch, entries, object)?),
         })
     }
 }

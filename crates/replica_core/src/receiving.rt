@@ -1,6 +1,6 @@
 //! Receiving messages of others, and delivering them in causal order.
 
-ghost use Rattle.std.specs.Prelude.{◌≡◌, ◌+◌, ◌<◌, ◌≤◌, false, [], length, vec_capacity, IsTrue, IfOk, OnErr, None};
+ghost use Rattle.std.specs.Prelude.{◌≡◌, ◌+◌, ◌<◌, ◌≤◌, false, [], length, vec_capacity, IsTrue, IfOk, OnErr, OnOk, None};
 ghost use Rattle.std.specs.Option.{IfSome, IfNone};
 ghost use Rattle.op_base.specs.Message.{fits, id_of};
 ghost use Rattle.op_base.specs.declared.message.Message.{Message as AMessage};
@@ -9,9 +9,12 @@ ghost use Rattle.causal_model.specs.Early.{is_again};
 ghost use Rattle.causal_model.specs.Follows.{Follows};
 ghost use Rattle.causal_model.specs.Receiving.{is_old, is_far, next_of, with_early, refusal_by_id, refusal_of, is_accepted, receive_rule};
 ghost use Rattle.causal_model.specs.State.{State};
+ghost use Rattle.list_type.specs.Shown.{shown as lists_shown};
 ghost use Rattle.stable_state.specs.Shown.{shown};
+ghost use Rattle.replica_core.specs.Insertions.{insertions, element_room};
 
 use crate::replica::Replica;
+use crate::settling::is_insertion;
 use crate::step::Sender;
 use causal_buffer::is_deliverable;
 use causal_model::{Receive, Refusal};
@@ -83,13 +86,27 @@ impl Replica {
         let most = self.buffer.len() + 1;
         let mut steps = Vec::with_capacity(alloc, most)?;
         self.items.reserve(self.log.len() + most)?;
+        self.reserve_element(&message)?;
         self.take_in(message, &mut steps);
         Ok(StepList::from_vec(steps))
     }
 
+    /// Takes room for the element that a message puts in, beside those of the early messages. `NoMemory` leaves the lists, and
+    /// no less room.
+    pub(crate) fn reserve_element(&mut self, message: &Message) -> Result<(), NoMemory>
+        ensures unchanged { Unchanged self.old self.new }
+        ensures items { (shown self.new.items).spare ≡ (shown self.old.items).spare }
+        ensures room { OnOk result (insertions self.new.buffer.early + element_room message.now.op ≤ (lists_shown self.new.lists).spare) }
+    {
+        if is_insertion(&message.op) {
+            self.lists.reserve(self.buffer.len() + 1)?;
+        }
+        Ok(())
+    }
+
     /// Takes in a message that is neither old nor early already nor far, and makes the steps that follow. Where none is early
     /// and it can be delivered, it never becomes early. There is room for a step of each early message and of this one, and for
-    /// what they can make of the items.
+    /// what they can make of items and lists.
     fn take_in(&mut self, message: Message, steps: &mut Vec<Step>)
         requires fits { IsTrue (fits self.old.n message) }
         requires carried { IsTrue (is_carried self.old.limit message) }
@@ -99,6 +116,7 @@ impl Replica {
         requires none { steps.old.items ≡ [] }
         requires room { length self.old.buffer.early + 1 ≤ vec_capacity steps.old }
         requires spare { length self.old.log.entries + length self.old.buffer.early + 1 ≤ (shown self.old.items).spare }
+        requires lists_spare { insertions self.old.buffer.early + element_room message.op ≤ (lists_shown self.old.lists).spare }
         ensures steps { (s : State) → StandsFor self.old s → HasStepped self.old.w (with_early s message) steps.new.items self.new }
         ensures settings { SameSettings self.old self.new }
     {
@@ -149,6 +167,7 @@ impl Replica {
     fn take(&mut self, message: Message) -> Step
         requires next { ∥ ((s : State) × IsNextOf self.old message s) ∥₁ }
         requires spare { length self.old.log.entries + length self.old.buffer.early + 1 ≤ (shown self.old.items).spare }
+        requires lists_spare { insertions self.old.buffer.early + element_room message.op ≤ (lists_shown self.old.lists).spare }
         ensures step { (s : State) → IsNextOf self.old message s → IsStepOf self.old.w s result self.new }
         ensures settings { SameSettings self.old self.new }
         ensures buffer { self.new.buffer ≡ self.old.buffer }

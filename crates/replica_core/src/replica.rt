@@ -2,6 +2,7 @@
 
 ghost use Rattle.std.specs.Prelude.{◌≡◌, ◌↔◌, IsTrue, IfOk, IsErrOf, false};
 ghost use Rattle.causal_model.specs.State.{start};
+ghost use Rattle.list_type.specs.Shown.{shown as lists_shown};
 ghost use Rattle.stable_state.specs.Shown.{shown};
 ghost use Rattle.replica_core.specs.Numbers.{are_numbers};
 ghost use Rattle.replica_core.specs.Standing.{StandsForSome};
@@ -9,6 +10,7 @@ ghost use Rattle.replica_core.specs.Standing.{StandsForSome};
 use crate::create_fault::CreateFault;
 use crate::numbers::are_numbers;
 use causal_buffer::CausalBuffer;
+use list_type::Lists;
 use op_base::{NoMemory, Tag};
 use outbox::Outbox;
 use polog::Polog;
@@ -43,19 +45,21 @@ pub struct Replica {
     pub log: Polog,
     /// What is settled.
     pub items: Items,
+    /// The elements of lists, with those whose deletion isn't stable yet.
+    pub lists: Lists,
     /// The own messages that aren't stable.
     pub outbox: Outbox,
     /// Whether a no-op is due.
     pub due: bool,
     pub ghost numbers: { IsTrue (are_numbers me n w limit) },
     /// There is a state that these fields stand for.
-    pub ghost stands: { ∥ StandsForSome (record { me = me; n = n; w = w; limit = limit; epoch = epoch; counts = counts; matrix = matrix; window = window; buffer = buffer; log = log; items = shown items; outbox = outbox; due = due }) ∥₁ },
+    pub ghost stands: { ∥ StandsForSome (record { me = me; n = n; w = w; limit = limit; epoch = epoch; counts = counts; matrix = matrix; window = window; buffer = buffer; log = log; items = shown items; lists = lists_shown lists; outbox = outbox; due = due }) ∥₁ },
 }
 
 impl Replica {
     ghost use Rattle.replica_core.specs.Rules.{StandsFor};
 
-    /// A replica that has no message yet, in epoch 0. It takes the memory for all but its items.
+    /// A replica that has no message yet, in epoch 0. It takes the memory for all but its items and lists.
     pub fn create(alloc: Global, me: u8, n: u8, w: u8, limit: u32) -> Result<Replica, CreateFault>
         ensures bad_numbers { IsErrOf result CreateFault.BadNumbers ↔ (are_numbers me n w limit ≡ false) }
         ensures me { IfOk result (λ r. r.me ≡ me) }
@@ -80,6 +84,7 @@ impl Replica {
             buffer: CausalBuffer::create(alloc, n, w)?,
             log: Polog::create(alloc, n, w)?,
             items: Items::new(alloc),
+            lists: Lists::new(alloc),
             outbox: Outbox::create(alloc, n, w)?,
             due: false,
         })

@@ -1,6 +1,6 @@
 //! Sending operations and no-ops: a message is drafted, and then it is committed.
 
-ghost use Rattle.std.specs.Prelude.{◌≡◌, ◌<◌, ◌==◌, ℕ, All, IsTrue, IfOk, OnErr, true, false};
+ghost use Rattle.std.specs.Prelude.{◌≡◌, ◌<◌, ◌==◌, All, IsTrue, IfOk, OnErr, true, false};
 ghost use Rattle.std.specs.Result.{IfErr};
 ghost use Rattle.op_base.specs.Message.{fits};
 ghost use Rattle.causal_model.specs.Counts.{count_of, next_tag, is_carried};
@@ -114,6 +114,7 @@ impl Replica {
         let sent = message.copy(alloc)?;
         let answer = message.copy(alloc)?;
         self.items.reserve(self.log.len() + self.buffer.len() + 1)?;
+        self.reserve_element(&message)?;
         self.step(message, Sender::Own(sent));
         Ok(answer)
     }

@@ -1,39 +1,60 @@
-//! Log and items, when a message has come.
+//! Log, items and lists, when a message has come.
 
-ghost use Rattle.std.specs.Prelude.{◌≡◌, ◌+◌, ◌≤◌, ◌<◌, ◌^◌, ℕ, [], length, IsTrue};
+ghost use Rattle.std.specs.Prelude.{◌≡◌, ◌+◌, ◌≤◌, ◌<◌, ◌^◌, ℕ, suc, [], length, slice_get, is_some, Some, IsTrue, if◌then◌else◌};
 ghost use Rattle.op_base.specs.Message.{fits};
 ghost use Rattle.op_base.specs.declared.message.Message.{Message as AMessage};
-ghost use Rattle.causal_model.specs.Log.{stripped_of, is_kept};
+ghost use Rattle.op_base.specs.declared.name.Kind.TheVariants as kinds;
+ghost use Rattle.causal_model.specs.Log.{stripped_of, is_kept, message_of};
 ghost use Rattle.causal_model.specs.Covering.{store_keeps, store_covers};
-ghost use Rattle.causal_model.specs.History.{History, with_message};
-ghost use Rattle.polog.specs.Standing.{IsLogOf};
+ghost use Rattle.causal_model.specs.History.{History, with_message, is_history, epoch_of};
+ghost use Rattle.causal_model.specs.ListSteps.{pruned};
+ghost use Rattle.list_type.specs.Listed.{AreListsOf, AreListsMoved, AreWithin};
+ghost use Rattle.list_type.specs.Shown.{shown as lists_shown};
+ghost use Rattle.polog.specs.Standing.{IsLogOf, IsLogged};
 ghost use Rattle.polog.specs.Value.{with_stripped};
+ghost use Rattle.stable_state.specs.Laws.{HasRange};
 ghost use Rattle.stable_state.specs.Standing.{AreSettledOf, AreAbsorbed, AreMoved};
 ghost use Rattle.stable_state.specs.Shown.{shown};
+ghost use Rattle.replica_core.specs.Insertions.{is_insertion, element_room, entry_put, CanBePut};
 ghost use Rattle.replica_core.specs.Settling.{AreOf, AreReady, AreReadyForSome, AreLogged, AreLoggedForSome, AreWaiting, AreWaitingForSome, with_logged, applied_of, room_of, CanBeApplied};
 
 use causal_model::TypeRule;
-use op_base::{Entry, Kind, Message, MessageId, Op, Tag, Update};
+use list_type::Lists;
+use op_base::{Act, Entry, Kind, Message, MessageId, Op, Tag, Update};
 use polog::Polog;
 use stable_state::Items;
 use type_rules::StoreRule;
 
-/// Takes out of log and items what a message covers, puts the message into the log where its kind keeps it, and moves what
-/// is stable now from the log into the items, whose marks are then settled. `before` has the stable counts without the
-/// message, and `stable` those with it.
-pub fn settle(log: &mut Polog, items: &mut Items, message: Message, before: &Tag, stable: &Tag)
-    requires ready { ∥ AreReadyForSome log.old (shown items.old) message before.now stable.now ∥₁ }
+/// Takes out of log and items what a message covers, puts the message into the log where its kind keeps it, and its element
+/// into a list where it has one, and moves what is stable now from the log into items and lists. Then the items' marks are
+/// settled. `before` has the stable counts without the message, and `stable` those with it.
+pub fn settle(
+    log: &mut Polog,
+    items: &mut Items,
+    lists: &mut Lists,
+    epoch: u32,
+    message: Message,
+    before: &Tag,
+    stable: &Tag,
+)
+    requires ready { ∥ AreReadyForSome log.old (shown items.old) (lists_shown lists.old) epoch message before.now stable.now ∥₁ }
     requires spare { length log.old.entries + 1 ≤ (shown items.old).spare }
-    ensures are_of { (w limit : ℕ) (h : History) → AreReady w limit h log.old (shown items.old) message before.now stable.now → AreOf (with_message h message) log.new (shown items.new) }
+    requires lists_spare { element_room message.op ≤ (lists_shown lists.old).spare }
+    requires deep { AreWithin (2 ^ 63) (lists_shown lists.old) }
+    ensures are_of { (w limit : ℕ) (h : History) → AreReady w limit h log.old (shown items.old) (lists_shown lists.old) epoch message before.now stable.now
+        → AreOf (with_message h message) log.new (shown items.new) (lists_shown lists.new) }
     ensures room { log.new.room ≡ log.old.room }
     // the room for items falls by no more than the log does, and one for the message
     ensures spare { (shown items.old).spare + length log.new.entries ≤ (shown items.new).spare + (length log.old.entries + 1) }
+    ensures lists_spare { (lists_shown lists.old).spare ≤ (lists_shown lists.new).spare + element_room message.op }
+    ensures deep { (most : ℕ) → AreWithin most (lists_shown lists.old) → AreWithin (most + 1) (lists_shown lists.new) }
 {
     log.prune(&message, &StoreRule);
     cover(items, &message.op);
     let id = message.id();
-    let applied = log_or_hand_back(log, message);
-    move_stable(log, items, id, before, stable);
+    let (applied, inserted) = log_or_hand_back(log, message);
+    insert(lists, epoch, inserted, log);
+    move_stable(log, items, lists, epoch, id, before, stable);
     apply(items, applied);
     items.settle_marks(log.grouped());
 }
@@ -48,19 +69,31 @@ fn cover(items: &mut Items, op: &Op)
     }
 }
 
-/// Puts a message into the log where its kind keeps it. The update comes back that is applied at once: that of a counter
-/// which can't be cleared.
-fn log_or_hand_back(log: &mut Polog, message: Message) -> Option<Update>
+/// Whether an operation puts an element into a list.
+pub(crate) fn is_insertion(op: &Op) -> bool
+    ensures { result ≡ is_insertion op.now }
+{
+    match op {
+        Op::NoOp => false,
+        Op::Update(update) => matches!(update.act(), Act::Ins(_, _)),
+    }
+}
+
+/// Puts a message into the log where its kind keeps it. What no log keeps comes back: the update that is applied at once, of a
+/// counter which can't be cleared, and the entry by which an element is put into a list.
+fn log_or_hand_back(log: &mut Polog, message: Message) -> (Option<Update>, Option<Entry>)
     requires fits { IsTrue (fits log.old.n message) }
     requires room { IsTrue (is_kept store_keeps message.op) → length log.old.entries < log.old.room }
     requires numbers { log.old.pushed + 1 < 2 ^ 64 }
     ensures log { log.new ≡ with_logged message.origin message.tag message.op log.old }
     ensures room { log.new.room ≡ log.old.room }
-    ensures applied { result ≡ applied_of message.op }
+    ensures applied { result.0 ≡ applied_of message.op }
+    ensures inserted { result.1 ≡ entry_put message.origin message.tag message.op }
 {
+    let inserts = is_insertion(&message.op);
     let Message { origin, tag, op } = message;
     let Op::Update(update) = op else {
-        return None;
+        return (None, None);
     };
     if StoreRule.keeps(&update) {
         log.push(Entry {
@@ -68,48 +101,106 @@ fn log_or_hand_back(log: &mut Polog, message: Message) -> Option<Update>
             tag,
             update,
         });
-        return None;
+        return (None, None);
+    }
+    if inserts {
+        let entry = Entry {
+            origin,
+            tag,
+            update,
+        };
+        return (None, Some(entry));
     }
     if update.object().kind == Kind::Counter {
-        Some(update)
+        (Some(update), None)
     } else {
-        None
+        (None, None)
     }
 }
 
-/// Moves what is stable from the log into the items. Where the stable counts are as they were before the log's last message,
-/// and this isn't stable, no entry is, and none is looked at.
-fn move_stable(log: &mut Polog, items: &mut Items, id: MessageId, before: &Tag, stable: &Tag)
-    requires logged { ∥ AreLoggedForSome log.old (shown items.old) id before.now stable.now ∥₁ }
+/// Puts an element into its list, where there is one to be put in. The log has what it had before the message.
+fn insert(lists: &mut Lists, epoch: u32, inserted: Option<Entry>, log: &Polog)
+    requires can { CanBePut epoch inserted (lists_shown lists.old) }
+    ensures of { (w : ℕ) (h : History) (m : AMessage) → IsTrue (is_history w (with_message h m)) → epoch ≡ epoch_of h → inserted ≡ entry_put m.origin m.tag m.op
+        → IsLogged store_keeps store_covers h.present.n h.present.me h.present.messages m log.now
+        → AreListsOf h (lists_shown lists.old) → AreListsMoved h m 0 (lists_shown lists.new) }
+    ensures spare { (lists_shown lists.old).spare ≤ (lists_shown lists.new).spare + (if is_some inserted then 1 else 0) }
+    ensures deep { (most : ℕ) → AreWithin most (lists_shown lists.old) → AreWithin (most + 1) (lists_shown lists.new) }
+{
+    if let Some(entry) = inserted {
+        let entries = log.of_object(entry.update.object());
+        lists.insert(epoch, entry, entries);
+    }
+}
+
+/// Moves what is stable from the log into items and lists. Where the stable counts are as they were before the log's last
+/// message, and this isn't stable, no entry is, and none is looked at.
+fn move_stable(
+    log: &mut Polog,
+    items: &mut Items,
+    lists: &mut Lists,
+    epoch: u32,
+    id: MessageId,
+    before: &Tag,
+    stable: &Tag,
+)
+    requires logged { ∥ AreLoggedForSome log.old (shown items.old) (lists_shown lists.old) epoch id before.now stable.now ∥₁ }
     requires spare { length log.old.entries ≤ (shown items.old).spare }
-    ensures absorbed { (w limit : ℕ) (h : History) (m : AMessage) → AreLogged w limit h m log.old (shown items.old) id before.now stable.now
+    ensures absorbed { (w limit : ℕ) (h : History) (m : AMessage) → AreLogged w limit h m log.old (shown items.old) (lists_shown lists.old) epoch id before.now stable.now
         → AreAbsorbed h m (length (stripped_of h m)) (shown items.new) }
-    ensures log { (w limit : ℕ) (h : History) (m : AMessage) → AreLogged w limit h m log.old (shown items.old) id before.now stable.now
+    ensures moved { (w limit : ℕ) (h : History) (m : AMessage) → AreLogged w limit h m log.old (shown items.old) (lists_shown lists.old) epoch id before.now stable.now
+        → AreListsMoved h m (length (stripped_of h m)) (lists_shown lists.new) }
+    ensures log { (w limit : ℕ) (h : History) (m : AMessage) → AreLogged w limit h m log.old (shown items.old) (lists_shown lists.old) epoch id before.now stable.now
         → IsLogOf store_keeps store_covers h.present.n h.present.me (with_message h m).present.messages log.new }
     ensures room { log.new.room ≡ log.old.room }
     ensures spare { (shown items.old).spare + length log.new.entries ≤ (shown items.new).spare + length log.old.entries }
+    ensures lists_spare { (lists_shown lists.old).spare ≤ (lists_shown lists.new).spare }
+    ensures deep { (most : ℕ) → AreWithin most (lists_shown lists.old) → AreWithin most (lists_shown lists.new) }
 {
     if *stable == *before && !stable.covers_id(id) {
         return;
     }
     log.strip(stable);
-    absorb_stripped(log, items);
+    absorb_stripped(log, items, lists, epoch);
 }
 
-/// Moves what was stripped from the log into the items.
-fn absorb_stripped(log: &mut Polog, items: &mut Items)
-    requires waiting { ∥ AreWaitingForSome log.old (shown items.old) ∥₁ }
+/// Moves what was stripped from the log into items and lists.
+fn absorb_stripped(log: &mut Polog, items: &mut Items, lists: &mut Lists, epoch: u32)
+    requires waiting { ∥ AreWaitingForSome log.old (shown items.old) (lists_shown lists.old) epoch ∥₁ }
     requires spare { length log.old.stripped ≤ (shown items.old).spare }
-    ensures absorbed { (w limit : ℕ) (h : History) (m : AMessage) → AreWaiting w limit h m 0 log.old (shown items.old)
+    ensures absorbed { (w limit : ℕ) (h : History) (m : AMessage) → AreWaiting w limit h m 0 log.old (shown items.old) (lists_shown lists.old) epoch
         → AreAbsorbed h m (length (stripped_of h m)) (shown items.new) }
-    ensures log { (w limit : ℕ) (h : History) (m : AMessage) → AreWaiting w limit h m 0 log.old (shown items.old)
+    ensures moved { (w limit : ℕ) (h : History) (m : AMessage) → AreWaiting w limit h m 0 log.old (shown items.old) (lists_shown lists.old) epoch
+        → AreListsMoved h m (length (stripped_of h m)) (lists_shown lists.new) }
+    ensures log { (w limit : ℕ) (h : History) (m : AMessage) → AreWaiting w limit h m 0 log.old (shown items.old) (lists_shown lists.old) epoch
         → IsLogOf store_keeps store_covers h.present.n h.present.me (with_message h m).present.messages log.new }
     ensures others { log.new ≡ with_stripped log.old [] }
     ensures spare { (shown items.old).spare ≤ (shown items.new).spare + length log.old.stripped }
+    ensures lists_spare { (lists_shown lists.old).spare ≤ (lists_shown lists.new).spare }
+    ensures deep { (most : ℕ) → AreWithin most (lists_shown lists.old) → AreWithin most (lists_shown lists.new) }
 {
     while let Some(entry) = log.next_stripped() {
-        items.absorb(entry);
+        absorb(items, lists, epoch, entry);
     }
+}
+
+/// Moves an entry that goes from the log into the lists, where it is of one, and into the items. One of a list makes no item.
+fn absorb(items: &mut Items, lists: &mut Lists, epoch: u32, entry: Entry)
+    requires spare { 1 ≤ (shown items.old).spare }
+    requires range { HasRange (shown items.old) entry.update }
+    requires pruned { entry.update.object.kind ≡ kinds.List → pruned ((lists_shown lists.old).kept entry.update.object) ≡ (lists_shown lists.old).kept entry.update.object }
+    ensures items { (h : History) (m : AMessage) (k : ℕ) → slice_get (stripped_of h m) k ≡ Some (message_of entry)
+        → AreAbsorbed h m k (shown items.old) → AreAbsorbed h m (k + 1) (shown items.new) }
+    ensures lists { (w : ℕ) (h : History) (m : AMessage) (k : ℕ) → IsTrue (is_history w (with_message h m)) → epoch ≡ epoch_of h → slice_get (stripped_of h m) k ≡ Some (message_of entry)
+        → AreListsMoved h m k (lists_shown lists.old) → AreListsMoved h m (suc k) (lists_shown lists.new) }
+    ensures spare { (shown items.old).spare ≤ (shown items.new).spare + 1 }
+    ensures lists_spare { (lists_shown lists.old).spare ≤ (lists_shown lists.new).spare }
+    ensures deep { (most : ℕ) → AreWithin most (lists_shown lists.old) → AreWithin most (lists_shown lists.new) }
+{
+    if entry.update.object().kind == Kind::List {
+        lists.settle(epoch, &entry);
+    }
+    items.absorb(entry);
 }
 
 /// Applies an update of a counter that can't be cleared, where there is one.

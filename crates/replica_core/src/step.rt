@@ -2,12 +2,13 @@
 
 ghost use Rattle.std.specs.Prelude.{◌≡◌, ◌+◌, ◌<◌, ◌≤◌, not, length, All, IsTrue};
 ghost use Rattle.op_base.specs.Message.{fits};
-ghost use Rattle.op_base.specs.declared.message.Message.{Message as AMessage};
 ghost use Rattle.causal_model.specs.State.{with_own, State};
 ghost use Rattle.causal_model.specs.Stability.{carries_operation};
 ghost use Rattle.causal_model.specs.States.{IsState};
 ghost use Rattle.outbox.specs.Sent.{ComesAfter, room_of};
+ghost use Rattle.list_type.specs.Shown.{shown as lists_shown};
 ghost use Rattle.stable_state.specs.Shown.{shown};
+ghost use Rattle.replica_core.specs.Insertions.{insertions, element_room};
 ghost use Rattle.replica_core.specs.Steps.{IsSender, KeepsMatrix, is_due_after, with_own_sent};
 
 use crate::replica::Replica;
@@ -27,11 +28,12 @@ pub(crate) enum Sender {
 impl Replica {
     ghost use Rattle.replica_core.specs.Rules.{StandsFor, SameSettings};
 
-    /// Makes a message the next of the history. There is room for what it and each early message can make of the items.
+    /// Makes a message the next of the history. There is room for what it and each early message can make of items and lists.
     pub(crate) fn step(&mut self, message: Message, sender: Sender)
         requires next { ∥ ((s : State) × StandsFor self.old s × IsState self.old.w self.old.limit (with_own s message)) ∥₁ }
         requires sender { IsSender self.old.me self.old.matrix message sender }
         requires room { length self.old.log.entries + length self.old.buffer.early + 1 ≤ (shown self.old.items).spare }
+        requires lists_room { insertions self.old.buffer.early + element_room message.op ≤ (lists_shown self.old.lists).spare }
         ensures stands { (s : State) → StandsFor self.old s → IsState self.old.w self.old.limit (with_own s message) → StandsFor self.new (with_own s message) }
         ensures settings { SameSettings self.old self.new }
         ensures buffer { self.new.buffer ≡ self.old.buffer }
@@ -45,7 +47,16 @@ impl Replica {
         self.window.push(origin, tag, is_noop(&message.op));
         self.window.drop_stable(&stable);
         self.outbox.drop_stable(&stable);
-        settle(&mut self.log, &mut self.items, message, &before, &stable);
+        let epoch = self.epoch;
+        settle(
+            &mut self.log,
+            &mut self.items,
+            &mut self.lists,
+            epoch,
+            message,
+            &before,
+            &stable,
+        );
     }
 }
 

@@ -203,6 +203,7 @@ fn numbers_are_within_their_bounds(rt: HostRuntime) -> Result<(), Fail> {
         buffer,
         log,
         items,
+        lists: _,
         outbox,
         due,
     } = made;

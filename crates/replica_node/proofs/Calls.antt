@@ -12,7 +12,8 @@ use Rattle.causal_model.specs.declared.note.Note.{Note}
 use Rattle.causal_model.specs.declared.note.Note.TheVariants.{Kept}
 use Rattle.causal_model.proofs.Journals.{receiving_replays, legal_grows}
 use Rattle.causal_model.proofs.Outcomes.{notes_of_accepted}
-use Rattle.replica_core.specs.Rules.{StandsFor}
+use Rattle.replica_core.specs.Rules.{StandsFor, Unchanged}
+use Rattle.replica_core.proofs.Stands.{unchanged_stands}
 use Rattle.replica_core.specs.declared.replica.Replica.{Replica}
 use Rattle.replica_node.specs.Nodes.{state_by}
 
@@ -27,6 +28,14 @@ pub goes_on : (w limit : ℕ) (new : Replica) (first : ℕ × ℕ) (before after
 goes_on w limit new first before after group same_w same_limit legal noted is stands = record {
   legal = rw (same_w, same_limit, noted) (∥∥₁_map legal (λ l. legal_grows first.1 w limit first.0 before group l is));
   stands = subst (StandsFor new) (sym (ap (λ ns. state_by first ns) noted ∙ fold-append state_noted (start first.1 first.0) before group)) stands;
+}
+
+-- and where nothing was noted, and nothing of the replica changed
+pub nothing_goes_on : (old new : Replica) (first : ℕ × ℕ) (before after : List Note) → Unchanged old new → after ≡ before → ∥ IsLegal first.1 old.w old.limit first.0 before ∥₁ → StandsFor old (state_by first before)
+    → Goes new first after
+nothing_goes_on old new first before after same kept legal stands = record {
+  legal = rw (same.settings.w, same.settings.limit, kept) legal;
+  stands = subst (λ notes. StandsFor new (state_by first notes)) (sym kept) (unchanged_stands old new (state_by first before) same stands);
 }
 
 -- a message that isn't refused, with its steps, is a group, and its notes make of the state what accepting it does

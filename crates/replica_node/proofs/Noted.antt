@@ -16,7 +16,7 @@ use Rattle.replica_node.specs.Rules.{noting}
 
 module _ {A : Type 0} (no_memory : A) (takes_memory : A → Bool) (notes_of : A → List Note) (rule : State → A × State) (first : ℕ × ℕ) (before after : List Note) where
   -- the answer is the rule's, and its notes were put
-  noted_follows : (answer : A) → answer ≡ (rule (state_by first before)).0 → after ≡ before ++ notes_of answer
+  pub noted_follows : (answer : A) → answer ≡ (rule (state_by first before)).0 → after ≡ before ++ notes_of answer
       → Follows (λ (there ns : List Note). there ≡ ns) no_memory takes_memory (noting first notes_of rule) before answer after
   noted_follows answer is noted = λ ns same. inl
       (subst (λ ns. (answer ≡ (rule (state_by first ns)).0) × (after ≡ ns ++ notes_of (rule (state_by first ns)).0)) same (is, noted ∙ ap (λ a. before ++ notes_of a) is))

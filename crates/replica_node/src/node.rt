@@ -3,9 +3,12 @@
 ghost use Rattle.std.specs.Prelude.{◌≡◌, ◌≢◌, ◌↔◌, ◌+◌, ◌^◌, ◌<◌, ◌≤◌, ◌++◌, ◌∷◌, [], List, map, All, IfOk, OnErr, IsTrue, IsErrOf, OnOk, true, false, None};
 ghost use Rattle.std.specs.Prelude.{length as length_of};
 ghost use Rattle.op_base.specs.Message.{fits};
+ghost use Rattle.op_base.specs.declared.name.Kind.TheVariants as kinds;
 ghost use Rattle.causal_model.specs.Counts.{is_carried};
+ghost use Rattle.causal_model.specs.Elements.{list_ids};
 ghost use Rattle.causal_model.specs.Follows.{Follows};
 ghost use Rattle.causal_model.specs.History.{events};
+ghost use Rattle.causal_model.specs.KeptElements.{tombs_of};
 ghost use Rattle.causal_model.specs.Journal.{IsLegal, step_note, local_notes, beat_notes, receive_notes};
 ghost use Rattle.causal_model.specs.Query.{answer};
 ghost use Rattle.causal_model.specs.Receiving.{refusal_of, steps, with_early, is_accepted, receive_rule};
@@ -20,7 +23,7 @@ ghost use Rattle.replica_node.specs.Rules.{noting, AsksOnceAtMost};
 
 use crate::recorder::Recorder;
 use causal_model::{Beat, Local, Note, Receive};
-use op_base::{Answer, Message, NoMemory, ObjectId, Step, StepList, Update};
+use op_base::{Answer, ElementIdList, Message, NoMemory, ObjectId, Step, StepList, Update};
 use replica_core::{CreateFault, Replica};
 use std::alloc::Global;
 
@@ -191,6 +194,22 @@ impl<R: Recorder> Node<R> {
         ensures { IfOk result (λ a. a ≡ answer object.now (events (state_by self.now.first (R.notes self.now.journal)).history)) }
     {
         self.inner.answer(alloc, object)
+    }
+
+    /// The ids of a list's elements, in the list's order, by the same events. `NoMemory` leaves nothing behind.
+    pub fn list_ids(&self, alloc: Global, object: &ObjectId) -> Result<ElementIdList, NoMemory>
+        requires { object.now.kind ≡ kinds.List }
+        ensures { IfOk result (λ ids. ids ≡ list_ids object.now (events (state_by self.now.first (R.notes self.now.journal)).history)) }
+    {
+        self.inner.list_ids(alloc, object)
+    }
+
+    /// How many elements of a list are kept that aren't shown. It takes no memory.
+    pub fn tombs(&self, object: &ObjectId) -> usize
+        requires { object.now.kind ≡ kinds.List }
+        ensures { result ≡ tombs_of (state_by self.now.first (R.notes self.now.journal)).history object.now }
+    {
+        self.inner.tombs(object)
     }
 
     /// How many notes the journal has.

@@ -222,6 +222,7 @@ fn the_fields_are_these_alone(rt: HostRuntime) -> Result<(), Fail> {
         buffer: _,
         log: _,
         items: _,
+        lists: _,
         outbox: _,
         due,
     } = inner;

@@ -3,7 +3,7 @@ use Rattle.std.proofs.lemmas.List.{nil_from_length}
 use denote.Struct.Props.{props}
 use Rattle.std.proofs.Math.Logic.{∥∥₁_elim, ∥∥₁_map}
 use Rattle.polog.specs.Value.{Log}
-use Rattle.replica_core.proofs.MovesStable.{same_numbers, parted_entries, stable_is_tag, origin_is_within, all_are_absorbed_already, is_log_already, are_waiting}
+use Rattle.replica_core.proofs.MovesStable.{same_numbers, parted_entries, stable_is_tag, origin_is_within, all_are_absorbed_already, all_are_moved_already, is_log_already, are_waiting}
 use Rattle.replica_core.proofs.settling.move_stable.Goals as goal
 
 pub covers_id-requires : goal.covers_id-requires
@@ -11,6 +11,9 @@ covers_id-requires c = ∥∥₁_elim c.requires.logged (search props) (λ x. or
 
 pub returns-then-not-covers_id-clause-absorbed : goal.returns-then-not-covers_id-clause-absorbed
 returns-then-not-covers_id-clause-absorbed c = λ w limit h m logged. all_are_absorbed_already logged (same_numbers _ _ _ _ (sym c.if-eq.ensures)) (sym c.if-not-covers_id.ensures)
+
+pub returns-then-not-covers_id-clause-moved : goal.returns-then-not-covers_id-clause-moved
+returns-then-not-covers_id-clause-moved c = λ w limit h m logged. all_are_moved_already logged (same_numbers _ _ _ _ (sym c.if-eq.ensures)) (sym c.if-not-covers_id.ensures)
 
 pub returns-then-not-covers_id-clause-log : goal.returns-then-not-covers_id-clause-log
 returns-then-not-covers_id-clause-log c = λ w limit h m logged. is_log_already logged (same_numbers _ _ _ _ (sym c.if-eq.ensures)) (sym c.if-not-covers_id.ensures)
@@ -32,6 +35,9 @@ absorb_stripped-requires-clause-spare c =
 
 pub returns-clause-absorbed : goal.returns-clause-absorbed
 returns-clause-absorbed c = λ w limit h m logged. c.absorb_stripped.ensures.absorbed w limit h m (are_waiting logged c.strip.ensures.stripped)
+
+pub returns-clause-moved : goal.returns-clause-moved
+returns-clause-moved c = λ w limit h m logged. c.absorb_stripped.ensures.moved w limit h m (are_waiting logged c.strip.ensures.stripped)
 
 pub returns-clause-log : goal.returns-clause-log
 returns-clause-log c = λ w limit h m logged. c.absorb_stripped.ensures.log w limit h m (are_waiting logged c.strip.ensures.stripped)

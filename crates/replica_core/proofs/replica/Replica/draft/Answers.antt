@@ -7,7 +7,7 @@ use Rattle.causal_model.specs.declared.outcome.Local.TheVariants as local
 use Rattle.replica_core.specs.Rules.{fields_of, StandsFor}
 use Rattle.replica_core.proofs.Sends.{sends_in_state, sends_by_tests, is_draft, more_may_be_sent}
 use Rattle.replica_core.proofs.replica.Replica.draft.Goals as goal
-use Rattle.replica_core.proofs.replica.Replica.draft.Goals.{Else-has_ended, After-next_message}
+use Rattle.replica_core.proofs.replica.Replica.draft.Goals.{Else-has_ended}
 
 -- where neither test holds, the rule sends
 sends : (c : Else-has_ended) (u : Update) (s : State) → StandsFor c.args.self.now s

@@ -2,7 +2,8 @@ use Rattle.std.proofs.Common.{List, length, sym, ap, subst, arith}
 use Rattle.std.proofs.lemmas.List.{length_push}
 use Rattle.op_base.specs.declared.outcome.Step.{Step}
 use Rattle.replica_core.specs.Steps.{IsStepOf}
-use Rattle.replica_core.proofs.Made.{HasMade, same_settings_after, one_more_is_made, all_are_made}
+use Rattle.replica_core.proofs.Made.{HasMade, one_more_is_made, all_are_made}
+use Rattle.replica_core.proofs.Stands.{same_settings_after}
 use Rattle.replica_core.proofs.replica.Replica.make_steps.Goals as goal
 
 pub loop-step-preserved : goal.loop-step-preserved

@@ -5,6 +5,7 @@ use Rattle.causal_model.specs.Journal.{regrouped}
 use Rattle.causal_model.specs.State.{State}
 use Rattle.causal_buffer.specs.Buffer.{Buffer}
 use Rattle.polog.specs.Value.{Log}
+use Rattle.list_type.specs.Shown.{shown as lists_shown}
 use Rattle.stable_state.specs.Shown.{shown}
 use Rattle.replica_core.specs.Rules.{StandsFor, fields_of}
 use Rattle.replica_core.specs.Standing.{Standing}
@@ -15,12 +16,12 @@ use Rattle.replica_core.proofs.replica.Replica.next.Goals.{In_ok-create-4}
 
 -- what was made of nothing stands for the state of the next epoch
 stands_next : (c : In_ok-create-4) (s : State) → StandsFor c.args.self.now s
-    → Standing (next_fields (fields_of c.args.self.now) c.args.me c.args.n c.zero.result c.new.result c.in_ok-create.field-0 c.in_ok-create-2.field-0 c.in_ok-create-3.field-0 (shown c.in_ok-copy.field-0) c.in_ok-create-4.field-0) (regrouped c.args.n c.args.me s)
+    → Standing (next_fields (fields_of c.args.self.now) c.args.me c.args.n c.zero.result c.new.result c.in_ok-create.field-0 c.in_ok-create-2.field-0 c.in_ok-create-3.field-0 (shown c.in_ok-copy.field-0) (lists_shown c.in_ok-copy-2.field-0) c.in_ok-create-4.field-0) (regrouped c.args.n c.args.me s)
 stands_next c s stands =
     let self = c.args.self.now in
     let numbers = AreNumbers-from_test c.args.me c.args.n self.w self.limit c.requires.numbers in
-    regroups (fields_of self) c.args.me c.args.n _ _ _ _ _ _ _ s stands numbers.few numbers.member c.requires.early (c.requires.settled s stands) c.zero.ensures c.new.ensures.known (c.in_ok-create.ensures.nothing c.args.me) (c.in_ok-create-2.ensures.stands c.args.me)
-    (c.in_ok-create-3.ensures.nothing store_keeps store_covers c.args.me) (ap (λ (log : Log). log.room) c.in_ok-create-3.ensures.empty) c.in_ok-copy.ensures (ap (λ (log : Log). log.entries) c.in_ok-create-3.ensures.empty) (ap (λ (b : Buffer). b.early) c.in_ok-create-2.ensures.empty) c.in_ok-create-4.ensures.empty
+    regroups (fields_of self) c.args.me c.args.n _ _ _ _ _ _ _ _ s stands numbers.few numbers.member numbers.most c.requires.early (c.requires.settled s stands) c.zero.ensures c.new.ensures.known (c.in_ok-create.ensures.nothing c.args.me) (c.in_ok-create-2.ensures.stands c.args.me)
+    (c.in_ok-create-3.ensures.nothing store_keeps store_covers c.args.me) (ap (λ (log : Log). log.room) c.in_ok-create-3.ensures.empty) c.in_ok-copy.ensures c.in_ok-copy-2.ensures (ap (λ (log : Log). log.entries) c.in_ok-create-3.ensures.empty) (ap (λ (b : Buffer). b.early) c.in_ok-create-2.ensures.empty) c.in_ok-create-4.ensures.empty
 
 pub create-requires-4-clause-window : goal.create-requires-4-clause-window
 create-requires-4-clause-window c = let self = c.args.self.now in (AreNumbers-from_test c.args.me c.args.n self.w self.limit c.requires.numbers).wide

@@ -1,10 +1,11 @@
 use Rattle.std.proofs.Common.{length, refl, ap, arith}
 use Rattle.std.proofs.Math.Logic.{∥∥₁_map}
 use Rattle.causal_buffer.specs.Buffer.{Buffer}
+use Rattle.replica_core.specs.Insertions.{insertions}
 use Rattle.replica_core.specs.Rules.{fields_of}
 use Rattle.replica_core.specs.Steps.{state_without}
-use Rattle.replica_core.proofs.Stands.{length-counts_in, buffer_n_in, ahead_in, items_room_in}
-use Rattle.replica_core.proofs.Takes.{without_stands, taken_is_next, next_is_found_in, fewer_are_left_in}
+use Rattle.replica_core.proofs.Stands.{length-counts_in, buffer_n_in, ahead_in, items_room_in, lists_room_in}
+use Rattle.replica_core.proofs.Takes.{without_stands, taken_is_next, next_is_found_in, fewer_are_left_in, elements_are_left_in}
 use Rattle.replica_core.proofs.replica.Replica.next_step.Goals as goal
 
 pub next-requires-clause-counts : goal.next-requires-clause-counts
@@ -38,6 +39,12 @@ take-requires-clause-spare c =
     let r = c.args.self.now in
     let fewer = fewer_are_left_in (fields_of r) r.stands c.in_ok-id.id c.in_ok-id.ensures.in_state c.in-Some.message c.in-Some.ensures.in_state in
     omega (arith, fewer, items_room_in (fields_of r) r.stands, ap (λ (b : Buffer). length b.early) c.remove.ensures.others)
+
+pub take-requires-clause-lists_spare : goal.take-requires-clause-lists_spare
+take-requires-clause-lists_spare c =
+    let r = c.args.self.now in
+    let left = elements_are_left_in (fields_of r) r.stands c.in_ok-id.id c.in_ok-id.ensures.in_state c.in-Some.message c.in-Some.ensures.in_state in
+    omega (arith, left, lists_room_in (fields_of r) r.stands, ap (λ (b : Buffer). insertions b.early) c.remove.ensures.others)
 
 pub returns-clause-step : goal.returns-clause-step
 returns-clause-step c = λ s stands.

@@ -7,6 +7,7 @@ use Rattle.causal_model.specs.Stability.{minimum}
 use Rattle.causal_model.specs.States.{IsState}
 use Rattle.outbox.specs.Sent.{Sent}
 use Rattle.stability_matrix.specs.Rows.{column_of}
+use Rattle.list_type.specs.Shown.{shown as lists_shown}
 use Rattle.stable_state.specs.Shown.{shown}
 use Rattle.tag_window.specs.Window.{Window}
 use Rattle.tag_window.specs.declared.held.Held.{Held}
@@ -14,7 +15,7 @@ use Rattle.replica_core.specs.Rules.{fields_of}
 use Rattle.replica_core.specs.Standing.{Standing}
 use Rattle.replica_core.specs.Steps.{IsSender}
 use Rattle.replica_core.proofs.Ranges.{AreNumbers-from_test}
-use Rattle.replica_core.proofs.Stands.{length-counts_in, length-rows_in, length-held_in, of_me_in}
+use Rattle.replica_core.proofs.Stands.{length-counts_in, length-rows_in, length-held_in, of_me_in, within_in}
 use Rattle.replica_core.proofs.StepParts.{origin_in, length-tag_in, window_room_in, window_next_in, outbox_room_in, outbox_fits_in, outbox_next_in, outbox_n_in, stable_with, ready_with, all_stand}
 use Rattle.replica_core.proofs.replica.Replica.step.Goals as goal
 use Rattle.replica_core.proofs.replica.Replica.step.Goals.{After-settle}
@@ -116,16 +117,25 @@ settle-requires-clause-ready c =
           (stable_with (fields_of r) x.0 c.args.message x.1 x.2 c.note.new.matrix c.stable-stable.result c.note.ensures.known c.stable-stable.ensures.known),
     ))
 
+pub settle-requires-clause-lists_spare : goal.settle-requires-clause-lists_spare
+settle-requires-clause-lists_spare c = omega (arith, c.requires.lists_room)
+
+pub settle-requires-clause-deep : goal.settle-requires-clause-deep
+settle-requires-clause-deep c =
+    let r = c.args.self.now in
+    within_in (fields_of r) r.stands (AreNumbers-from_test r.me r.n r.w r.limit r.numbers).most
+
 -- once all parts have the message, the fields stand for the state with it
 after : (c : After-settle) (s : State) → Standing (fields_of c.args.self.now) s → IsState c.args.self.now.w c.args.self.now.limit (with_own s c.args.message)
-    → Standing (record (fields_of c.args.self.now) { counts = c.set.new.self; matrix = c.note.new.matrix; window = c.drop_stable.new.self; log = c.settle.new.log; items = shown c.settle.new.items; outbox = c.drop_stable-2.new.self; due = c.is_due-self.result }) (with_own s c.args.message)
+    → Standing (record (fields_of c.args.self.now) { counts = c.set.new.self; matrix = c.note.new.matrix; window = c.drop_stable.new.self; log = c.settle.new.log; items = shown c.settle.new.items; lists = lists_shown c.settle.new.lists; outbox = c.drop_stable-2.new.self; due = c.is_due-self.result }) (with_own s c.args.message)
 after c =
     let r = c.args.self.now in
     let m = c.args.message in
     let numbers = AreNumbers-from_test r.me r.n r.w r.limit r.numbers in
-    all_stand (fields_of r) m numbers.wide numbers.most _ _ _ _ _ _ _ _ _ _ _ (c.set.ensures ∙ ap (slice_set r.counts m.origin) c.at.ensures) c.note.ensures.known c.stable-before.ensures.known c.stable-stable.ensures.known
+    all_stand (fields_of r) m numbers.wide numbers.most _ _ _ _ _ _ _ _ _ _ _ _ (c.set.ensures ∙ ap (slice_set r.counts m.origin) c.at.ensures) c.note.ensures.known c.stable-before.ensures.known c.stable-stable.ensures.known
     (λ messages. c.push.ensures.with r.n r.w r.me messages m refl refl (sym c.is_noop.ensures)) c.drop_stable.ensures.of c.note.ensures.outbox c.drop_stable-2.ensures.dropped c.drop_stable-2.ensures.sent
-    (c.settle.ensures.are_of r.w r.limit) c.settle.ensures.room c.requires.room c.settle.ensures.spare c.is_due-self.ensures
+    (c.settle.ensures.are_of r.w r.limit) c.settle.ensures.room c.requires.room c.settle.ensures.spare
+    c.requires.lists_room c.settle.ensures.lists_spare c.settle.ensures.deep c.is_due-self.ensures
 
 pub invariant_of-self : goal.invariant_of-self
 invariant_of-self c = record {

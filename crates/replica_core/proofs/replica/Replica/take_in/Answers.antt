@@ -17,7 +17,7 @@ use Rattle.replica_core.proofs.replica.Replica.take_in.Goals.{After-keep, Then-c
 -- once the message is kept, the fields stand for the state with it among the early ones
 kept : (c : After-keep) (s : State) → StandsFor c.args.self.now s → Standing (record (fields_of c.args.self.now) { buffer = c.keep.new.self }) (with_early s c.args.message)
 kept c s stands =
-    kept_stands (fields_of c.args.self.now) s stands c.args.message c.keep.new.self c.keep.ensures.early c.keep.ensures.stands c.keep.ensures.is_state c.requires.carried c.requires.spare
+    kept_stands (fields_of c.args.self.now) s stands c.args.message c.keep.new.self c.keep.ensures.early c.keep.ensures.stands c.keep.ensures.is_state c.requires.carried c.requires.spare c.requires.lists_spare
 
 pub keep-requires-clause-fits : goal.keep-requires-clause-fits
 keep-requires-clause-fits c = subst (λ n. IsTrue (fits n c.args.message)) (sym (buffer_n_in (fields_of c.args.self.now) c.args.self.now.stands)) c.requires.fits

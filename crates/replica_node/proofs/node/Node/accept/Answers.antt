@@ -3,8 +3,8 @@ use Rattle.causal_model.specs.Journal.{step_note}
 use Rattle.causal_model.specs.Receiving.{steps, with_early}
 use Rattle.causal_model.specs.declared.note.Note.TheVariants.{Kept}
 use Rattle.replica_core.specs.Rules.{StandsFor}
-use Rattle.replica_node.specs.Nodes.{state_by}
-use Rattle.replica_node.proofs.Calls.{goes_on, accepting_is_group, accepting_replays}
+use Rattle.replica_node.specs.Nodes.{state_by, IsCount}
+use Rattle.replica_node.proofs.Calls.{goes_on, nothing_goes_on, accepting_is_group, accepting_replays}
 use Rattle.replica_node.proofs.Few.{steps_are_few}
 use Rattle.replica_node.proofs.node.Node.accept.Goals as goal
 
@@ -23,6 +23,13 @@ put_accepted-requires-clause-few g c =
     let made = (c.in_ok-steps.ensures.steps s node.stands).are in
     let few : length (g.R.Recorder.notes node.journal) + c.most_notes.result < 2 ^ 63 = search rules in
     omega (arith, steps_are_few node.inner.w s c.args.message, few, node.counted, ap length c.as_slice.ensures, ap length made, ap length node.stands.buffer.early, c.most_notes.ensures)
+
+pub invariant_of-self-in-Break-branch-3 : goal.invariant_of-self-in-Break-branch-3
+invariant_of-self-in-Break-branch-3 g c =
+    let node = c.args.self.now in
+    let kept = c.reserve.ensures.kept in
+    let goes = nothing_goes_on node.inner c.accept.new.self node.first (g.R.Recorder.notes node.journal) (g.R.Recorder.notes c.reserve.new.self) c.in_err-steps.ensures.refused kept node.legal node.stands in
+    record { counted = subst (IsCount node.length) (sym kept) node.counted; legal = goes.legal; stands = goes.stands }
 
 pub invariant_of-self-2 : goal.invariant_of-self-2
 invariant_of-self-2 g c =

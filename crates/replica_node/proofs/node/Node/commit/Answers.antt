@@ -1,7 +1,7 @@
-use Rattle.std.proofs.Common.{◌++◌, ◌∷◌, [], ap, ◌∙◌}
+use Rattle.std.proofs.Common.{◌++◌, ◌∷◌, [], ap, sym, subst, ◌∙◌}
 use Rattle.causal_model.specs.declared.note.Note.TheVariants.{Sent}
-use Rattle.replica_node.specs.Nodes.{state_by}
-use Rattle.replica_node.proofs.Calls.{goes_on}
+use Rattle.replica_node.specs.Nodes.{state_by, IsCount}
+use Rattle.replica_node.proofs.Calls.{goes_on, nothing_goes_on}
 use Rattle.replica_node.proofs.Given.{draft_fits, draft_is_carried, draft_is_group}
 use Rattle.replica_node.proofs.node.Node.commit.Goals as goal
 
@@ -24,6 +24,13 @@ pub returns-in_err-reserve-clause-carried : goal.returns-in_err-reserve-clause-c
 returns-in_err-reserve-clause-carried g c =
     let node = c.args.self.now in
     draft_is_carried node.inner _ c.args.message node.stands (c.requires.draft _ node.stands)
+
+pub invariant_of-self-in-Break-branch-3 : goal.invariant_of-self-in-Break-branch-3
+invariant_of-self-in-Break-branch-3 g c =
+    let node = c.args.self.now in
+    let kept = c.reserve.ensures.kept in
+    let goes = nothing_goes_on node.inner c.commit.new.self node.first (g.R.Recorder.notes node.journal) (g.R.Recorder.notes c.reserve.new.self) c.in_err-message.ensures.refused kept node.legal node.stands in
+    record { counted = subst (IsCount node.length) (sym kept) node.counted; legal = goes.legal; stands = goes.stands }
 
 pub invariant_of-self-2 : goal.invariant_of-self-2
 invariant_of-self-2 g c =
