@@ -1,17 +1,9 @@
 -- That a record is replayed where it is what one call gives.
-use Rattle.std.proofs.Common.{◌≡◌, ◌≢◌, ℕ, ◌-◌, ◌≤◌, Bool, true, false, ◌==◌, nat_le, IsTrue, List, [], ◌∷◌, ◌++◌, map, length, take, drop, get_or, Option, Some, None, Ok, Err, refl, sym, ap, subst, ◌∙◌, arith, if◌then◌else◌}
-use Rattle.std.specs.List.{list_all, slice_index_or}
-use Rattle.std.proofs.lemmas.Bool.{and_parts, and_from, le-leb, lt-ltb, ne_eqb}
+use Rattle.std.proofs.Common.{◌≡◌, ◌≢◌, ℕ, ◌-◌, ◌≤◌, Bool, true, false, ◌==◌, List, [], ◌∷◌, ◌++◌, map, length, take, drop, get_or, Option, Some, None, Ok, Err, refl, sym, ap, subst, ◌∙◌, arith, if◌then◌else◌}
+use Rattle.std.proofs.lemmas.Bool.{ne_eqb}
 use Rattle.std.proofs.Math.Seq.{take-length}
-use Rattle.std.proofs.lemmas.List.Sums.{list_all-from_AllPass}
-use Rattle.op_base.specs.Name.{same_text, is_key, is_value}
-use Rattle.op_base.specs.Valid.{is_valid_act, is_valid}
+use Rattle.op_base.specs.Name.{same_text}
 use Rattle.op_base.specs.declared.message.Message.{Message}
-use Rattle.op_base.specs.declared.operation.Act.{Act}
-use Rattle.op_base.specs.declared.operation.Act.TheVariants as acts
-use Rattle.op_base.specs.declared.operation.Op.{Op}
-use Rattle.op_base.specs.declared.operation.Op.TheVariants as op
-use Rattle.causal_model.specs.Counts.{is_carried}
 use Rattle.causal_model.specs.Journal.{step_note, receive_notes}
 use Rattle.causal_model.specs.Receiving.{steps, with_early, refusal_of, receive_by}
 use Rattle.causal_model.specs.State.{State}
@@ -19,36 +11,15 @@ use Rattle.causal_model.specs.declared.note.Note.{Note}
 use Rattle.causal_model.specs.declared.note.Note.TheVariants.{Sent, Kept}
 use Rattle.causal_model.specs.declared.outcome.Refusal.{Refusal}
 use Rattle.causal_model.proofs.Outcomes.{notes_of_accepted, notes_of_refused}
-use Rattle.frame_codec.specs.Grammar.{frame_of, is_carried as carries, IsArgument, IsOperation, IsFrame}
+use Rattle.frame_codec.specs.Grammar.{frame_of}
 use Rattle.frame_codec.specs.Message.{frame_read}
 use Rattle.frame_codec.specs.declared.fault.FrameFault.{FrameFault}
-use Rattle.frame_codec.specs.declared.version.Version.{Version}
 use Rattle.frame_codec.specs.declared.version.Version.TheVariants.{Two}
 use Rattle.replica_node.specs.Nodes.{state_by}
 use Rattle.world_model.specs.Records.{group_if, notes_sent, notes_by}
 use Rattle.replica_keeper.specs.Open.{NotedNode}
 use Rattle.replica_keeper.specs.Replaying.{told_to, Replays}
 use Rattle.replica_keeper.proofs.Kept.{Opens, kept_opens}
-
--- ---- what comes as a frame can be carried
-
-argument_is_valid : (version : Version) (act : Act) → IsArgument version act → is_valid_act act ≡ true
-argument_is_valid version (acts.Add v) h = (and_parts (carries version (length v)) (is_value v) h).1
-argument_is_valid version (acts.Rmv v) h = (and_parts (carries version (length v)) (is_value v) h).1
-argument_is_valid version acts.Clear h = refl
-argument_is_valid version acts.Enable h = refl
-argument_is_valid version acts.Disable h = refl
-argument_is_valid version (acts.Write v) h = (and_parts (carries version (length v)) (is_value v) h).1
-argument_is_valid version (acts.Inc a) h = lt-ltb a 4294967296 (omega (arith, h))
-argument_is_valid version (acts.Dec a) h = lt-ltb a 4294967296 (omega (arith, h))
-
-operation_is_valid : (version : Version) (o : Op) → IsOperation version o → is_valid o ≡ true
-operation_is_valid version op.NoOp h = refl
-operation_is_valid version (op.Update u) h = and_from (is_key u.object.key) (is_valid_act u.act) h.0 (argument_is_valid version u.act h.1)
-
-pub frame_is_carried : (n epoch limit : ℕ) (frame : List ℕ) (m : Message) → IsFrame n epoch limit frame m → IsTrue (is_carried limit m)
-frame_is_carried n epoch limit frame m is =
-    and_from (list_all (λ e. nat_le e limit) m.tag) (is_valid m.op) (list_all-from_AllPass (λ e. nat_le e limit) m.tag (λ i d b. le-leb (slice_index_or m.tag i d) limit (is.1.within i d b))) (operation_is_valid is.0 m.op is.1.operation)
 
 -- ---- a group by its bytes
 
@@ -95,10 +66,18 @@ module _ (node after : NotedNode) (frame : List ℕ) (m : Message) (read : frame
 pub untold_frame : (node : NotedNode) (way : ℕ) (frame : List ℕ) (fault : FrameFault) → frame_read node.inner.n 0 node.inner.limit frame ≡ Err fault → told_to node (way ∷ frame) ≡ None
 untold_frame node way frame fault e = ap (λ r. group_if node.inner.n (way ∷ frame) (notes_by node.inner.w node.inner.limit (state_by node.first node.journal.notes) way r)) e
 
--- the same of a content whose first byte is in no way
+-- ---- a content: the byte of its way, and its frame
+
+whole_frame : (way : ℕ) (frame : List ℕ) → take (length (way ∷ frame) - 1) frame ≡ frame
+whole_frame way frame = ap (λ k. take k frame) (let e : length (way ∷ frame) - 1 ≡ length frame = omega arith in e) ∙ take-length frame
+
+pub whole_content : (content : List ℕ) (way : ℕ) → 1 ≤ length content → get_or content 0 0 ≡ way → way ∷ take (length content - 1) (drop 1 content) ≡ content
+whole_content [] way some is = absurd (omega (arith, some))
+whole_content (first ∷ frame) way some is = ap (λ f. way ∷ f) (whole_frame first frame) ∙ ap (λ b. b ∷ frame) (sym is)
+
+-- a content whose first byte is in no way
 pub untold_content : (node : NotedNode) (content : List ℕ) (m : Message) → 1 ≤ length content → frame_read node.inner.n 0 node.inner.limit (take (length content - 1) (drop 1 content)) ≡ Ok m
     → (get_or content 0 0 ≢ 1) → (get_or content 0 0 ≢ 2) → told_to node content ≡ None
 untold_content node [] m some read a b = absurd (omega (arith, some))
 untold_content node (way ∷ frame) m some read a b =
-    let whole_frame : take (length (way ∷ frame) - 1) frame ≡ frame = ap (λ k. take k frame) (let e : length (way ∷ frame) - 1 ≡ length frame = omega arith in e) ∙ take-length frame in
-    untold_way node node frame m (subst (λ f. frame_read node.inner.n 0 node.inner.limit f ≡ Ok m) whole_frame read) way (ne_eqb way 1 a) (ne_eqb way 2 b)
+    untold_way node node frame m (subst (λ f. frame_read node.inner.n 0 node.inner.limit f ≡ Ok m) (whole_frame way frame) read) way (ne_eqb way 1 a) (ne_eqb way 2 b)

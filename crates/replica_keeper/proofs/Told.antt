@@ -1,17 +1,18 @@
 -- That the record of what a call noted tells that call.
-use Rattle.std.proofs.Common.{◌≡◌, ℕ, ◌+◌, ◌<◌, ◌≤◌, ◌^◌, true, ◌&&◌, ◌==◌, nat_le, nat_lt, IsTrue, List, [], ◌∷◌, map, length, Some, None, Ok, refl, sym, ap, ◌∙◌, arith, lit<, length-append, if◌then◌else◌}
+use Rattle.std.proofs.Common.{◌≡◌, ℕ, ◌+◌, ◌<◌, ◌≤◌, ◌^◌, true, ◌&&◌, ◌==◌, nat_le, nat_lt, IsTrue, List, [], ◌∷◌, map, length, Option, Some, None, Ok, refl, sym, ap, ◌∙◌, arith, lit<, length-append, if◌then◌else◌}
 use Rattle.std.specs.List.{flat_map, list_all, slice_index_or}
 use Rattle.std.proofs.lemmas.Bool.{and_parts, eqb-true, leb-true, ltb-true}
 use Rattle.std.proofs.lemmas.List.Sums.{AllPass-from_list_all}
 use Rattle.std.specs.Cmp.Lexicographic.{bytes_decides}
 use Rattle.op_base.specs.Message.{fits, number}
 use Rattle.op_base.specs.Name.{same_text, is_key, is_value, is_short, is_key_byte, is_value_byte}
-use Rattle.op_base.specs.Valid.{is_valid_act, is_valid}
+use Rattle.op_base.specs.Valid.{is_valid_act, is_valid_place, is_valid}
 use Rattle.op_base.specs.declared.message.Message.{Message}
 use Rattle.op_base.specs.declared.operation.Act.{Act}
 use Rattle.op_base.specs.declared.operation.Act.TheVariants as acts
 use Rattle.op_base.specs.declared.operation.Op.{Op}
 use Rattle.op_base.specs.declared.operation.Op.TheVariants as op
+use Rattle.op_base.specs.declared.tag.ElementId.{ElementId}
 use Rattle.causal_model.specs.Counts.{is_carried}
 use Rattle.causal_model.specs.Journal.{step_note, receive_notes}
 use Rattle.causal_model.specs.Receiving.{steps, with_early, refusal_of, receive_by}
@@ -20,9 +21,10 @@ use Rattle.causal_model.specs.State.{State}
 use Rattle.causal_model.specs.declared.note.Note.{Note}
 use Rattle.causal_model.specs.declared.note.Note.TheVariants.{Sent, Kept}
 use Rattle.causal_model.proofs.Outcomes.{notes_of_accepted}
-use Rattle.frame_codec.specs.Grammar.{frame_of, number_field, text_field, argument_field, operation_fields, IsArgument, IsOperation, IsFrame}
+use Rattle.frame_codec.specs.Grammar.{frame_of, number_field, text_field, place_field, argument_field, operation_fields, IsArgument, IsOperation, IsFrame}
 use Rattle.frame_codec.specs.Message.{frame_read}
 use Rattle.frame_codec.specs.declared.version.Version.TheVariants.{Two}
+use Rattle.frame_codec.proofs.Codes.{op_code_most}
 use Rattle.frame_codec.proofs.Read.{frames_are_read}
 use Rattle.frame_codec.proofs.Spelled.{length-number_fields}
 use Rattle.world_model.specs.Records.{content_of, group_if, notes_sent, notes_by}
@@ -39,6 +41,8 @@ argument_is_sent acts.Disable h = tt
 argument_is_sent (acts.Write v) h = h
 argument_is_sent (acts.Inc a) h = ltb-true a 4294967296 h
 argument_is_sent (acts.Dec a) h = ltb-true a 4294967296 h
+argument_is_sent (acts.Ins v place) h = and_parts (is_value v) (is_valid_place place) h
+argument_is_sent (acts.Del id) h = h
 
 operation_is_sent : (o : Op) → IsTrue (is_valid o) → IsOperation Two o
 operation_is_sent op.NoOp h = tt
@@ -50,7 +54,7 @@ frame_told n limit m few fit carried =
     let parts = and_parts (list_all (λ e. nat_le e limit) m.tag) (is_valid m.op) carried in
     let each = AllPass-from_list_all (λ e. nat_le e limit) m.tag parts.0 in
     let frame : IsFrame n 0 limit (frame_of Two n 0 m) m =
-    (Two, record { in_epoch = tt; fits = fit; within = λ i d b. leb-true (slice_index_or m.tag i d) limit (each i d b); operation = operation_is_sent m.op parts.1; spelled = refl }) in
+    (Two, record { in_epoch = tt; fits = fit; within = λ i d b. leb-true (slice_index_or m.tag i d) limit (each i d b); code = op_code_most m.op; operation = operation_is_sent m.op parts.1; spelled = refl }) in
     frames_are_read n 0 limit (lit< tt) few (frame_of Two n 0 m) m frame
 
 -- ---- its length
@@ -67,7 +71,11 @@ short_value bytes h = short_text 4096 bytes (and_parts (is_short 4096 bytes) (li
 length-text : (bytes : List ℕ) → length (text_field Two bytes) ≡ length bytes + 2
 length-text bytes = omega (arith)
 
-short_argument : (act : Act) → IsTrue (is_valid_act act) → length (argument_field Two act) ≤ 4098
+short_place : (place : Option ElementId) → length (place_field place) ≤ 10
+short_place None = omega arith
+short_place (Some id) = omega arith
+
+short_argument : (act : Act) → IsTrue (is_valid_act act) → length (argument_field Two act) ≤ 4108
 short_argument (acts.Add v) h = omega (arith, short_value v h, length-text v)
 short_argument (acts.Rmv v) h = omega (arith, short_value v h, length-text v)
 short_argument acts.Clear h = omega arith
@@ -76,15 +84,18 @@ short_argument acts.Disable h = omega arith
 short_argument (acts.Write v) h = omega (arith, short_value v h, length-text v)
 short_argument (acts.Inc a) h = omega arith
 short_argument (acts.Dec a) h = omega arith
+short_argument (acts.Ins v place) h =
+    omega (arith, short_value v (and_parts (is_value v) (is_valid_place place) h).0, length-text v, short_place place, length-append (text_field Two v) (place_field place))
+short_argument (acts.Del id) h = omega arith
 
-short_operation : (o : Op) → IsTrue (is_valid o) → length (operation_fields Two o) ≤ 4132
+short_operation : (o : Op) → IsTrue (is_valid o) → length (operation_fields Two o) ≤ 4142
 short_operation op.NoOp h = omega arith
 short_operation (op.Update u) h =
     let parts = and_parts (is_key u.object.key) (is_valid_act u.act) h in
     omega (arith, short_key u.object.key parts.0, length-text u.object.key, short_argument u.act parts.1, length-append (text_field Two u.object.key) (argument_field Two u.act))
 
 -- a frame in a store of at most 16 members
-pub frame_short : (n : ℕ) (m : Message) → n ≤ 16 → IsTrue (fits n m) → IsTrue (is_valid m.op) → length (frame_of Two n 0 m) ≤ 4204
+pub frame_short : (n : ℕ) (m : Message) → n ≤ 16 → IsTrue (fits n m) → IsTrue (is_valid m.op) → length (frame_of Two n 0 m) ≤ 4214
 frame_short n m few fit valid =
     let parts = and_parts (length m.tag == n) (nat_lt m.origin n) (and_parts ((length m.tag == n) && nat_lt m.origin n) (nat_lt 0 (number m)) fit).0 in
     let members : length m.tag ≡ n = eqb-true (length m.tag) n parts.0 in
@@ -104,7 +115,7 @@ module _ (n w limit me : ℕ) (s : State) (m : Message) (few : n ≤ 16) (small 
   read : frame_read n 0 limit (frame_of Two n 0 m) ≡ Ok m
   read = frame_told n limit m small fit carried
 
-  short : length (frame_of Two n 0 m) ≤ 4204
+  short : length (frame_of Two n 0 m) ≤ 4214
   short = frame_short n m few fit (and_parts (list_all (λ e. nat_le e limit) m.tag) (is_valid m.op) carried).1
 
   by_rule : (o : Op) → s.history.present.n ≡ n → s.history.present.me ≡ me → RuleGives n w limit me s.history.present.messages m o → notes_sent w limit s o ≡ Sent m ∷ []

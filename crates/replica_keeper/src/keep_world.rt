@@ -1,9 +1,10 @@
 //! A world of durable replicas over memory, which can be stopped.
 
 ghost use Rattle.std.specs.Prelude.{◌≡◌, ◌≢◌, ◌↔◌, ◌<◌, false, true, length, map, IsTrue, IfOk, OnOk, OnErr, IsErrOf};
+ghost use Rattle.op_base.specs.declared.name.Kind.TheVariants as kinds;
 ghost use Rattle.replica_core.specs.Numbers.{are_numbers};
 ghost use Rattle.causal_model.specs.Sending.{is_sent, is_beat};
-ghost use Rattle.world_model.specs.Showing.{answer_at, log_at, entries_at, items_at, stable_at, seen_at};
+ghost use Rattle.world_model.specs.Showing.{answer_at, list_ids_at, tombs_at, log_at, entries_at, items_at, stable_at, seen_at};
 ghost use Rattle.world_model.specs.Stops.{PlainKeep, keep_opening, keep_local_at, keep_beat_at, keep_give_at, keep_stop_at};
 ghost use Rattle.world_model.specs.World.{takes_frame};
 ghost use Rattle.replica_keeper.specs.ShowsKeep.{ShowsKeep};
@@ -13,7 +14,9 @@ use crate::steady::{
     no_beat, no_local, no_receive, offer_frame, open_replicas, restart, send, send_noop,
 };
 use causal_model::{Beat, ItemView, Local, Receive};
-use op_base::{Answer, IdList, MessageId, NoMemory, ObjectId, Tag, Update, updates_are_valid};
+use op_base::{
+    Answer, ElementIdList, IdList, MessageId, NoMemory, ObjectId, Tag, Update, updates_are_valid,
+};
 use replica_core::{CreateFault, are_numbers};
 use replica_node::{Journal, Node};
 use std::alloc::Global;
@@ -155,6 +158,37 @@ impl KeepWorld {
         let answer = self.node(r).answer(alloc, object);
         self.ended = answer.is_err();
         answer
+    }
+
+    /// The ids of a list's elements at replica `r`, in the list's order.
+    pub fn list_ids(
+        &mut self,
+        alloc: Global,
+        r: u8,
+        object: &ObjectId,
+    ) -> Result<ElementIdList, NoMemory>
+        requires of { r < length self.old.replicas.items }
+        requires goes_on { self.old.ended ≡ false }
+        requires kind { object.now.kind ≡ kinds.List }
+        ensures ids { (keep : PlainKeep) → Shown self.old keep → IfOk result (λ ids. ids ≡ list_ids_at keep.world r object.now) }
+        ensures stays { (keep : PlainKeep) → Shown self.old keep → OnOk result (Shown self.new keep) }
+        ensures ended { OnErr result (self.new.ended ≡ true) }
+        ensures goes_on { OnOk result (self.new.ended ≡ false) }
+        ensures members { length self.new.replicas.items ≡ length self.old.replicas.items }
+    {
+        let ids = self.node(r).list_ids(alloc, object);
+        self.ended = ids.is_err();
+        ids
+    }
+
+    /// How many elements of a list replica `r` keeps that it doesn't show. It takes no memory.
+    pub fn tombs(&self, r: u8, object: &ObjectId) -> usize
+        requires of { r < length self.now.replicas.items }
+        requires goes_on { self.now.ended ≡ false }
+        requires kind { object.now.kind ≡ kinds.List }
+        ensures { (keep : PlainKeep) → Shown self.now keep → result ≡ tombs_at keep.world r object.now }
+    {
+        self.node(r).tombs(object)
     }
 
     /// The ids of the log of replica `r`, oldest first.

@@ -168,12 +168,22 @@ pub(crate) fn restart(
     let keeper = stopped.stop().crash(bytes);
     match Durable::start(alloc, me, n, w, limit, keeper) {
         Ok(it) => {
-            let count = it.node().map_or(0, |node| node.places());
+            let count = note_count(&it);
             *replica = it;
             Ok(count)
         }
         // The numbers are right, what is left is read without a fault, and no call of the keeper fails.
         Err((fault, _)) => Err(want_of_memory(fault)),
+    }
+}
+
+/// How many notes a durable replica has: none where it's closed.
+fn note_count(it: &Durable<SteadyKeeper>) -> u64
+    ensures { result ≡ length (notes_in it.now.node) }
+{
+    match it.node() {
+        Some(node) => node.places(),
+        None => 0,
     }
 }
 

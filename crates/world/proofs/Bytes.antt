@@ -25,7 +25,7 @@ use Rattle.world_model.specs.declared.outcome.RawGot.TheVariants as raw
 use Rattle.world.specs.Shows.{NotedNode, Shows}
 use Rattle.world.specs.Steps.{SameNode, raw_noting_of, raw_noting, raw_got}
 use Rattle.world.proofs.Follow.{Comes}
-use Rattle.world.proofs.Givings.{frame_is_carried}
+use Rattle.world_model.proofs.Commands.{frame_is_carried}
 use Rattle.world.proofs.Nodes.{StandsAt, state_shown, n_shown, limit_shown}
 use Rattle.world.proofs.Replies.{Notes, replies_nothing, replies_offer}
 
@@ -79,5 +79,5 @@ module _ (nodes : List NotedNode) (rows : List (List (List ℕ))) (plain : Plain
     by (Ok m) e =
         let epoch = epoch_of (replica_of plain r).history in
         let frame = read_is_a_frame (size_of plain) epoch plain.limit bytes m (bytes_are_small bytes fit) e in
-        replies_offer nodes rows plain shows r node stands left same raw.NoMemory is_frame (λ (got : Receive). raw.Got got) (raw_noting node.first node.inner.n node.inner.epoch node.inner.w node.inner.limit bytes) m answer frame.1.fits (frame_is_carried (size_of plain) epoch plain.limit bytes m frame)
+        replies_offer nodes rows plain shows r node stands left same raw.NoMemory is_frame (λ (got : Receive). raw.Got got) (raw_noting node.first node.inner.n node.inner.epoch node.inner.w node.inner.limit bytes) m answer frame.1.fits (frame_is_carried (size_of plain) epoch plain.limit bytes m frame).1
         (ap (raw_noting_of node.first node.inner.w node.journal.notes) (sym (read_shown bytes) ∙ e)) follows

@@ -2,13 +2,13 @@
 use Rattle.std.proofs.Common.{◌≡◌, ◌≢◌, ℕ, ◌<◌, ◌≤◌, ◌-◌, ◌==◌, Bool, true, false, IsTrue, List, [], length, map, slice_index_or, slice_set, nat_le, Some, None, Option, inl, inr, refl, sym, ap, subst, ◌∙◌, if◌then◌else◌, arith}
 use Rattle.std.specs.Prelude.{slice_get}
 use Rattle.std.specs.List.{list_all}
-use Rattle.std.proofs.lemmas.Bool.{and_parts, and_from, eqb-true, leb-true, le-leb, lt-ltb, ltb-true}
+use Rattle.std.proofs.lemmas.Bool.{and_parts, eqb-true, leb-true, ltb-true}
 use Rattle.std.proofs.lemmas.List.{length-map, get_or-map}
 use Rattle.std.proofs.lemmas.List.Elements.{All-get_or}
-use Rattle.std.proofs.lemmas.List.Sums.{AllPass-from_list_all, list_all-from_AllPass}
+use Rattle.std.proofs.lemmas.List.Sums.{AllPass-from_list_all}
 use Rattle.std.proofs.lemmas.Option.{slice_get_cases, slice_get_past}
 use Rattle.op_base.specs.Message.{fits, number}
-use Rattle.op_base.specs.Valid.{is_valid, is_valid_act}
+use Rattle.op_base.specs.Valid.{is_valid, is_valid_act, is_valid_place}
 use Rattle.op_base.specs.Name.{is_key, is_value}
 use Rattle.op_base.specs.declared.message.Message.{Message}
 use Rattle.op_base.specs.declared.operation.Act.{Act}
@@ -18,8 +18,8 @@ use Rattle.op_base.specs.declared.operation.Op.TheVariants as op
 use Rattle.causal_model.specs.Counts.{is_carried}
 use Rattle.causal_model.specs.Early.{has_id}
 use Rattle.causal_model.proofs.Finds.{found}
-use Rattle.frame_codec.specs.Grammar.{frame_of, IsArgument, IsOperation, is_carried as carries_length, IsFrame}
-use Rattle.frame_codec.specs.declared.version.Version.{Version}
+use Rattle.frame_codec.specs.Grammar.{frame_of, IsArgument, IsOperation, IsFrame}
+use Rattle.frame_codec.proofs.Codes.{op_code_most}
 use Rattle.frame_codec.specs.declared.version.Version.TheVariants.{Two}
 use Rattle.causal_model.specs.declared.outcome.Receive.{Receive}
 use Rattle.causal_model.specs.declared.outcome.Receive.TheVariants as receive
@@ -46,6 +46,8 @@ argument_is_sent acts.Disable h = tt
 argument_is_sent (acts.Write v) h = h
 argument_is_sent (acts.Inc a) h = ltb-true a 4294967296 h
 argument_is_sent (acts.Dec a) h = ltb-true a 4294967296 h
+argument_is_sent (acts.Ins v place) h = and_parts (is_value v) (is_valid_place place) h
+argument_is_sent (acts.Del id) h = h
 
 operation_is_sent : (o : Op) → IsTrue (is_valid o) → IsOperation Two o
 operation_is_sent op.NoOp h = tt
@@ -56,27 +58,7 @@ frame_is_sent : (n epoch limit : ℕ) (m : Message) → IsTrue (fits n m) → Is
 frame_is_sent n epoch limit m fit carried =
     let parts = and_parts (list_all (λ e. nat_le e limit) m.tag) (is_valid m.op) carried in
     let each = AllPass-from_list_all (λ e. nat_le e limit) m.tag parts.0 in
-    (Two, record { in_epoch = tt; fits = fit; within = λ i d b. leb-true (slice_index_or m.tag i d) limit (each i d b); operation = operation_is_sent m.op parts.1; spelled = refl })
-
--- ---- what comes as a frame can be carried
-
-argument_is_valid : (version : Version) (act : Act) → IsArgument version act → is_valid_act act ≡ true
-argument_is_valid version (acts.Add v) h = (and_parts (carries_length version (length v)) (is_value v) h).1
-argument_is_valid version (acts.Rmv v) h = (and_parts (carries_length version (length v)) (is_value v) h).1
-argument_is_valid version acts.Clear h = refl
-argument_is_valid version acts.Enable h = refl
-argument_is_valid version acts.Disable h = refl
-argument_is_valid version (acts.Write v) h = (and_parts (carries_length version (length v)) (is_value v) h).1
-argument_is_valid version (acts.Inc a) h = lt-ltb a 4294967296 (omega (arith, h))
-argument_is_valid version (acts.Dec a) h = lt-ltb a 4294967296 (omega (arith, h))
-
-operation_is_valid : (version : Version) (o : Op) → IsOperation version o → is_valid o ≡ true
-operation_is_valid version op.NoOp h = refl
-operation_is_valid version (op.Update u) h = and_from (is_key u.object.key) (is_valid_act u.act) h.0 (argument_is_valid version u.act h.1)
-
-pub frame_is_carried : (n epoch limit : ℕ) (frame : List ℕ) (m : Message) → IsFrame n epoch limit frame m → IsTrue (is_carried limit m)
-frame_is_carried n epoch limit frame m is =
-    and_from (list_all (λ e. nat_le e limit) m.tag) (is_valid m.op) (list_all-from_AllPass (λ e. nat_le e limit) m.tag (λ i d b. le-leb (slice_index_or m.tag i d) limit (is.1.within i d b))) (operation_is_valid is.0 m.op is.1.operation)
+    (Two, record { in_epoch = tt; fits = fit; within = λ i d b. leb-true (slice_index_or m.tag i d) limit (each i d b); code = op_code_most m.op; operation = operation_is_sent m.op parts.1; spelled = refl })
 
 -- ---- what is given
 

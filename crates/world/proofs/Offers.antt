@@ -1,10 +1,10 @@
 -- Messages that are offered to a node, one after the other.
 use Rattle.std.proofs.Common.{◌≡◌, ℕ, ◌<◌, ◌≤◌, ◌+◌, ◌-◌, List, [], ◌∷◌, ◌++◌, length, take, drop, take-append-drop, map, slice_index_or, slice_set, All, Bool, IsTrue, true, ◌||◌, append-nil, Option, Some, None, Result, Ok, Err, ◌==◌, ◌⊎◌, inl, inr, sym, ap, subst, ◌∙◌, arith}
-use Rattle.std.specs.Prelude.{OnErr, IfOk, slice_get}
+use Rattle.std.specs.Prelude.{OnErr, IfOk, slice_get, is_some}
 use Rattle.std.specs.List.{fold}
 use Rattle.std.proofs.Math.Bool.{or-false, or-true}
 use Rattle.std.proofs.Math.Seq.{take-add}
-use Rattle.std.proofs.lemmas.Bool.{cond-true, le-leb}
+use Rattle.std.proofs.lemmas.Bool.{cond-true, le-leb, false≢true}
 use Rattle.std.proofs.Math.Logic.{∥∥₁_elim}
 use Rattle.std.proofs.Props.{props}
 use Rattle.std.proofs.lemmas.List.{take_more, length-append, get_or_append_left, get_or-append_right}
@@ -62,6 +62,10 @@ module _ (w : ℕ) (so : Offered) (m : Message) where
       ∙ ap (λ xs. let more : Offered = record { state = so.state; steps = xs; kept = so.kept || is_accepted (refused why) } in more) (append-nil so.steps)
       ∙ ap (λ b. let more : Offered = record { state = so.state; steps = so.steps; kept = so.kept || b } in more) (refused_is_not_accepted why)
       ∙ ap (λ b. let more : Offered = record { state = so.state; steps = so.steps; kept = b } in more) (or-false so.kept))
+
+  pub some_refused : (o : Option Refusal) → is_some o ≡ true → refusal_of w so.state m ≡ o → so ≡ offered_more w so m
+  some_refused None some e = absurd (false≢true some)
+  some_refused (Some why) some e = refused_offer why e
 
   -- one that isn't makes the steps of the state with it
   accepted_offer : refusal_of w so.state m ≡ None → offered_more w so m ≡ (let made = steps w (with_early so.state m) in with_steps made.1 so.steps made.0)

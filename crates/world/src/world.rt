@@ -1,19 +1,20 @@
 //! The world, and what it shows of a replica.
 
 ghost use Rattle.std.specs.Prelude.{◌≤◌, ◌≡◌, ◌↔◌, ◌<◌, false, [], length, map, None, IsTrue, IfOk, IsErrOf};
+ghost use Rattle.op_base.specs.declared.name.Kind.TheVariants as kinds;
 ghost use Rattle.causal_model.specs.State.{start};
 ghost use Rattle.replica_core.specs.Numbers.{are_numbers};
 ghost use Rattle.world_model.specs.Offering.{outbox_in};
 ghost use Rattle.honest_worlds.specs.Laws.{honest_noops};
 ghost use Rattle.world_model.specs.Honest.{IsHonest};
 ghost use Rattle.world_model.specs.World.{PlainWorld, opening, replica_of, size_of};
-ghost use Rattle.world_model.specs.Showing.{answer_at, log_at, entries_at, items_at, stable_at, seen_at, noops_at, lags_at};
+ghost use Rattle.world_model.specs.Showing.{answer_at, list_ids_at, tombs_at, log_at, entries_at, items_at, stable_at, seen_at, noops_at, lags_at};
 ghost use Rattle.world.specs.Shows.{Shows};
 ghost use Rattle.world.specs.Steps.{AreNodesOf, are_empty};
 
 use crate::lagging::lagging_at;
 use causal_model::ItemView;
-use op_base::{Answer, ByteList, IdList, NoMemory, ObjectId, Tag};
+use op_base::{Answer, ByteList, ElementIdList, IdList, NoMemory, ObjectId, Tag};
 use replica_core::{CreateFault, are_numbers};
 use replica_node::{Journal, Node};
 use std::alloc::Global;
@@ -58,6 +59,30 @@ impl World {
         ensures { (plain : PlainWorld) → ShowsPlain self.now plain → IfOk result (λ a. a ≡ answer_at plain r object.now) }
     {
         self.nodes[r as usize].answer(alloc, object)
+    }
+
+    /// The ids of a list's elements at replica `r`, in the list's order.
+    pub fn list_ids(
+        &self,
+        alloc: Global,
+        r: u8,
+        object: &ObjectId,
+    ) -> Result<ElementIdList, NoMemory>
+        requires of { r < length self.now.nodes.items }
+        requires kind { object.now.kind ≡ kinds.List }
+        ensures { (plain : PlainWorld) → ShowsPlain self.now plain → IfOk result (λ ids. ids ≡ list_ids_at plain r object.now) }
+    {
+        self.nodes[r as usize].list_ids(alloc, object)
+    }
+
+    /// How many elements of a list replica `r` keeps that it doesn't show: their deletion, or that of one below them, isn't
+    /// stable yet. It takes no memory.
+    pub fn tombs(&self, r: u8, object: &ObjectId) -> usize
+        requires of { r < length self.now.nodes.items }
+        requires kind { object.now.kind ≡ kinds.List }
+        ensures { (plain : PlainWorld) → ShowsPlain self.now plain → result ≡ tombs_at plain r object.now }
+    {
+        self.nodes[r as usize].tombs(object)
     }
 
     /// The ids of the log of replica `r`, oldest first.

@@ -8,7 +8,7 @@ use Rattle.std.proofs.lemmas.List.Folds.{list_any-append}
 use Rattle.std.proofs.lemmas.List.Sums.{list_all-from_AllPass}
 use Rattle.op_base.specs.Message.{fits}
 use Rattle.op_base.specs.Name.{is_key, is_value}
-use Rattle.op_base.specs.Valid.{is_valid_act, is_valid}
+use Rattle.op_base.specs.Valid.{is_valid_place, is_valid_act, is_valid}
 use Rattle.op_base.specs.declared.message.Message.{Message}
 use Rattle.op_base.specs.declared.operation.Act.{Act}
 use Rattle.op_base.specs.declared.operation.Act.TheVariants as acts
@@ -140,13 +140,15 @@ argument_is_valid version acts.Disable h = refl
 argument_is_valid version (acts.Write v) h = (and_parts (carries_length version (length v)) (is_value v) h).1
 argument_is_valid version (acts.Inc a) h = lt-ltb a 4294967296 (omega (arith, h))
 argument_is_valid version (acts.Dec a) h = lt-ltb a 4294967296 (omega (arith, h))
+argument_is_valid version (acts.Ins v place) h = and_from (is_value v) (is_valid_place place) (and_parts (carries_length version (length v)) (is_value v) h.0).1 h.1
+argument_is_valid version (acts.Del id) h = h
 
 operation_is_valid : (version : Version) (o : Op) → IsOperation version o → is_valid o ≡ true
 operation_is_valid version op.NoOp h = refl
 operation_is_valid version (op.Update u) h = and_from (is_key u.object.key) (is_valid_act u.act) h.0 (argument_is_valid version u.act h.1)
 
 -- a message of a frame fits the store and can be carried there
-frame_is_carried : (n epoch limit : ℕ) (bytes : List ℕ) (m : Message) → IsFrame n epoch limit bytes m → IsTrue (fits n m) × IsTrue (is_carried limit m)
+pub frame_is_carried : (n epoch limit : ℕ) (bytes : List ℕ) (m : Message) → IsFrame n epoch limit bytes m → IsTrue (fits n m) × IsTrue (is_carried limit m)
 frame_is_carried n epoch limit bytes m frame = (
   frame.1.fits,
   and_from (list_all (λ e. nat_le e limit) m.tag) (is_valid m.op) (list_all-from_AllPass (λ e. nat_le e limit) m.tag (λ i d l. le-leb (get_or m.tag i d) limit (frame.1.within i d l))) (operation_is_valid frame.0 m.op frame.1.operation),

@@ -6,7 +6,10 @@ use Rattle.op_base.specs.Timestamp.{entry}
 use Rattle.op_base.specs.declared.message.Message.{Message}
 use Rattle.op_base.specs.declared.name.ObjectId.{ObjectId}
 use Rattle.op_base.specs.declared.outcome.Answer.{Answer}
+use Rattle.op_base.specs.declared.tag.ElementId.{ElementId}
 use Rattle.op_base.specs.declared.tag.MessageId.{MessageId}
+use Rattle.causal_model.specs.Elements.{list_ids}
+use Rattle.causal_model.specs.KeptElements.{tombs_of}
 use Rattle.causal_model.specs.Log.{log_of}
 use Rattle.causal_model.specs.Counts.{members}
 use Rattle.causal_model.specs.History.{events}
@@ -20,6 +23,13 @@ use Rattle.world_model.specs.World.{PlainWorld, replica_of}
 -- what an object is at a replica
 abbrev pub answer_at : PlainWorld → ℕ → ObjectId → Answer
 answer_at world r object = answer object (events (replica_of world r).history)
+
+-- the ids of a list's elements at a replica, in its order, and how many are kept that aren't shown
+abbrev pub list_ids_at : PlainWorld → ℕ → ObjectId → List ElementId
+list_ids_at world r object = list_ids object (events (replica_of world r).history)
+
+abbrev pub tombs_at : PlainWorld → ℕ → ObjectId → ℕ
+tombs_at world r object = tombs_of (replica_of world r).history object
 
 -- the ids of its log, oldest first
 abbrev pub log_at : PlainWorld → ℕ → List MessageId

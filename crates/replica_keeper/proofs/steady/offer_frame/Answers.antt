@@ -5,7 +5,8 @@ use Rattle.causal_model.specs.Journal.{receive_notes}
 use Rattle.causal_model.specs.Receiving.{refused, receive_by, receive_rule, refusal_by_id}
 use Rattle.causal_model.specs.declared.outcome.Receive.TheVariants as receive
 use Rattle.world_model.specs.World.{wants_frame}
-use Rattle.world.proofs.Givings.{frame_is_carried, accepted_is_read}
+use Rattle.world_model.proofs.Commands.{frame_is_carried}
+use Rattle.world.proofs.Givings.{accepted_is_read}
 use Rattle.replica_keeper.specs.Called.{state_in, synced_by, HasNoted, ComesTo}
 use Rattle.replica_keeper.proofs.Calling.{refused_by_id, receive_is_no_send, received_wants_none, nothing_noted}
 use Rattle.replica_keeper.proofs.Showing.{state_in_is}
@@ -26,7 +27,7 @@ returns c = λ m is.
     inl (c.answer.ensures ∙ sym told, subst (λ t. HasNoted it it (receive_notes m t)) (sym told) (nothing_noted it m c.in-Some-known.refusal c.requires.open))
 
 pub receive-requires-clause-carried : goal.receive-requires-clause-carried
-receive-requires-clause-carried c = frame_is_carried c.args.replica.now.n 0 c.args.replica.now.limit c.args.frame.now c.in-Ok.message c.in-Ok.ensures.found
+receive-requires-clause-carried c = (frame_is_carried c.args.replica.now.n 0 c.args.replica.now.limit c.args.frame.now c.in-Ok.message c.in-Ok.ensures.found).1
 
 pub returns-in-Done : goal.returns-in-Done
 returns-in-Done c = λ m is.

@@ -5,14 +5,14 @@ use Rattle.world_model.specs.declared.outcome.RawGot.{RawGot}
 use Rattle.world_model.specs.declared.outcome.RawGot.TheVariants as raw
 use Rattle.world.specs.Steps.{raw_noting}
 use Rattle.world.proofs.Bytes.{read_is_told}
-use Rattle.world.proofs.Givings.{frame_is_carried}
+use Rattle.world_model.proofs.Commands.{frame_is_carried}
 use Rattle.world.proofs.Nodes.{epoch_is_low, limit_is_small}
 use Rattle.world.proofs.Replies.{Notes}
 use Rattle.world.proofs.Asking.{raw_is_refused}
 use Rattle.world.proofs.giving.offer_bytes.Goals as goal
 
 pub receive-requires-clause-carried : goal.receive-requires-clause-carried
-receive-requires-clause-carried c = frame_is_carried c.args.node.now.inner.n c.args.node.now.inner.epoch c.args.node.now.inner.limit c.args.bytes.now c.in-Ok.message c.in-Ok.ensures.found
+receive-requires-clause-carried c = (frame_is_carried c.args.node.now.inner.n c.args.node.now.inner.epoch c.args.node.now.inner.limit c.args.bytes.now c.in-Ok.message c.in-Ok.ensures.found).1
 
 pub returns-in-Ok-clause-answer : goal.returns-in-Ok-clause-answer
 returns-in-Ok-clause-answer c =

@@ -6,12 +6,13 @@ use Rattle.causal_model.specs.declared.outcome.Receive.TheVariants as receive
 use Rattle.replica_node.specs.Rules.{noting}
 use Rattle.world_model.specs.World.{wants_frame}
 use Rattle.world.proofs.Follow.{comes_where}
-use Rattle.world.proofs.Givings.{frame_is_carried, accepted_is_read}
+use Rattle.world_model.proofs.Commands.{frame_is_carried}
+use Rattle.world.proofs.Givings.{accepted_is_read}
 use Rattle.world.proofs.Replies.{Notes}
 use Rattle.world.proofs.giving.offer_frame.Goals as goal
 
 pub receive-requires-clause-carried : goal.receive-requires-clause-carried
-receive-requires-clause-carried c = frame_is_carried c.args.node.now.inner.n c.args.node.now.inner.epoch c.args.node.now.inner.limit c.args.frame.now c.in-Ok.message c.in-Ok.ensures.found
+receive-requires-clause-carried c = (frame_is_carried c.args.node.now.inner.n c.args.node.now.inner.epoch c.args.node.now.inner.limit c.args.frame.now c.in-Ok.message c.in-Ok.ensures.found).1
 
 pub returns-in-Ok-clause-answer : goal.returns-in-Ok-clause-answer
 returns-in-Ok-clause-answer c = λ m is ns there.

@@ -1,14 +1,33 @@
-use Rattle.std.proofs.Common.{rules, ◌≡◌, ◌++◌, ◌∷◌, [], zero, List, None, true, inr, refl, arith, sym, ap, subst, ◌∙◌}
+use Rattle.std.proofs.Common.{rules, ◌≡◌, ◌++◌, ◌∷◌, [], zero, List, Option, None, true, inr, refl, arith, sym, ap, subst, ◌∙◌}
 use Rattle.op_base.specs.declared.outcome.Step.{Step}
+use Rattle.op_base.specs.declared.message.Message.{Message}
 use Rattle.causal_model.specs.Receiving.{refusal_of}
+use Rattle.causal_model.specs.declared.outcome.Refusal.{Refusal}
 use Rattle.causal_model.specs.State.{State}
 use Rattle.replica_core.specs.Rules.{StandsFor}
 use Rattle.replica_core.specs.declared.replica.Replica.{Replica}
 use Rattle.world_model.specs.Offering.{Offered}
-use Rattle.world.specs.Shows.{state_of}
-use Rattle.world.proofs.Offers.{on_err, one_is_accepted}
+use Rattle.world.specs.Shows.{NotedNode, state_of}
+use Rattle.world.specs.Steps.{offered_at}
+use Rattle.world.proofs.Offers.{on_err, some_refused, one_is_accepted}
 use Rattle.world.proofs.Growing.{one_offer}
 use Rattle.world.proofs.offering.offer_one.Goals as goal
+
+-- why a message isn't accepted is told of the node's replica
+told : (node : NotedNode) (replica : Replica) (why : Option Refusal) (m : Message) → replica ≡ node.inner → ((s : State) → StandsFor replica s → why ≡ refusal_of replica.w s m)
+    → (s : State) → StandsFor node.inner s → why ≡ refusal_of node.inner.w s m
+told node replica why m is refused = subst (λ (x : Replica). (s : State) → StandsFor x s → why ≡ refusal_of x.w s m) is refused
+
+pub returns-then-is_some-clause-made : goal.returns-then-is_some-clause-made
+returns-then-is_some-clause-made c =
+    let node = c.args.node.now in
+    some_refused node.inner.w (offered_at node c.args.made.now) c.args.message.now c.refusal.result (sym c.is_some.ensures ∙ c.if-is_some.true) (sym (told node _ c.refusal.result c.args.message.now c.replica.ensures c.refusal.ensures (state_of node) node.stands))
+
+pub accept-requires-clause-unrefused : goal.accept-requires-clause-unrefused
+accept-requires-clause-unrefused c = λ s stands.
+    let node = c.args.node.now in
+    let none : c.refusal.result ≡ None = search rules in
+    ap (refusal_of node.inner.w s) c.in_ok-message.ensures ∙ sym (told node _ c.refusal.result c.args.message.now c.replica.ensures c.refusal.ensures s stands) ∙ none
 
 pub returns-in_err-extend_from_slice-clause-some : goal.returns-in_err-extend_from_slice-clause-some
 returns-in_err-extend_from_slice-clause-some c =
