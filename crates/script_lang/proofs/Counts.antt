@@ -1,17 +1,23 @@
 -- Words that are too few or too many.
-use Rattle.std.proofs.Common.{◌≡◌, ℕ, List, [], ◌∷◌, length, map, refl}
+use Rattle.std.proofs.Common.{◌≡◌, ℕ, ◌≤◌, false, List, [], ◌∷◌, length, map, drop, refl, arith}
 use Rattle.std.specs.Prelude.{Err}
-use Rattle.script_lang.specs.Commands.{do_words, ask_words, raw_words}
+use Rattle.std.proofs.lemmas.Bool.{cond-false}
+use Rattle.script_lang.specs.Acts.{are_few}
+use Rattle.script_lang.specs.Commands.{do_words, ask_words, lone_list, raw_words}
 use Rattle.script_lang.specs.LiveCommands.{client_do_words, client_ask_words}
 use Rattle.script_lang.specs.declared.fault.Fault.TheVariants as fault
 
-pub do-other : {X : Type 0} (f : X → List ℕ) (n : ℕ) (words : List X) → (length words ≡ 3 → ⊥) → (length words ≡ 4 → ⊥) → do_words n (map f words) ≡ Err fault.Words
-do-other f n [] three four = refl
-do-other f n (r ∷ []) three four = refl
-do-other f n (r ∷ o ∷ []) three four = refl
-do-other f n (r ∷ o ∷ p ∷ []) three four = absurd (three refl)
-do-other f n (r ∷ o ∷ p ∷ a ∷ []) three four = absurd (four refl)
-do-other f n (r ∷ o ∷ p ∷ a ∷ b ∷ words) three four = refl
+pub do-other : {X : Type 0} (f : X → List ℕ) (n : ℕ) (words : List X) → (3 ≤ length words → are_few (map f (drop 3 words)) ≡ false) → do_words n (map f words) ≡ Err fault.Words
+do-other f n [] many = refl
+do-other f n (r ∷ []) many = refl
+do-other f n (r ∷ o ∷ []) many = refl
+do-other f n (r ∷ o ∷ p ∷ words) many = cond-false _ _ _ (many (omega arith))
+
+pub list-other : {X : Type 0} (f : X → List ℕ) (n : ℕ) (words : List X) → (length words ≡ 2 → ⊥) → lone_list n (map f words) ≡ Err fault.Words
+list-other f n [] two = refl
+list-other f n (r ∷ []) two = refl
+list-other f n (r ∷ l ∷ []) two = absurd (two refl)
+list-other f n (r ∷ l ∷ a ∷ words) two = refl
 
 pub ask-other : {X : Type 0} (f : X → List ℕ) (n : ℕ) (words : List X) → (length words ≡ 2 → ⊥) → ask_words n (map f words) ≡ Err fault.Words
 ask-other f n [] two = refl
@@ -25,13 +31,11 @@ raw-other f n (r ∷ []) two = refl
 raw-other f n (r ∷ h ∷ []) two = absurd (two refl)
 raw-other f n (r ∷ h ∷ a ∷ words) two = refl
 
-pub client_do-other : {X : Type 0} (f : X → List ℕ) (clients : ℕ) (c : List ℕ) (words : List X) → (length words ≡ 2 → ⊥) → (length words ≡ 3 → ⊥)
+pub client_do-other : {X : Type 0} (f : X → List ℕ) (clients : ℕ) (c : List ℕ) (words : List X) → (2 ≤ length words → are_few (map f (drop 2 words)) ≡ false)
     → client_do_words clients c (map f words) ≡ Err fault.Words
-client_do-other f clients c [] two three = refl
-client_do-other f clients c (o ∷ []) two three = refl
-client_do-other f clients c (o ∷ p ∷ []) two three = absurd (two refl)
-client_do-other f clients c (o ∷ p ∷ a ∷ []) two three = absurd (three refl)
-client_do-other f clients c (o ∷ p ∷ a ∷ b ∷ words) two three = refl
+client_do-other f clients c [] many = refl
+client_do-other f clients c (o ∷ []) many = refl
+client_do-other f clients c (o ∷ p ∷ words) many = cond-false _ _ _ (many (omega arith))
 
 pub client_ask-other : {X : Type 0} (f : X → List ℕ) (clients : ℕ) (c : List ℕ) (words : List X) → (length words ≡ 1 → ⊥)
     → client_ask_words clients c (map f words) ≡ Err fault.Words

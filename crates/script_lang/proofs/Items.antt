@@ -1,5 +1,5 @@
 -- The words of a reply: no one has a space, and each is read as what it says.
-use Rattle.std.proofs.Common.{◌≡◌, ℕ, zero, suc, ◌≤◌, ◌^◌, true, false, not, List, [], ◌∷◌, eqb, map, refl, ap, ◌∙◌, cond, arith}
+use Rattle.std.proofs.Common.{◌≡◌, ℕ, zero, suc, ◌≤◌, ◌^◌, true, false, not, List, [], ◌∷◌, ◌++◌, eqb, map, refl, ap, ◌∙◌, cond, arith}
 use Rattle.std.specs.Prelude.{◌&&◌, ℤ, pos, negsuc, unsigned_abs, IsTrue, All, nat_lt, ◌==◌}
 use Rattle.std.specs.Fmt.{decimal, signed_decimal}
 use Rattle.std.specs.List.{list_all, slice_split}
@@ -16,10 +16,11 @@ use Rattle.op_base.specs.declared.outcome.Answer.TheVariants.{Values, Flag, Sum}
 use Rattle.op_base.specs.declared.outcome.Crook.TheVariants.{Overrun}
 use Rattle.op_base.specs.declared.outcome.Step.{Step}
 use Rattle.op_base.specs.declared.outcome.Step.TheVariants as step
+use Rattle.op_base.specs.declared.tag.ElementId.{ElementId}
 use Rattle.op_base.specs.declared.tag.MessageId.{MessageId}
-use Rattle.script_lang.specs.Replies.{id_word, step_word, answer_words}
-use Rattle.script_lang.specs.Laws.{IsNumber, IsId, IsStep, IsAnswer}
-use Rattle.script_lang.proofs.Parted.{lacks, false_from_not, split-two}
+use Rattle.script_lang.specs.Replies.{id_word, element_word, step_word, answer_words}
+use Rattle.script_lang.specs.Laws.{IsNumber, IsId, IsElement, IsStep, IsAnswer}
+use Rattle.script_lang.proofs.Parted.{lacks, false_from_not, split-two, split-three}
 use Rattle.script_lang.proofs.Decimals.{IsNoDigit, decimal-lacks, decimal-value}
 
 -- ---- how words are read
@@ -37,6 +38,14 @@ id_of_parts (origin ∷ seq ∷ parts) = record { origin = digits_value 10 origi
 
 abbrev pub id_of : List ℕ → MessageId
 id_of word = id_of_parts (slice_split (λ b. eqb b 58) word)
+
+-- an id of an element: its epoch, its member and its number, parted by points
+abbrev element_of_parts : List (List ℕ) → ElementId
+element_of_parts (epoch ∷ origin ∷ seq ∷ parts) = record { epoch = digits_value 10 epoch; origin = digits_value 10 origin; seq = digits_value 10 seq }
+element_of_parts parts = record { epoch = 0; origin = 0; seq = 0 }
+
+abbrev pub element_of : List ℕ → ElementId
+element_of word = element_of_parts (slice_split (λ b. eqb b 46) word)
 
 -- a step: an id, behind an exclamation mark where the message was dropped
 abbrev pub step_of : List ℕ → Step
@@ -63,6 +72,9 @@ no_bang b low high = grind (arith, nat_tests)
 no_minus : IsNoDigit 45
 no_minus b low high = grind (arith, nat_tests)
 
+no_point : IsNoDigit 46
+no_point b low high = grind (arith, nat_tests)
+
 no_colon : IsNoDigit 58
 no_colon b low high = grind (arith, nat_tests)
 
@@ -76,6 +88,13 @@ number-lacks n h = decimal-lacks 32 n no_space (omega arith)
 pub id-lacks : (c : ℕ) (id : MessageId) → IsNoDigit c → not (eqb 58 c) ≡ true → IsId id → lacks c (id_word id) ≡ true
 id-lacks c id none colon h =
     rw (list_all-append (λ b. not (eqb b c)) (decimal id.origin) (58 ∷ decimal id.seq), decimal-lacks c id.origin none (omega arith), colon, decimal-lacks c id.seq none (omega arith)) refl
+
+pub element-lacks : (id : ElementId) → IsElement id → lacks 32 (element_word id) ≡ true
+element-lacks id h =
+    let epoch = number-lacks id.epoch h.0 in
+    let origin = number-lacks id.origin h.1 in
+    let seq = number-lacks id.seq h.2 in
+    rw (list_all-append (λ b. not (eqb b 32)) (decimal id.epoch ++ 46 ∷ decimal id.origin) (46 ∷ decimal id.seq), list_all-append (λ b. not (eqb b 32)) (decimal id.epoch) (46 ∷ decimal id.origin), epoch, origin, seq) refl
 
 pub step-lacks : (s : Step) → IsStep s → lacks 32 (step_word s) ≡ true
 step-lacks (step.Took id) h = id-lacks 32 id no_space refl h
@@ -122,6 +141,13 @@ answer-lacks (Sum sum) h = rw (sum-lacks sum h) refl
 pub id_of-word : (id : MessageId) → IsId id → id_of (id_word id) ≡ id
 id_of-word id h =
     rw (split-two 58 (decimal id.origin) (decimal id.seq) refl (decimal-lacks 58 id.origin no_colon (omega arith)) (decimal-lacks 58 id.seq no_colon (omega arith)), decimal-value id.origin (omega arith), decimal-value id.seq (omega arith)) refl
+
+pub element_of-word : (id : ElementId) → IsElement id → element_of (element_word id) ≡ id
+element_of-word id h =
+    let epoch = decimal-lacks 46 id.epoch no_point (omega arith) in
+    let origin = decimal-lacks 46 id.origin no_point (omega arith) in
+    let seq = decimal-lacks 46 id.seq no_point (omega arith) in
+    rw (split-three 46 (decimal id.epoch) (decimal id.origin) (decimal id.seq) refl epoch origin seq, decimal-value id.epoch (omega arith), decimal-value id.origin (omega arith), decimal-value id.seq (omega arith)) refl
 
 -- what doesn't begin with the mark was taken
 took-step : (word : List ℕ) → lacks 33 word ≡ true → step_of word ≡ step.Took (id_of word)

@@ -5,6 +5,7 @@ pub mod FirstWords
 pub mod SevenWords
 pub mod Counts
 pub mod Values
+pub mod Ids
 pub mod Memories
 pub mod Ample
 mod Parted

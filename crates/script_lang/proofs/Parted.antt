@@ -1,5 +1,5 @@
 -- A text of parts with one byte between them tells its parts, where no part has the byte.
-use Rattle.std.proofs.Common.{◌≡◌, ℕ, Bool, true, false, not, List, [], ◌∷◌, ◌++◌, eqb, refl, ap, ◌∙◌}
+use Rattle.std.proofs.Common.{◌≡◌, ℕ, Bool, true, false, not, List, [], ◌∷◌, ◌++◌, append_assoc, eqb, refl, ap, ◌∙◌}
 use Rattle.std.specs.List.{All, list_all, slice_split}
 use Rattle.std.proofs.lemmas.Bool.{and_parts}
 use Rattle.std.proofs.lemmas.List.{append-nil}
@@ -25,6 +25,13 @@ lacks-All c (b ∷ xs) h =
 -- a part, the byte and one part more
 pub split-two : (c : ℕ) (xs ys : List ℕ) → eqb c c ≡ true → lacks c xs ≡ true → lacks c ys ≡ true → slice_split (λ b. eqb b c) (xs ++ c ∷ ys) ≡ xs ∷ ys ∷ []
 split-two c xs ys is h k = slice_split_at _ xs c ys (lacks-All c xs h) is ∙ ap (λ parts. xs ∷ parts) (slice_split_none _ ys (lacks-All c ys k))
+
+-- the same of three parts
+pub split-three : (c : ℕ) (xs ys zs : List ℕ) → eqb c c ≡ true → lacks c xs ≡ true → lacks c ys ≡ true → lacks c zs ≡ true
+    → slice_split (λ b. eqb b c) (xs ++ c ∷ ys ++ c ∷ zs) ≡ xs ∷ ys ∷ zs ∷ []
+split-three c xs ys zs is h k l =
+    ap (slice_split (λ b. eqb b c)) (append_assoc xs (c ∷ ys) (c ∷ zs)) ∙ slice_split_at _ xs c (ys ++ c ∷ zs) (lacks-All c xs h) is
+    ∙ ap (λ parts. xs ∷ parts) (split-two c ys zs is k l)
 
 -- the words of a line
 pub split-joined : (word : List ℕ) (words : List (List ℕ)) → list_all (lacks 32) (word ∷ words) ≡ true → slice_split (λ b. eqb b 32) (joined (word ∷ words)) ≡ word ∷ words

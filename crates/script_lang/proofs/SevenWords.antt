@@ -11,7 +11,7 @@ use Rattle.script_lang.specs.Commands.{verb_of, words_behind, command_words, com
 use Rattle.script_lang.specs.LiveCommands.{live_words, live_command_of}
 use Rattle.script_lang.specs.LiveCommands as live
 use Rattle.script_lang.specs.declared.command.Verb.{Verb}
-use Rattle.script_lang.specs.declared.command.Verb.TheVariants.{Do, Ask, Beat, Give, Resend, Raw, Settle, Members, Log, Size, Stable, Seen, Noops, Lags, Stop}
+use Rattle.script_lang.specs.declared.command.Verb.TheVariants.{Do, Ask, Ids, Tombs, Beat, Give, Resend, Raw, Settle, Members, Log, Size, Stable, Seen, Noops, Lags, Stop}
 use Rattle.script_lang.specs.declared.fault.Fault.TheVariants as fault
 use Rattle.script_lang.specs.declared.header.Mode.{Mode}
 use Rattle.script_lang.specs.declared.live.LiveCommand.{LiveCommand}
@@ -32,6 +32,8 @@ too_many : (n : ℕ) (verb : Option Verb) (a b c d e f : List ℕ) (words : List
 too_many n None a b c d e f words = refl
 too_many n (Some Do) a b c d e f words = refl
 too_many n (Some Ask) a b c d e f words = refl
+too_many n (Some Ids) a b c d e f words = refl
+too_many n (Some Tombs) a b c d e f words = refl
 too_many n (Some Beat) a b c d e f words = refl
 too_many n (Some Give) a b c d e f words = refl
 too_many n (Some Resend) a b c d e f words = refl

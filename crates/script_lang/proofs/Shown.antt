@@ -11,12 +11,12 @@ use Rattle.op_base.specs.declared.outcome.Answer.TheVariants.{Values, Flag, Sum}
 use Rattle.op_base.specs.declared.outcome.Step.{Step}
 use Rattle.op_base.specs.declared.outcome.Step.TheVariants as step
 use Rattle.script_lang.specs.declared.reply.Reply.{Reply}
-use Rattle.script_lang.specs.declared.reply.Reply.TheVariants.{Sent, Busy, End, Quiet, Held, Is, Unsent, Old, Again, Far, Kept, Took, Nothing, BadFrame, Settled, Unsettled, Epoch, Last, Log, Size, Stable, Seen, Noops, Lags, Open, Bad}
-use Rattle.script_lang.specs.Replies.{joined, id_word, step_word, answer_words, reply_words, reply_line}
-use Rattle.script_lang.specs.Laws.{IsId, IsStep, IsTag, IsAnswer, IsReply, HaveOneForm, cause_of, AreAlike}
+use Rattle.script_lang.specs.declared.reply.Reply.TheVariants.{Sent, Busy, End, Quiet, Held, Is, Unsent, Old, Again, Far, Kept, Took, Nothing, BadFrame, Settled, Unsettled, Epoch, Last, Log, Size, Stable, Seen, Noops, Lags, Ids, Tombs, Open, Bad}
+use Rattle.script_lang.specs.Replies.{joined, id_word, element_word, step_word, answer_words, reply_words, reply_line}
+use Rattle.script_lang.specs.Laws.{IsId, IsElement, IsStep, IsTag, IsAnswer, IsReply, HaveOneForm, cause_of, AreAlike}
 use Rattle.script_lang.proofs.Parted.{lacks, split-joined}
 use Rattle.script_lang.proofs.Decimals.{decimal-lacks, decimal-value}
-use Rattle.script_lang.proofs.Items.{shown_step, id_of, step_of, sum_of, no_space, no_n, number-lacks, id-lacks, step-lacks, items-lack, numbers-lack, answer-lacks, items-read, numbers-read, id_of-word, step_of-word, sum_of-word}
+use Rattle.script_lang.proofs.Items.{shown_step, id_of, element_of, step_of, sum_of, no_space, no_n, number-lacks, id-lacks, element-lacks, step-lacks, items-lack, numbers-lack, answer-lacks, items-read, numbers-read, id_of-word, element_of-word, step_of-word, sum_of-word}
 
 -- ---- how a line is read
 
@@ -66,6 +66,8 @@ reply_as word words =
     else if same_text word (codes "seen") then Seen (length words) (map (λ w. digits_value 10 w) words)
     else if same_text word (codes "noops") then Noops (digits_value 10 (first words))
     else if same_text word (codes "lags") then Lags (lagging_of (first words))
+    else if same_text word (codes "ids") then Ids (map element_of words)
+    else if same_text word (codes "tombs") then Tombs (digits_value 10 (first words))
     else if same_text word (codes "open") then Open (digits_value 10 (first words))
     else bad_of words
 
@@ -113,6 +115,10 @@ reply-read (Lags None) h = refl
 reply-read (Lags (Some member)) h =
     line-read (codes "lags") (decimal member ∷ []) _ (rw (number-lacks member h) refl)
     (ap Lags (ap (λ digits. if digits then Some (digits_value 10 (decimal member)) else None) (decimal-lacks 110 member no_n (omega arith)) ∙ ap Some (decimal-value member (omega arith))))
+reply-read (Ids ids) h =
+    line-read (codes "ids") (map element_word ids) _ (items-lack element_word IsElement element-lacks ids h)
+    (ap Ids (items-read element_word element_of (λ id. id) IsElement element_of-word ids h ∙ map-id ids))
+reply-read (Tombs count) h = line-read (codes "tombs") (decimal count ∷ []) _ (rw (number-lacks count h) refl) (ap Tombs (decimal-value count (omega arith)))
 reply-read (Open count) h = line-read (codes "open") (decimal count ∷ []) _ (rw (number-lacks count h) refl) (ap Open (decimal-value count (omega arith)))
 reply-read (Bad fault) h = line-read (codes "bad") (decimal fault ∷ []) _ (rw (number-lacks fault h) refl) (ap Bad (decimal-value fault (omega arith)))
 reply-read r h = refl

@@ -2,14 +2,15 @@
 use Rattle.std.specs.Prelude.{◌≡◌, ◌⊎◌, ℕ, Bool, true, false, nat_lt, List, [], ◌∷◌, length, Result, Ok, Err, Option, Some, None, codes, if◌then◌else◌}
 use Rattle.std.specs.Option.{option_or}
 use Rattle.op_base.specs.Name.{same_text}
+use Rattle.op_base.specs.declared.name.ObjectId.{ObjectId}
 use Rattle.script_lang.specs.Words.{words_of, is_passed_over}
 use Rattle.script_lang.specs.Fault.{◌>>=◌, most_line_bytes, number_of_fault}
-use Rattle.script_lang.specs.Names.{member_of, object_in, bytes_in, amount_in, size_in}
-use Rattle.script_lang.specs.Acts.{update_in}
+use Rattle.script_lang.specs.Names.{member_of, object_in, list_in, bytes_in, amount_in, size_in}
+use Rattle.script_lang.specs.Acts.{are_few, update_in}
 use Rattle.script_lang.specs.declared.fault.Fault.{Fault}
 use Rattle.script_lang.specs.declared.fault.Fault.TheVariants as fault
 use Rattle.script_lang.specs.declared.command.Command.{Command}
-use Rattle.script_lang.specs.declared.command.Command.TheVariants.{Do, Ask, Beat, Give, Resend, Raw, Settle, Members, Log, Size, Stable, Seen, Noops, Lags, Stop}
+use Rattle.script_lang.specs.declared.command.Command.TheVariants.{Do, Ask, Ids, Tombs, Beat, Give, Resend, Raw, Settle, Members, Log, Size, Stable, Seen, Noops, Lags, Stop}
 use Rattle.script_lang.specs.declared.command.Verb.{Verb}
 use Rattle.script_lang.specs.declared.command.Verb.TheVariants as verbs
 use Rattle.script_lang.specs.declared.command.Line.{Line}
@@ -18,14 +19,14 @@ use Rattle.script_lang.specs.declared.command.Line.TheVariants as lines
 use Rattle.script_lang.specs.declared.header.Mode.{Mode}
 use Rattle.script_lang.specs.declared.header.Mode.TheVariants as mode
 
-abbrev pub do_command : ℕ → List ℕ → List ℕ → List ℕ → Option (List ℕ) → Result Command Fault
-do_command n r object operation argument =
-    member_of n r >>= λ r. update_in object operation argument >>= λ update. Ok (Do r update)
+abbrev pub do_command : ℕ → List ℕ → List ℕ → List ℕ → List (List ℕ) → Result Command Fault
+do_command n r object operation arguments =
+    member_of n r >>= λ r. update_in object operation arguments >>= λ update. Ok (Do r update)
 
--- r object operation, or r object operation argument
+-- r object operation, and at most two arguments
 abbrev pub do_words : ℕ → List (List ℕ) → Result Command Fault
-do_words n (r ∷ object ∷ operation ∷ []) = do_command n r object operation None
-do_words n (r ∷ object ∷ operation ∷ argument ∷ []) = do_command n r object operation (Some argument)
+do_words n (r ∷ object ∷ operation ∷ arguments) =
+    if are_few arguments then do_command n r object operation arguments else Err fault.Words
 do_words n words = Err fault.Words
 
 abbrev pub ask_command : ℕ → List ℕ → List ℕ → Result Command Fault
@@ -35,6 +36,15 @@ ask_command n r object = member_of n r >>= λ r. object_in object >>= λ object.
 abbrev pub ask_words : ℕ → List (List ℕ) → Result Command Fault
 ask_words n (r ∷ object ∷ []) = ask_command n r object
 ask_words n words = Err fault.Words
+
+-- a member, and a list that it is asked of
+abbrev pub asked_list : ℕ → List ℕ → List ℕ → Result (ℕ × ObjectId) Fault
+asked_list n r list = member_of n r >>= λ r. list_in list >>= λ object. Ok (r, object)
+
+-- r list, and nothing behind it
+abbrev pub lone_list : ℕ → List (List ℕ) → Result (ℕ × ObjectId) Fault
+lone_list n (r ∷ list ∷ []) = asked_list n r list
+lone_list n words = Err fault.Words
 
 abbrev pub give_command : ℕ → List ℕ → List ℕ → List ℕ → Result Command Fault
 give_command n r k s = member_of n r >>= λ r. member_of n k >>= λ k. amount_in s >>= λ s. Ok (Give r k s)
@@ -87,6 +97,8 @@ lone_member n words = Err fault.Words
 abbrev pub has_lone_member : Verb → Bool
 has_lone_member verbs.Do = false
 has_lone_member verbs.Ask = false
+has_lone_member verbs.Ids = false
+has_lone_member verbs.Tombs = false
 has_lone_member verbs.Beat = true
 has_lone_member verbs.Give = false
 has_lone_member verbs.Resend = false
@@ -105,6 +117,8 @@ has_lone_member verbs.Stop = false
 abbrev pub verb_word : Verb → List ℕ
 verb_word verbs.Do = codes "do"
 verb_word verbs.Ask = codes "ask"
+verb_word verbs.Ids = codes "ids"
+verb_word verbs.Tombs = codes "tombs"
 verb_word verbs.Beat = codes "beat"
 verb_word verbs.Give = codes "give"
 verb_word verbs.Resend = codes "resend"
@@ -124,7 +138,7 @@ abbrev pub doing_verbs : List Verb
 doing_verbs = verbs.Do ∷ verbs.Beat ∷ verbs.Give ∷ verbs.Resend ∷ verbs.Raw ∷ verbs.Settle ∷ verbs.Members ∷ verbs.Stop ∷ []
 
 abbrev pub asking_verbs : List Verb
-asking_verbs = verbs.Ask ∷ verbs.Log ∷ verbs.Size ∷ verbs.Stable ∷ verbs.Seen ∷ verbs.Noops ∷ verbs.Lags ∷ []
+asking_verbs = verbs.Ask ∷ verbs.Ids ∷ verbs.Tombs ∷ verbs.Log ∷ verbs.Size ∷ verbs.Stable ∷ verbs.Seen ∷ verbs.Noops ∷ verbs.Lags ∷ []
 
 -- the verb of a list whose word this is
 abbrev pub verb_among : List Verb → List ℕ → Option Verb
@@ -161,6 +175,8 @@ verb_of mode word = verb_in mode (verb_named word)
 abbrev pub verb_words : ℕ → Verb → List (List ℕ) → Result Command Fault
 verb_words n verbs.Do words = do_words n words
 verb_words n verbs.Ask words = ask_words n words
+verb_words n verbs.Ids words = lone_list n words >>= λ asked. Ok (Ids asked.0 asked.1)
+verb_words n verbs.Tombs words = lone_list n words >>= λ asked. Ok (Tombs asked.0 asked.1)
 verb_words n verbs.Beat words = lone_member n words >>= λ r. Ok (Beat r)
 verb_words n verbs.Give words = give_words n words
 verb_words n verbs.Resend words = resend_words n words

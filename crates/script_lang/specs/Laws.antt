@@ -6,9 +6,10 @@ use Rattle.op_base.specs.declared.outcome.Answer.TheVariants.{Values, Flag, Sum}
 use Rattle.op_base.specs.declared.outcome.Crook.{Crook}
 use Rattle.op_base.specs.declared.outcome.Step.{Step}
 use Rattle.op_base.specs.declared.outcome.Step.TheVariants as step
+use Rattle.op_base.specs.declared.tag.ElementId.{ElementId}
 use Rattle.op_base.specs.declared.tag.MessageId.{MessageId}
 use Rattle.script_lang.specs.declared.reply.Reply.{Reply}
-use Rattle.script_lang.specs.declared.reply.Reply.TheVariants.{Sent, Is, Took, BadFrame, Epoch, Log, Size, Stable, Seen, Noops, Lags, Open, Bad}
+use Rattle.script_lang.specs.declared.reply.Reply.TheVariants.{Sent, Is, Took, BadFrame, Epoch, Log, Size, Stable, Seen, Noops, Lags, Ids, Tombs, Open, Bad}
 use Rattle.script_lang.specs.Replies.{reply_line}
 
 -- ---- which replies can come
@@ -19,6 +20,9 @@ IsNumber n = n < 2 ^ 64
 
 abbrev pub IsId : MessageId → Type 0
 IsId id = IsNumber id.origin × IsNumber id.seq
+
+abbrev pub IsElement : ElementId → Type 0
+IsElement id = IsNumber id.epoch × IsNumber id.origin × IsNumber id.seq
 
 abbrev pub IsStep : Step → Type 0
 IsStep (step.Took id) = IsId id
@@ -46,6 +50,8 @@ IsReply (Stable n tag) = IsTag n tag
 IsReply (Seen n tag) = IsTag n tag
 IsReply (Noops count) = IsNumber count
 IsReply (Lags member) = IfSome member IsNumber
+IsReply (Ids ids) = All IsElement ids
+IsReply (Tombs count) = IsNumber count
 IsReply (Open count) = IsNumber count
 IsReply (Bad fault) = IsNumber fault
 IsReply reply = Unit {0}

@@ -4,7 +4,7 @@ use Rattle.op_base.specs.Name.{same_text}
 use Rattle.script_lang.specs.Words.{words_of, is_passed_over}
 use Rattle.script_lang.specs.Fault.{◌>>=◌, most_line_bytes, number_of_fault}
 use Rattle.script_lang.specs.Names.{member_of, object_in, client_digits}
-use Rattle.script_lang.specs.Acts.{update_in}
+use Rattle.script_lang.specs.Acts.{are_few, update_in}
 use Rattle.script_lang.specs.declared.fault.Fault.{Fault}
 use Rattle.script_lang.specs.declared.fault.Fault.TheVariants as fault
 use Rattle.script_lang.specs.declared.live.LiveCommand.{LiveCommand}
@@ -21,14 +21,14 @@ abbrev pub client_words : ℕ → ℕ → List (List ℕ) → Result LiveCommand
 client_words n clients (c ∷ r ∷ []) = client_command n clients c r
 client_words n clients words = Err fault.Words
 
-abbrev pub client_do : ℕ → List ℕ → List ℕ → List ℕ → Option (List ℕ) → Result LiveCommand Fault
-client_do clients c object operation argument =
-    member_of clients c >>= λ c. update_in object operation argument >>= λ update. Ok (Do c update)
+abbrev pub client_do : ℕ → List ℕ → List ℕ → List ℕ → List (List ℕ) → Result LiveCommand Fault
+client_do clients c object operation arguments =
+    member_of clients c >>= λ c. update_in object operation arguments >>= λ update. Ok (Do c update)
 
--- the words behind a client's do: object operation, or object operation argument
+-- the words behind a client's do: object operation, and at most two arguments
 abbrev pub client_do_words : ℕ → List ℕ → List (List ℕ) → Result LiveCommand Fault
-client_do_words clients c (object ∷ operation ∷ []) = client_do clients c object operation None
-client_do_words clients c (object ∷ operation ∷ argument ∷ []) = client_do clients c object operation (Some argument)
+client_do_words clients c (object ∷ operation ∷ arguments) =
+    if are_few arguments then client_do clients c object operation arguments else Err fault.Words
 client_do_words clients c words = Err fault.Words
 
 abbrev pub client_ask : ℕ → List ℕ → List ℕ → Result LiveCommand Fault

@@ -40,6 +40,8 @@ IsAmple keeps wanted result = IfErr result (λ e. e ≡ NoMemory → IsTrue (tak
 abbrev pub keeps : Command → Bool
 keeps (command.Do r update) = true
 keeps (command.Ask r object) = true
+keeps (command.Ids r object) = true
+keeps (command.Tombs r object) = true
 keeps (command.Beat r) = false
 keeps (command.Give r k s) = false
 keeps (command.Resend r k) = false

@@ -1,5 +1,6 @@
 -- What holds of each command that is read.
-use Rattle.std.specs.Prelude.{ℕ, ◌<◌, ◌≤◌}
+use Rattle.std.specs.Prelude.{◌≡◌, ℕ, ◌<◌, ◌≤◌}
+use Rattle.op_base.specs.declared.name.Kind.TheVariants as kinds
 use Rattle.script_lang.specs.declared.command.Command.{Command}
 use Rattle.script_lang.specs.declared.command.Command.TheVariants as command
 use Rattle.script_lang.specs.declared.command.Line.{Line}
@@ -9,10 +10,12 @@ use Rattle.script_lang.specs.declared.live.LiveCommand.TheVariants as live
 use Rattle.script_lang.specs.declared.live.LiveLine.{LiveLine}
 use Rattle.script_lang.specs.declared.live.LiveLine.TheVariants as live_line
 
--- each member that a command names is below n, and it asks for 1 to 16 members
+-- each member that a command names is below n, it asks for 1 to 16 members, and for the ids and tombs of a list alone
 abbrev pub IsWithin : ℕ → Command → Type 0
 IsWithin n (command.Do r update) = r < n
 IsWithin n (command.Ask r object) = r < n
+IsWithin n (command.Ids r object) = (r < n) × (object.kind ≡ kinds.List)
+IsWithin n (command.Tombs r object) = (r < n) × (object.kind ≡ kinds.List)
 IsWithin n (command.Beat r) = r < n
 IsWithin n (command.Give r k s) = (r < n) × (k < n)
 IsWithin n (command.Resend r k) = (r < n) × (k < n)

@@ -6,9 +6,10 @@ use Rattle.op_base.specs.declared.outcome.Answer.{Answer}
 use Rattle.op_base.specs.declared.outcome.Answer.TheVariants.{Values, Flag, Sum}
 use Rattle.op_base.specs.declared.outcome.Step.{Step}
 use Rattle.op_base.specs.declared.outcome.Step.TheVariants as step
+use Rattle.op_base.specs.declared.tag.ElementId.{ElementId}
 use Rattle.op_base.specs.declared.tag.MessageId.{MessageId}
 use Rattle.script_lang.specs.declared.reply.Reply.{Reply}
-use Rattle.script_lang.specs.declared.reply.Reply.TheVariants.{Sent, Busy, End, Quiet, Held, Is, Unsent, Old, Again, Far, Kept, Took, Nothing, BadFrame, Settled, Unsettled, Epoch, Last, Log, Size, Stable, Seen, Noops, Lags, Open, Bad}
+use Rattle.script_lang.specs.declared.reply.Reply.TheVariants.{Sent, Busy, End, Quiet, Held, Is, Unsent, Old, Again, Far, Kept, Took, Nothing, BadFrame, Settled, Unsettled, Epoch, Last, Log, Size, Stable, Seen, Noops, Lags, Ids, Tombs, Open, Bad}
 
 -- words, each behind a space
 abbrev pub spaced : List (List ℕ) → List ℕ
@@ -23,12 +24,16 @@ joined (word ∷ words) = word ++ spaced words
 abbrev pub id_word : MessageId → List ℕ
 id_word id = decimal id.origin ++ 58 ∷ decimal id.seq
 
+-- an id of an element: the epoch, the member and the number, parted by points
+abbrev pub element_word : ElementId → List ℕ
+element_word id = decimal id.epoch ++ 46 ∷ decimal id.origin ++ 46 ∷ decimal id.seq
+
 -- a step: the id, behind an exclamation mark where the message was dropped
 abbrev pub step_word : Step → List ℕ
 step_word (step.Took id) = id_word id
 step_word (step.Crook id cause) = 33 ∷ id_word id
 
--- the values of a set or register; on or off; or a sum
+-- the values of a set, a register or a list; on or off; or a sum
 abbrev pub answer_words : Answer → List (List ℕ)
 answer_words (Values values) = values
 answer_words (Flag on) = (if on then codes "on" else codes "off") ∷ []
@@ -65,6 +70,8 @@ reply_words (Stable n tag) = codes "stable" ∷ map decimal tag
 reply_words (Seen n tag) = codes "seen" ∷ map decimal tag
 reply_words (Noops count) = codes "noops" ∷ decimal count ∷ []
 reply_words (Lags member) = codes "lags" ∷ lagging_word member ∷ []
+reply_words (Ids ids) = codes "ids" ∷ map element_word ids
+reply_words (Tombs count) = codes "tombs" ∷ decimal count ∷ []
 reply_words (Open count) = codes "open" ∷ decimal count ∷ []
 reply_words (Bad fault) = codes "bad" ∷ decimal fault ∷ []
 

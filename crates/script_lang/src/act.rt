@@ -1,15 +1,15 @@
 //! The acts of each kind, and the updates that words make.
 
-ghost use Rattle.std.specs.Prelude.{◌≡◌, option_copied};
-ghost use Rattle.script_lang.specs.Acts.{operation_word, operation_in, set_act, flag_act, register_act, counter_act, clearable_act, kind_act, update_in};
+ghost use Rattle.std.specs.Prelude.{◌≡◌, map};
+ghost use Rattle.script_lang.specs.Acts.{operation_word, operation_in, set_act, flag_act, register_act, counter_act, clearable_act, list_act, kind_act, are_few, update_in};
 ghost use Rattle.script_lang.specs.Memory.{Reads};
 
 use crate::fault::Fault;
-use crate::name::{read_amount, read_object, read_value};
+use crate::name::{read_amount, read_element, read_object, read_place, read_value};
 use op_base::{Act, Kind, Update};
 use std::alloc::Global;
 
-/// An act without its argument.
+/// An act without its arguments.
 #[derive(Clone, Copy, Debug, PartialEq, Eq)]
 pub enum Operation {
     Add,
@@ -20,6 +20,8 @@ pub enum Operation {
     Write,
     Inc,
     Dec,
+    Ins,
+    Del,
 }
 
 impl Operation {
@@ -36,6 +38,8 @@ impl Operation {
             Operation::Write => b"write",
             Operation::Inc => b"inc",
             Operation::Dec => b"dec",
+            Operation::Ins => b"ins",
+            Operation::Del => b"del",
         }
     }
 }
@@ -53,68 +57,81 @@ fn read_operation(word: &[u8]) -> Result<Operation, Fault>
         b"write" => Ok(Operation::Write),
         b"inc" => Ok(Operation::Inc),
         b"dec" => Ok(Operation::Dec),
+        b"ins" => Ok(Operation::Ins),
+        b"del" => Ok(Operation::Del),
         _ => Err(Fault::Operation),
     }
 }
 
 /// The act of a set.
-fn read_set_act(alloc: Global, operation: Operation, argument: Option<&[u8]>) -> Result<Act, Fault>
-    ensures { Reads (set_act operation (option_copied argument.entry)) result }
+fn read_set_act(alloc: Global, operation: Operation, arguments: &[&[u8]]) -> Result<Act, Fault>
+    ensures { Reads (set_act operation (map (λ word. word.now) arguments.now)) result }
 {
-    match (operation, argument) {
-        (Operation::Add, Some(argument)) => Ok(Act::Add(read_value(alloc, argument)?)),
-        (Operation::Rmv, Some(argument)) => Ok(Act::Rmv(read_value(alloc, argument)?)),
-        (Operation::Clear, None) => Ok(Act::Clear),
+    match (operation, arguments) {
+        (Operation::Add, [argument]) => Ok(Act::Add(read_value(alloc, argument)?)),
+        (Operation::Rmv, [argument]) => Ok(Act::Rmv(read_value(alloc, argument)?)),
+        (Operation::Clear, []) => Ok(Act::Clear),
         _ => Err(Fault::Operation),
     }
 }
 
 /// The act of a flag.
-fn read_flag_act(operation: Operation, argument: Option<&[u8]>) -> Result<Act, Fault>
-    ensures { result ≡ flag_act operation (option_copied argument.entry) }
+fn read_flag_act(operation: Operation, arguments: &[&[u8]]) -> Result<Act, Fault>
+    ensures { result ≡ flag_act operation (map (λ word. word.now) arguments.now) }
 {
-    match (operation, argument) {
-        (Operation::Enable, None) => Ok(Act::Enable),
-        (Operation::Disable, None) => Ok(Act::Disable),
-        (Operation::Clear, None) => Ok(Act::Clear),
+    match (operation, arguments) {
+        (Operation::Enable, []) => Ok(Act::Enable),
+        (Operation::Disable, []) => Ok(Act::Disable),
+        (Operation::Clear, []) => Ok(Act::Clear),
         _ => Err(Fault::Operation),
     }
 }
 
 /// The act of a register.
-fn read_register_act(
-    alloc: Global,
-    operation: Operation,
-    argument: Option<&[u8]>,
-) -> Result<Act, Fault>
-    ensures { Reads (register_act operation (option_copied argument.entry)) result }
+fn read_register_act(alloc: Global, operation: Operation, arguments: &[&[u8]]) -> Result<Act, Fault>
+    ensures { Reads (register_act operation (map (λ word. word.now) arguments.now)) result }
 {
-    match (operation, argument) {
-        (Operation::Write, Some(argument)) => Ok(Act::Write(read_value(alloc, argument)?)),
-        (Operation::Clear, None) => Ok(Act::Clear),
+    match (operation, arguments) {
+        (Operation::Write, [argument]) => Ok(Act::Write(read_value(alloc, argument)?)),
+        (Operation::Clear, []) => Ok(Act::Clear),
         _ => Err(Fault::Operation),
     }
 }
 
 /// The act of a counter.
-fn read_counter_act(operation: Operation, argument: Option<&[u8]>) -> Result<Act, Fault>
-    ensures { result ≡ counter_act operation (option_copied argument.entry) }
+fn read_counter_act(operation: Operation, arguments: &[&[u8]]) -> Result<Act, Fault>
+    ensures { result ≡ counter_act operation (map (λ word. word.now) arguments.now) }
 {
-    match (operation, argument) {
-        (Operation::Inc, Some(argument)) => Ok(Act::Inc(read_amount(argument)?)),
-        (Operation::Dec, Some(argument)) => Ok(Act::Dec(read_amount(argument)?)),
+    match (operation, arguments) {
+        (Operation::Inc, [argument]) => Ok(Act::Inc(read_amount(argument)?)),
+        (Operation::Dec, [argument]) => Ok(Act::Dec(read_amount(argument)?)),
         _ => Err(Fault::Operation),
     }
 }
 
 /// The act of a counter that can be cleared.
-fn read_clearable_act(operation: Operation, argument: Option<&[u8]>) -> Result<Act, Fault>
-    ensures { result ≡ clearable_act operation (option_copied argument.entry) }
+fn read_clearable_act(operation: Operation, arguments: &[&[u8]]) -> Result<Act, Fault>
+    ensures { result ≡ clearable_act operation (map (λ word. word.now) arguments.now) }
 {
-    match (operation, argument) {
-        (Operation::Inc, Some(argument)) => Ok(Act::Inc(read_amount(argument)?)),
-        (Operation::Dec, Some(argument)) => Ok(Act::Dec(read_amount(argument)?)),
-        (Operation::Clear, None) => Ok(Act::Clear),
+    match (operation, arguments) {
+        (Operation::Inc, [argument]) => Ok(Act::Inc(read_amount(argument)?)),
+        (Operation::Dec, [argument]) => Ok(Act::Dec(read_amount(argument)?)),
+        (Operation::Clear, []) => Ok(Act::Clear),
+        _ => Err(Fault::Operation),
+    }
+}
+
+/// The act of a list.
+fn read_list_act(alloc: Global, operation: Operation, arguments: &[&[u8]]) -> Result<Act, Fault>
+    ensures { Reads (list_act operation (map (λ word. word.now) arguments.now)) result }
+{
+    match (operation, arguments) {
+        (Operation::Ins, [value, place]) => {
+            let value = read_value(alloc, value)?;
+            Ok(Act::Ins(value, read_place(place)?))
+        }
+        (Operation::Del, [id]) => Ok(Act::Del(read_element(id)?)),
+        (Operation::Clear, []) => Ok(Act::Clear),
         _ => Err(Fault::Operation),
     }
 }
@@ -124,30 +141,38 @@ fn read_act(
     alloc: Global,
     kind: Kind,
     operation: Operation,
-    argument: Option<&[u8]>,
+    arguments: &[&[u8]],
 ) -> Result<Act, Fault>
-    ensures { Reads (kind_act kind operation (option_copied argument.entry)) result }
+    ensures { Reads (kind_act kind operation (map (λ word. word.now) arguments.now)) result }
 {
     match kind {
-        Kind::AwSet | Kind::RwSet => read_set_act(alloc, operation, argument),
-        Kind::EwFlag | Kind::DwFlag => read_flag_act(operation, argument),
-        Kind::MvReg => read_register_act(alloc, operation, argument),
-        Kind::Counter => read_counter_act(operation, argument),
-        Kind::RCounter => read_clearable_act(operation, argument),
+        Kind::AwSet | Kind::RwSet => read_set_act(alloc, operation, arguments),
+        Kind::EwFlag | Kind::DwFlag => read_flag_act(operation, arguments),
+        Kind::MvReg => read_register_act(alloc, operation, arguments),
+        Kind::Counter => read_counter_act(operation, arguments),
+        Kind::RCounter => read_clearable_act(operation, arguments),
+        Kind::List => read_list_act(alloc, operation, arguments),
     }
 }
 
-/// The update of an object, an operation and perhaps an argument.
+/// Whether no more than two arguments stand behind an operation.
+pub fn are_few(arguments: &[&[u8]]) -> bool
+    ensures { result ≡ are_few (map (λ word. word.now) arguments.now) }
+{
+    !matches!(arguments, [_, _, _, ..])
+}
+
+/// The update of an object, an operation and its arguments.
 pub fn read_update(
     alloc: Global,
     object: &[u8],
     operation: &[u8],
-    argument: Option<&[u8]>,
+    arguments: &[&[u8]],
 ) -> Result<Update, Fault>
-    ensures { Reads (update_in object.now operation.now (option_copied argument.entry)) result }
+    ensures { Reads (update_in object.now operation.now (map (λ word. word.now) arguments.now)) result }
 {
     let object = read_object(alloc, object)?;
     let operation = read_operation(operation)?;
-    let act = read_act(alloc, object.kind, operation, argument)?;
+    let act = read_act(alloc, object.kind, operation, arguments)?;
     Update::new(object, act).map_err(|_| Fault::Operation)
 }

@@ -1,25 +1,31 @@
 //! The commands of a script.
 
-ghost use Rattle.std.specs.Prelude.{◌≡◌, ℕ, ◌<◌, IfOk, IsTrue, map, option_copied};
-ghost use Rattle.script_lang.specs.Commands.{do_command, do_words, ask_command, ask_words, give_command, give_words, resend_command, resend_words, raw_command, raw_words, settle_words, members_words, stop_command, stop_words, has_lone_member, lone_member, has_verb, doing_verbs, asking_verbs, verb_among, verb_named, verb_of, verb_words, command_words, command_of, line_of, keep_line_of, line_in, bad_line, IsLineOrNoMemory};
+ghost use Rattle.std.specs.Prelude.{◌≡◌, ℕ, ◌<◌, true, IfOk, IsTrue, map};
+ghost use Rattle.op_base.specs.declared.name.Kind.TheVariants as kinds;
+ghost use Rattle.script_lang.specs.Commands.{do_command, do_words, ask_command, ask_words, asked_list, lone_list, give_command, give_words, resend_command, resend_words, raw_command, raw_words, settle_words, members_words, stop_command, stop_words, has_lone_member, lone_member, has_verb, doing_verbs, asking_verbs, verb_among, verb_named, verb_of, verb_words, command_words, command_of, line_of, keep_line_of, line_in, bad_line, IsLineOrNoMemory};
 ghost use Rattle.script_lang.specs.Memory.{Reads, IsAmple, keeps, line_takes_memory};
 ghost use Rattle.script_lang.specs.Ranges.{IsWithin, LineIsWithin};
 
-use crate::act::read_update;
+use crate::act::{are_few, read_update};
 use crate::fault::{Fault, MOST_LINE_BYTES};
 use crate::header::Mode;
-use crate::name::{read_amount, read_hex, read_member, read_object, read_size};
+use crate::name::{read_amount, read_hex, read_list, read_member, read_object, read_size};
 use crate::word::{MOST_WORDS, find_words, is_passed_over};
 use op_base::{ByteList, ObjectId, Update};
 use std::alloc::Global;
 
-/// What a command line asks for. Each member that it names is below how many there are; it asks for 1 to 16 members.
+/// What a command line asks for. Each member that it names is below how many there are; it asks for 1 to 16 members, and for
+/// the ids and tombs of a list alone.
 #[derive(Debug, PartialEq, Eq, Drop)]
 pub enum Command {
     /// Member `r` sends an update.
     Do { r: u8, update: Update },
     /// Member `r` answers what an object is.
     Ask { r: u8, object: ObjectId },
+    /// The ids of the elements of a list at member `r`.
+    Ids { r: u8, object: ObjectId },
+    /// How many elements of a list member `r` keeps that aren't shown.
+    Tombs { r: u8, object: ObjectId },
     /// Member `r` sends a no-op where one is due.
     Beat { r: u8 },
     /// Member `r` receives message `s` of member `k`.
@@ -66,6 +72,8 @@ pub enum Line {
 pub enum Verb {
     Do,
     Ask,
+    Ids,
+    Tombs,
     Beat,
     Give,
     Resend,
@@ -200,6 +208,8 @@ fn asking_verb(word: &[u8]) -> Option<Verb>
 {
     match word {
         b"ask" => Some(Verb::Ask),
+        b"ids" => Some(Verb::Ids),
+        b"tombs" => Some(Verb::Tombs),
         b"log" => Some(Verb::Log),
         b"size" => Some(Verb::Size),
         b"stable" => Some(Verb::Stable),
@@ -234,6 +244,8 @@ fn read_arguments(alloc: Global, verb: Verb, words: &[&[u8]], n: u8) -> Result<C
     match verb {
         Verb::Do => read_do(alloc, n, words),
         Verb::Ask => read_ask(alloc, n, words),
+        Verb::Ids => read_ids(alloc, n, words),
+        Verb::Tombs => read_tombs(alloc, n, words),
         Verb::Beat => read_lone(n, Verb::Beat, words),
         Verb::Give => read_give(n, words),
         Verb::Resend => read_resend(n, words),
@@ -268,6 +280,8 @@ fn read_lone(n: u8, verb: Verb, words: &[&[u8]]) -> Result<Command, Fault>
         Verb::Lags => Ok(Command::Lags { r }),
         Verb::Do
         | Verb::Ask
+        | Verb::Ids
+        | Verb::Tombs
         | Verb::Give
         | Verb::Resend
         | Verb::Raw
@@ -284,9 +298,8 @@ fn read_do(alloc: Global, n: u8, words: &[&[u8]]) -> Result<Command, Fault>
     ensures within { IfOk result (IsWithin n) }
 {
     match words {
-        [r, object, operation] => do_command(alloc, n, r, object, operation, None),
-        [r, object, operation, argument] => {
-            do_command(alloc, n, r, object, operation, Some(argument))
+        [r, object, operation, arguments @ ..] if are_few(arguments) => {
+            do_command(alloc, n, r, object, operation, arguments)
         }
         _ => Err(Fault::Words),
     }
@@ -298,14 +311,14 @@ fn do_command(
     r: &[u8],
     object: &[u8],
     operation: &[u8],
-    argument: Option<&[u8]>,
+    arguments: &[&[u8]],
 ) -> Result<Command, Fault>
-    ensures command { Reads (do_command n r.now object.now operation.now (option_copied argument.entry)) result }
-    ensures ample { IsAmple keeps (do_command n r.now object.now operation.now (option_copied argument.entry)) result }
+    ensures command { Reads (do_command n r.now object.now operation.now (map (λ word. word.now) arguments.now)) result }
+    ensures ample { IsAmple keeps (do_command n r.now object.now operation.now (map (λ word. word.now) arguments.now)) result }
     ensures within { IfOk result (IsWithin n) }
 {
     let r = read_member(n, r)?;
-    let update = read_update(alloc, object, operation, argument)?;
+    let update = read_update(alloc, object, operation, arguments)?;
     Ok(Command::Do { r, update })
 }
 
@@ -329,6 +342,51 @@ fn ask_command(alloc: Global, n: u8, r: &[u8], object: &[u8]) -> Result<Command,
     let r = read_member(n, r)?;
     let object = read_object(alloc, object)?;
     Ok(Command::Ask { r, object })
+}
+
+/// The words behind `ids`.
+#[inline(never)]
+fn read_ids(alloc: Global, n: u8, words: &[&[u8]]) -> Result<Command, Fault>
+    ensures command { Reads (verb_words n Verb.Ids (map (λ word. word.now) words.now)) result }
+    ensures ample { IsAmple keeps (verb_words n Verb.Ids (map (λ word. word.now) words.now)) result }
+    ensures within { IfOk result (IsWithin n) }
+{
+    let (r, object) = read_lone_list(alloc, n, words)?;
+    Ok(Command::Ids { r, object })
+}
+
+/// The words behind `tombs`.
+#[inline(never)]
+fn read_tombs(alloc: Global, n: u8, words: &[&[u8]]) -> Result<Command, Fault>
+    ensures command { Reads (verb_words n Verb.Tombs (map (λ word. word.now) words.now)) result }
+    ensures ample { IsAmple keeps (verb_words n Verb.Tombs (map (λ word. word.now) words.now)) result }
+    ensures within { IfOk result (IsWithin n) }
+{
+    let (r, object) = read_lone_list(alloc, n, words)?;
+    Ok(Command::Tombs { r, object })
+}
+
+/// The member and the list of it that words are, where they are these two.
+fn read_lone_list(alloc: Global, n: u8, words: &[&[u8]]) -> Result<(u8, ObjectId), Fault>
+    ensures asked { Reads (lone_list n (map (λ word. word.now) words.now)) result }
+    ensures ample { IsAmple (λ _. true) (lone_list n (map (λ word. word.now) words.now)) result }
+    ensures within { IfOk result (λ asked. (asked.0 < n) × (asked.1.kind ≡ kinds.List)) }
+{
+    match words {
+        [r, list] => asked_list(alloc, n, r, list),
+        _ => Err(Fault::Words),
+    }
+}
+
+/// A member, and a list that it is asked of.
+fn asked_list(alloc: Global, n: u8, r: &[u8], list: &[u8]) -> Result<(u8, ObjectId), Fault>
+    ensures asked { Reads (asked_list n r.now list.now) result }
+    ensures ample { IsAmple (λ _. true) (asked_list n r.now list.now) result }
+    ensures within { IfOk result (λ asked. (asked.0 < n) × (asked.1.kind ≡ kinds.List)) }
+{
+    let r = read_member(n, r)?;
+    let object = read_list(alloc, list)?;
+    Ok((r, object))
 }
 
 /// The words behind `give`.

@@ -19,13 +19,14 @@ pub enum Fault {
     Words,
     /// A member, or a client, is no number below how many there are.
     Member,
-    /// The object is none.
+    /// The object is none, or isn't a list where one is meant.
     Object,
-    /// The object's kind has no such operation, or its argument is missing or one too many.
+    /// The object's kind has no such operation, or its arguments are too few or too many.
     Operation,
     /// The value is none, or the hexadecimal has an odd number of digits or another character.
     Value,
-    /// The amount, or the number of a message, is no number, or that of members is none from 1 to 16.
+    /// The amount, or the number of a message, is no number, that of members is none from 1 to 16, or the id or the place is
+    /// none.
     Number,
     /// There is no memory for what the command keeps. The line is a command, or its fault is `Object` or a later one.
     NoMemory,

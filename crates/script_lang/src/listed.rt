@@ -2,10 +2,10 @@
 
 ghost use Rattle.std.specs.Prelude.{◌≡◌, ◌++◌, ◌∷◌, [], List, ℕ, length, take, map, OnOk, OnErr};
 ghost use Rattle.std.specs.Fmt.{decimal};
-ghost use Rattle.script_lang.specs.Replies.{spaced, id_word, step_word};
+ghost use Rattle.script_lang.specs.Replies.{spaced, id_word, element_word, step_word};
 
 use itoa::{Buffer, Integer};
-use op_base::{MessageId, NoMemory, Step, Text, Value};
+use op_base::{ElementId, MessageId, NoMemory, Step, Text, Value};
 
 /// What a line lists.
 pub trait Listed {
@@ -34,6 +34,15 @@ pub fn put_spaced_number<I: Integer>(number: I, out: &mut Text) -> Result<(), No
     put_number(number, out)
 }
 
+/// Puts a point and a number.
+fn put_pointed_number<I: Integer>(number: I, out: &mut Text) -> Result<(), NoMemory>
+    ensures ok { OnOk result (out.new ≡ out.old ++ 46 ∷ I.text number) }
+    ensures err { OnErr result (take (length out.old) out.new ≡ out.old) }
+{
+    out.push(b'.')?;
+    put_number(number, out)
+}
+
 impl Listed for MessageId {
     ghost word = { id_word };
 
@@ -41,6 +50,16 @@ impl Listed for MessageId {
         put_number(self.origin, out)?;
         out.push(b':')?;
         put_number(self.seq, out)
+    }
+}
+
+impl Listed for ElementId {
+    ghost word = { element_word };
+
+    fn put(&self, out: &mut Text) -> Result<(), NoMemory> {
+        put_number(self.epoch, out)?;
+        put_pointed_number(self.origin, out)?;
+        put_pointed_number(self.seq, out)
     }
 }
 

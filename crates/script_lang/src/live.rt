@@ -1,11 +1,11 @@
 //! The commands of a live input.
 
-ghost use Rattle.std.specs.Prelude.{◌≡◌, ℕ, IfOk, IsTrue, map, option_copied};
+ghost use Rattle.std.specs.Prelude.{◌≡◌, ℕ, IfOk, IsTrue, map};
 ghost use Rattle.script_lang.specs.LiveCommands.{client_command, client_words, client_do, client_do_words, client_ask, client_ask_words, named_words, live_words, live_command_of, live_line_of, bad_live_line, IsLiveLineOrNoMemory};
 ghost use Rattle.script_lang.specs.Memory.{Reads, IsAmple, live_keeps, live_line_takes_memory};
 ghost use Rattle.script_lang.specs.Ranges.{IsLiveWithin, LiveLineIsWithin};
 
-use crate::act::read_update;
+use crate::act::{are_few, read_update};
 use crate::fault::{Fault, MOST_LINE_BYTES};
 use crate::name::{client_digits, read_member, read_object};
 use crate::word::{is_passed_over, is_text, split};
@@ -141,9 +141,8 @@ fn read_client_do(
     ensures within { (n : ℕ) → IfOk result (IsLiveWithin n clients) }
 {
     match words {
-        [object, operation] => client_do(alloc, clients, c, object, operation, None),
-        [object, operation, argument] => {
-            client_do(alloc, clients, c, object, operation, Some(argument))
+        [object, operation, arguments @ ..] if are_few(arguments) => {
+            client_do(alloc, clients, c, object, operation, arguments)
         }
         _ => Err(Fault::Words),
     }
@@ -155,14 +154,14 @@ fn client_do(
     c: &[u8],
     object: &[u8],
     operation: &[u8],
-    argument: Option<&[u8]>,
+    arguments: &[&[u8]],
 ) -> Result<LiveCommand, Fault>
-    ensures command { Reads (client_do clients c.now object.now operation.now (option_copied argument.entry)) result }
-    ensures ample { IsAmple live_keeps (client_do clients c.now object.now operation.now (option_copied argument.entry)) result }
+    ensures command { Reads (client_do clients c.now object.now operation.now (map (λ word. word.now) arguments.now)) result }
+    ensures ample { IsAmple live_keeps (client_do clients c.now object.now operation.now (map (λ word. word.now) arguments.now)) result }
     ensures within { (n : ℕ) → IfOk result (IsLiveWithin n clients) }
 {
     let c = read_member(clients, c)?;
-    let update = read_update(alloc, object, operation, argument)?;
+    let update = read_update(alloc, object, operation, arguments)?;
     Ok(LiveCommand::Do { c, update })
 }
 

@@ -1,14 +1,16 @@
 //! What single words name.
 
-ghost use Rattle.std.specs.Prelude.{◌≡◌, ◌<◌, ◌≤◌, IfOk, IfSome, option_copied};
-ghost use Rattle.script_lang.specs.Names.{member_of, object_in, value_in, bytes_in, amount_in, size_in, client_digits};
+ghost use Rattle.std.specs.Prelude.{◌≡◌, ◌<◌, ◌≤◌, [], ◌∷◌, IfOk, MatchOption, option_copied};
+ghost use Rattle.std.specs.List.{position, slice_split};
+ghost use Rattle.script_lang.specs.Names.{member_of, object_in, list_in, value_in, bytes_in, amount_in, size_in, is_point, element_where, element_in, place_in, client_digits};
 ghost use Rattle.script_lang.specs.Memory.{Reads};
 
 use crate::fault::Fault;
 use crate::header::is_from_to;
 use crate::number::{are_digits, read_number};
+use crate::word::is_text;
 use hex::FromHexError;
-use op_base::{ByteList, ObjectId, Value};
+use op_base::{ByteList, ElementId, Kind, ObjectId, Value};
 use std::alloc::Global;
 
 /// The member of `n` that a word names; of `n` clients too.
@@ -27,6 +29,18 @@ pub fn read_object(alloc: Global, word: &[u8]) -> Result<ObjectId, Fault>
     ensures { Reads (object_in word.now) result }
 {
     ObjectId::read(alloc, word).map_err(|why| Fault::Object.of_name(why))
+}
+
+/// The list that a word names.
+pub fn read_list(alloc: Global, word: &[u8]) -> Result<ObjectId, Fault>
+    ensures list { Reads (list_in word.now) result }
+    ensures of_kind { IfOk result (λ object. object.kind ≡ Kind.List) }
+{
+    let object = read_object(alloc, word)?;
+    match object.kind {
+        Kind::List => Ok(object),
+        _ => Err(Fault::Object),
+    }
 }
 
 /// The value that a word is.
@@ -65,6 +79,61 @@ pub fn read_size(word: &[u8]) -> Result<u8, Fault>
     } else {
         Err(Fault::Number)
     }
+}
+
+/// The place of a word's first point.
+fn point_place(word: &[u8]) -> Option<usize>
+    ensures { result ≡ position is_point word.now }
+{
+    word.iter().position(|b| *b == b'.')
+}
+
+/// What stands before a word's first point, and what stands behind it.
+fn split_point(word: &[u8]) -> Option<(&[u8], &[u8])>
+    ensures { MatchOption result (slice_split is_point word.now ≡ word.now ∷ []) (λ parts. slice_split is_point word.now ≡ parts.0.now ∷ slice_split is_point parts.1.now) }
+{
+    let at = point_place(word)?;
+    Some((&word[..at], &word[at + 1..]))
+}
+
+/// The id of these numbers, where an element can have it.
+fn element_where(epoch: u32, origin: u32, seq: u32) -> Result<ElementId, Fault>
+    ensures { result ≡ element_where (record { epoch = epoch; origin = origin; seq = seq }) }
+{
+    if origin > 15 || seq == 0 {
+        return Err(Fault::Number);
+    }
+    Ok(ElementId {
+        epoch,
+        origin: origin as u8,
+        seq,
+    })
+}
+
+/// The id of an element that a word is.
+pub fn read_element(word: &[u8]) -> Result<ElementId, Fault>
+    ensures { result ≡ element_in word.now }
+{
+    let Some((epoch, rest)) = split_point(word) else {
+        return Err(Fault::Number);
+    };
+    let Some((origin, seq)) = split_point(rest) else {
+        return Err(Fault::Number);
+    };
+    match split_point(seq) {
+        Some(_) => Err(Fault::Number),
+        None => element_where(read_amount(epoch)?, read_amount(origin)?, read_amount(seq)?),
+    }
+}
+
+/// The place that a word is: the head, or behind an element.
+pub fn read_place(word: &[u8]) -> Result<Option<ElementId>, Fault>
+    ensures { result ≡ place_in word.now }
+{
+    if is_text(word, b"head") {
+        return Ok(None);
+    }
+    Ok(Some(read_element(word)?))
 }
 
 /// The digits of a word that is one or more of them with a colon behind them.

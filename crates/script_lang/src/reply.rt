@@ -6,7 +6,7 @@ ghost use Rattle.script_lang.specs.Replies.{joined, spaced, answer_words, reply_
 
 use crate::listed::{put_all, put_number, put_spaced_number};
 use itoa::Integer;
-use op_base::{Answer, IdList, NoMemory, StepList, Tag, Text};
+use op_base::{Answer, ElementIdList, IdList, NoMemory, StepList, Tag, Text};
 
 /// What is replied to a command line.
 #[derive(Debug, PartialEq, Eq, Drop)]
@@ -60,6 +60,10 @@ pub enum Reply {
     /// The least member that isn't known to have the oldest own message that isn't known to be everywhere; none where all
     /// are.
     Lags(Option<u8>),
+    /// The ids of a list's elements, in its order.
+    Ids(ElementIdList),
+    /// So many of a list's elements are kept and not shown.
+    Tombs(usize),
     /// A replica was stopped and opened again, and has so many notes.
     Open(u64),
     /// The line is no command, with the number of its fault.
@@ -128,6 +132,11 @@ fn put_words(reply: &Reply, out: &mut Text) -> Result<(), NoMemory>
         Reply::Noops(count) => put_numbered(b"noops ", *count, out),
         Reply::Lags(Some(member)) => put_numbered(b"lags ", u32::from(*member), out),
         Reply::Lags(None) => out.extend_from_slice(b"lags none"),
+        Reply::Ids(ids) => {
+            out.extend_from_slice(b"ids")?;
+            put_all(ids.as_slice(), out)
+        }
+        Reply::Tombs(count) => put_numbered(b"tombs ", *count, out),
         Reply::Open(count) => put_numbered(b"open ", *count, out),
         Reply::Bad(fault) => put_numbered(b"bad ", u32::from(*fault), out),
     }

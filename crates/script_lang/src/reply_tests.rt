@@ -9,8 +9,8 @@ use crate::note::put_note;
 use crate::reply::{Reply, put_reply};
 use causal_model::Note;
 use op_base::{
-    Act, Answer, Crook, IdList, Message, MessageId, ObjectId, Op, Step, StepList, Tag, Text,
-    Update, Value, ValueList,
+    Act, Answer, Crook, ElementId, ElementIdList, IdList, Message, MessageId, ObjectId, Op, Step,
+    StepList, Tag, Text, Update, Value, ValueList,
 };
 use std::alloc::Global;
 use std::process::Abort;
@@ -18,6 +18,10 @@ use std::test::Fail;
 
 fn id(origin: u8, seq: u32) -> MessageId {
     MessageId { origin, seq }
+}
+
+fn element(epoch: u32, origin: u8, seq: u32) -> ElementId {
+    ElementId { epoch, origin, seq }
 }
 
 fn values(alloc: Global, texts: &[&[u8]]) -> Result<ValueList, Fail> {
@@ -100,6 +104,7 @@ fn plain_replies_have_their_lines(rt: HostRuntime) -> Result<(), Fail> {
     is_printed(&rt, alloc, Reply::Noops(3), b"noops 3\n")?;
     is_printed(&rt, alloc, Reply::Lags(Some(15)), b"lags 15\n")?;
     is_printed(&rt, alloc, Reply::Lags(None), b"lags none\n")?;
+    is_printed(&rt, alloc, Reply::Tombs(4), b"tombs 4\n")?;
     is_printed(&rt, alloc, Reply::Open(4294967296), b"open 4294967296\n")?;
     is_printed(&rt, alloc, Reply::Bad(8), b"bad 8\n")
 }
@@ -148,6 +153,23 @@ fn lists_have_their_lines(rt: HostRuntime) -> Result<(), Fail> {
     is_printed(&rt, alloc, Reply::Log(none), b"log\n")?;
     let some = ids(alloc, &[id(1, 1), id(0, 1000000)])?;
     is_printed(&rt, alloc, Reply::Log(some), b"log 1:1 0:1000000\n")
+}
+
+#[test]
+fn lists_and_their_ids_have_their_lines(rt: HostRuntime) -> Result<(), Fail> {
+    let alloc = rt.alloc();
+    let some = values(alloc, &[b"b", b"a", b"b"])?;
+    is_printed(&rt, alloc, Reply::Is(Answer::Values(some)), b"= b a b\n")?;
+    let mut ids = ElementIdList::new(alloc);
+    is_printed(&rt, alloc, Reply::Ids(ElementIdList::new(alloc)), b"ids\n")?;
+    ids.push(element(0, 1, 10))?;
+    ids.push(element(65535, 15, 1000000))?;
+    is_printed(
+        &rt,
+        alloc,
+        Reply::Ids(ids),
+        b"ids 0.1.10 65535.15.1000000\n",
+    )
 }
 
 /// `add x` to `awset:s`, the message `0:1` of a store of two members.

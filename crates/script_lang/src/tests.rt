@@ -4,7 +4,7 @@ use crate::{
     Command, Header, Line, LiveCommand, LiveLine, read_header, read_keep_line, read_line,
     read_live_line,
 };
-use op_base::{Act, ByteList};
+use op_base::{Act, ByteList, ElementId};
 use std::alloc::{AllocError, Global};
 use std::test::Fail;
 
@@ -30,7 +30,7 @@ fn live_code(line: &LiveLine) -> u8 {
 #[test]
 fn the_first_fault_of_a_line_is_told(rt: HostRuntime) -> Result<(), Fail> {
     let alloc = rt.alloc();
-    let cases: [(&[u8], u8); 79] = [
+    let cases: [(&[u8], u8); 80] = [
         // Passed over.
         (b"", 0),
         (b" \t ", 0),
@@ -61,8 +61,8 @@ fn the_first_fault_of_a_line_is_told(rt: HostRuntime) -> Result<(), Fail> {
         (b"dos", 2),
         (b"settle\r", 2),
         (b"member 2", 2),
-        (b"ids 0 list:l", 2),
-        (b"tombs 0", 2),
+        (b"id 0 list:l", 2),
+        (b"tomb 0 list:l", 2),
         (b"stop 0 0", 2),
         (b"store 1 1", 2),
         (b"x # y", 2),
@@ -70,7 +70,7 @@ fn the_first_fault_of_a_line_is_told(rt: HostRuntime) -> Result<(), Fail> {
         // The number of words.
         (b"do 0", 3),
         (b"do 0 awset:s", 3),
-        (b"do 9 set:s add x y", 3),
+        (b"do 9 set:s add x y z", 3),
         (b"do 0 awset:s add x y z 1 2 3", 3),
         (b"ask 0", 3),
         (b"ask 0 awset:s x", 3),
@@ -106,6 +106,7 @@ fn the_first_fault_of_a_line_is_told(rt: HostRuntime) -> Result<(), Fail> {
         (b"do 0 counter:a clear", 6),
         (b"do 0 awset:s add", 6),
         (b"do 0 awset:s clear x", 6),
+        (b"do 0 awset:s add x y", 6),
         (b"do 0 ewflag:f enable x", 6),
         (b"do 0 mvreg:m add \x7f", 6),
         // A value, and bytes in hexadecimal.
@@ -162,6 +163,125 @@ fn a_script_of_durable_replicas_has_lines_of_its_own(rt: HostRuntime) -> Result<
     Ok(())
 }
 
+#[test]
+fn the_first_fault_of_a_line_on_a_list_is_told(rt: HostRuntime) -> Result<(), Fail> {
+    let alloc = rt.alloc();
+    let cases: [(&[u8], u8); 35] = [
+        (b"do 0 list:l ins x head", 100),
+        (b"do 0 list:l ins head 0.0.1", 100),
+        (b"do 1 list:l ins x 1.15.9", 100),
+        (b"do 1 list:l del 4294967295.15.4294967295", 100),
+        (b"do 0 list:l del 00.0.1", 100),
+        (b"do 0 list:l clear", 100),
+        (b"ask 0 list:l", 100),
+        // The number of words, a member, an object.
+        (b"do 9 set:s ins x head y", 3),
+        (b"do 2 set:s ins x head", 4),
+        (b"do 0 set:s ins x head", 5),
+        // An operation, and how many arguments it has.
+        (b"do 0 list:l add x", 6),
+        (b"do 0 list:l ins", 6),
+        (b"do 0 list:l ins \x7f", 6),
+        (b"do 0 list:l del", 6),
+        (b"do 0 list:l del 0.16.1 x", 6),
+        (b"do 0 list:l clear x y", 6),
+        (b"do 0 awset:s ins x head", 6),
+        (b"do 0 counter:c inc 1 head", 6),
+        // A value, and then a place.
+        (b"do 0 list:l ins \x7f x", 7),
+        (b"do 0 list:l ins x y", 8),
+        (b"do 0 list:l ins x Head", 8),
+        (b"do 0 list:l ins x 0.0.0", 8),
+        // An id.
+        (b"do 0 list:l del head", 8),
+        (b"do 0 list:l del 0.16.1", 8),
+        (b"do 0 list:l del 0.0.0", 8),
+        (b"do 0 list:l del 0.0", 8),
+        (b"do 0 list:l del 0.0.1.2", 8),
+        (b"do 0 list:l del 4294967296.0.1", 8),
+        (b"do 0 list:l del 0.256.1", 8),
+        (b"do 0 list:l del 00000000000.0.1", 8),
+        (b"do 0 list:l del .0.1", 8),
+        (b"do 0 list:l del 0..1", 8),
+        (b"do 0 list:l del 0.0.", 8),
+        (b"do 0 list:l del 0.0.1.", 8),
+        (b"do 0 list:l del 0:0:1", 8),
+    ];
+    for (line, wanted) in cases {
+        assert_eq!(rt; code(&read_line(alloc, line, 2)), wanted);
+    }
+    Ok(())
+}
+
+#[test]
+fn ids_and_tombs_are_asked_of_a_list(rt: HostRuntime) -> Result<(), Fail> {
+    let alloc = rt.alloc();
+    let cases: [(&[u8], u8); 11] = [
+        (b"ids 0 list:l", 100),
+        (b"tombs 1 list:l", 100),
+        (b"ids 0", 3),
+        (b"tombs", 3),
+        (b"tombs 2 set:s x", 3),
+        (b"ids 2 set:s", 4),
+        (b"tombs x list:l", 4),
+        (b"ids 0 set:s", 5),
+        (b"ids 0 mvreg:m", 5),
+        (b"tombs 0 awset:s", 5),
+        (b"tombs 0 list:", 5),
+    ];
+    for (line, wanted) in cases {
+        assert_eq!(rt; code(&read_line(alloc, line, 2)), wanted);
+        assert_eq!(rt; code(&read_keep_line(alloc, line, 2)), wanted);
+    }
+    Ok(())
+}
+
+#[test]
+fn a_client_changes_a_list(rt: HostRuntime) -> Result<(), Fail> {
+    let alloc = rt.alloc();
+    let cases: [(&[u8], u8); 9] = [
+        (b"0: do list:l ins x head", 100),
+        (b"1: do list:l del 0.0.1", 100),
+        (b"1: do list:l clear", 100),
+        (b"1: ask list:l", 100),
+        (b"ids 0 list:l", 2),
+        (b"0: tombs list:l", 2),
+        (b"0: do list:l ins x head y", 3),
+        (b"0: do list:l ins x", 6),
+        (b"0: do list:l ins x 0.0.0", 8),
+    ];
+    for (line, wanted) in cases {
+        assert_eq!(rt; live_code(&read_live_line(alloc, line, 3, 2)), wanted);
+    }
+    Ok(())
+}
+
+/// Where a line puts a value into a list.
+fn place(line: &Line) -> Option<Option<ElementId>> {
+    match line {
+        Line::Run(Command::Do { r: 0, update }) => match update.act() {
+            Act::Ins(_, place) => Some(*place),
+            _ => None,
+        },
+        _ => None,
+    }
+}
+
+#[test]
+fn a_place_is_the_head_or_behind_an_element(rt: HostRuntime) -> Result<(), Fail> {
+    let alloc = rt.alloc();
+    let head = read_line(alloc, b"do 0 list:l ins x head", 2);
+    assert!(rt; place(&head) == Some(None));
+    let id = ElementId {
+        epoch: 1,
+        origin: 15,
+        seq: 9,
+    };
+    let behind = read_line(alloc, b"do 0 list:l ins x 1.15.009", 2);
+    assert!(rt; place(&behind) == Some(Some(id)));
+    Ok(())
+}
+
 /// A text with so many more bytes of one kind behind it.
 fn long(alloc: Global, front: &[u8], byte: u8, more: u32) -> Result<Vec<u8>, AllocError> {
     let mut text = Vec::from_slice(alloc, front)?;
@@ -199,7 +319,7 @@ fn a_line_is_at_most_16384_bytes_long(rt: HostRuntime) -> Result<(), Fail> {
 #[test]
 fn the_first_fault_of_a_live_line_is_told(rt: HostRuntime) -> Result<(), Fail> {
     let alloc = rt.alloc();
-    let cases: [(&[u8], u8); 31] = [
+    let cases: [(&[u8], u8); 32] = [
         (b" # 0: do", 0),
         (b"client 0 2", 100),
         (b"0: do awset:s add x", 100),
@@ -220,7 +340,7 @@ fn the_first_fault_of_a_live_line_is_told(rt: HostRuntime) -> Result<(), Fail> {
         (b"0:", 3),
         (b"0: do", 3),
         (b"9: do awset:s", 3),
-        (b"0: do awset:s add x y", 3),
+        (b"0: do awset:s add x y z", 3),
         (b"0: ask", 3),
         (b"0: ask awset:s x", 3),
         (b"client", 3),
@@ -233,6 +353,7 @@ fn the_first_fault_of_a_live_line_is_told(rt: HostRuntime) -> Result<(), Fail> {
         // What stands behind them.
         (b"0: ask set:s", 5),
         (b"0: do counter:c add x", 6),
+        (b"0: do awset:s add x y", 6),
         (b"0: do awset:s rmv \xff", 7),
         (b"0: do rcounter:c dec x", 8),
     ];

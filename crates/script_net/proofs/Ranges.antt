@@ -1,26 +1,27 @@
 -- What a line of a script asks for is in range: the members are of the store, the update is valid, the bytes are bytes.
 use Rattle.std.proofs.Common.{◌≡◌, ℕ, ◌<◌, ◌≤◌, Bool, true, false, cond, nat_lt, nat_le, IsTrue, List, [], ◌∷◌, length, Option, Some, None, Result, Ok, Err, refl, subst, arith}
-use Rattle.std.specs.Prelude.{IfOk, ok_or, All, ◌==◌, ◌%◌, if◌then◌else◌}
+use Rattle.std.specs.Prelude.{IfOk, ok_or, All, ◌&&◌, ◌==◌, ◌%◌, codes, if◌then◌else◌}
+use Rattle.std.specs.List.{slice_split}
 use Rattle.std.specs.Result.{result_ok}
 use Rattle.std.proofs.lemmas.List.{get_or_default}
-use Rattle.std.proofs.lemmas.Bool.{and_parts, and_from, ltb-true, leb-true}
+use Rattle.std.proofs.lemmas.Bool.{and_parts, and_from, ltb-true, leb-true, lt-ltb}
 use Rattle.hex.specs.Hex.{decode_of, decode_pairs}
 use Rattle.hex.specs.declared.error.FromHexError.{FromHexError}
 use Rattle.hex.specs.declared.error.FromHexError.TheVariants.{OddLength}
 use Rattle.hex.proofs.HexLemmas.{decode_pairs-ok}
-use Rattle.op_base.specs.Name.{is_key, is_value, kind_of, kind_part, key_part}
-use Rattle.op_base.specs.Operation.{has_act}
+use Rattle.op_base.specs.Name.{is_key, is_value, kind_of, kind_part, key_part, same_text}
+use Rattle.op_base.specs.Operation.{has_act, is_element}
 use Rattle.op_base.specs.Reading.{object_with, where_true}
-use Rattle.op_base.specs.Valid.{is_valid_act, is_valid_update}
+use Rattle.op_base.specs.Valid.{is_valid_id, is_valid_place, is_valid_act, is_valid_update}
 use Rattle.op_base.specs.declared.name.Kind.{Kind}
 use Rattle.op_base.specs.declared.name.Kind.TheVariants as kind
 use Rattle.op_base.specs.declared.name.ObjectId.{ObjectId}
 use Rattle.op_base.specs.declared.operation.Act.{Act}
 use Rattle.op_base.specs.declared.operation.Act.TheVariants as act
-use Rattle.script_lang.specs.Commands.{do_command, do_words, ask_words, give_words, resend_words, raw_words, settle_words, members_words, stop_words, lone_member, verb_of, verb_words, words_behind, command_words, command_of, bad_line, run_or_bad, line_in}
+use Rattle.script_lang.specs.Commands.{do_command, do_words, ask_words, lone_list, give_words, resend_words, raw_words, settle_words, members_words, stop_words, lone_member, verb_of, verb_words, words_behind, command_words, command_of, bad_line, run_or_bad, line_in}
 use Rattle.script_lang.specs.Fault.{◌>>=◌, most_line_bytes, number_of_fault}
-use Rattle.script_lang.specs.Names.{below, member_of, object_in, value_in, bytes_in, amount_in, size_in}
-use Rattle.script_lang.specs.Acts.{operation_in, set_act, flag_act, register_act, counter_act, clearable_act, kind_act, update_in}
+use Rattle.script_lang.specs.Names.{below, member_of, object_in, is_list, list_in, is_point, element_of, element_in, place_in, value_in, bytes_in, amount_in, size_in}
+use Rattle.script_lang.specs.Acts.{operation_in, set_act, flag_act, register_act, counter_act, clearable_act, list_act, kind_act, are_few, update_in}
 use Rattle.script_lang.specs.Headers.{is_from_to}
 use Rattle.script_lang.specs.Numbers.{number_of}
 use Rattle.script_lang.specs.Words.{words_of, is_passed_over}
@@ -45,6 +46,8 @@ CanRun n (command.Resend r k) = r < n
 CanRun n (command.Raw r bytes) = (r < n) × All (λ b. b < 256) bytes
 CanRun n command.Settle = Unit {0}
 CanRun n (command.Members m) = (1 ≤ m) × (m ≤ 16)
+CanRun n (command.Ids r object) = (r < n) × (object.kind ≡ kind.List)
+CanRun n (command.Tombs r object) = (r < n) × (object.kind ≡ kind.List)
 CanRun n (command.Log r) = r < n
 CanRun n (command.Size r) = r < n
 CanRun n (command.Stable r) = r < n
@@ -105,6 +108,36 @@ size word =
     given (λ a. IsTrue (nat_lt a 4294967296)) (λ m. (1 ≤ m) × (m ≤ 16)) (amount_in word) _ (amount word) (λ m small.
     where_passed (λ m. (1 ≤ m) × (m ≤ 16)) (is_from_to 1 16 m) m fault.Number (λ t. let both = and_parts (nat_le 1 m) (nat_le m 16) t in (leb-true 1 m both.0, leb-true m 16 both.1)))
 
+-- ---- elements of lists
+
+abbrev Small : ℕ → Type 0
+Small a = IsTrue (nat_lt a 4294967296)
+
+-- an id that an element can have has numbers of 32 bits, and of 8
+valid_id : (epoch origin seq : ℕ) → Small epoch → Small seq → is_element (record { epoch = epoch; origin = origin; seq = seq }) ≡ true → IsTrue (is_valid_id (record { epoch = epoch; origin = origin; seq = seq }))
+valid_id epoch origin seq e s is =
+    let low = leb-true origin 15 (and_parts (nat_le origin 15) (nat_lt 0 seq) is).0 in
+    and_from (nat_lt epoch 4294967296 && nat_lt origin 256) (nat_lt seq 4294967296) (and_from (nat_lt epoch 4294967296) (nat_lt origin 256) e (lt-ltb origin 256 (omega (arith, low)))) s
+
+numbered : (words : List (List ℕ)) → IfOk (element_of words) (λ id. IsTrue (is_valid_id id))
+numbered [] = tt
+numbered (a ∷ []) = tt
+numbered (a ∷ b ∷ []) = tt
+numbered (e ∷ o ∷ s ∷ []) =
+    given Small (λ id. IsTrue (is_valid_id id)) (amount_in e) _ (amount e) (λ e small.
+    given Small (λ id. IsTrue (is_valid_id id)) (amount_in o) _ (amount o) (λ o any.
+    given Small (λ id. IsTrue (is_valid_id id)) (amount_in s) _ (amount s) (λ s low.
+    where_passed (λ id. IsTrue (is_valid_id id)) (is_element (record { epoch = e; origin = o; seq = s })) (record { epoch = e; origin = o; seq = s }) fault.Number (valid_id e o s small low))))
+numbered (a ∷ b ∷ c ∷ d ∷ words) = tt
+
+an_element : (word : List ℕ) → IfOk (element_in word) (λ id. IsTrue (is_valid_id id))
+an_element word = numbered (slice_split is_point word)
+
+a_place : (word : List ℕ) → IfOk (place_in word) (λ place. IsTrue (is_valid_place place))
+a_place word =
+    either (λ place. IsTrue (is_valid_place place)) (same_text word (codes "head")) (Ok None) (element_in word >>= λ id. Ok (Some id)) refl
+    (given (λ id. IsTrue (is_valid_id id)) (λ place. IsTrue (is_valid_place place)) (element_in word) _ (an_element word) (λ id valid. valid))
+
 -- ---- bytes in hexadecimal
 
 -- what decodes is bytes
@@ -130,52 +163,64 @@ with_value argument make valid = given (λ v. IsTrue (is_value v)) Valid (value_
 with_amount : (argument : List ℕ) (make : ℕ → Act) → ((a : ℕ) → IsTrue (nat_lt a 4294967296) → Valid (make a)) → IfOk (amount_in argument >>= λ a. Ok (make a)) Valid
 with_amount argument make valid = given (λ a. IsTrue (nat_lt a 4294967296)) Valid (amount_in argument) _ (amount argument) valid
 
-set_is_valid : (o : Operation) (argument : Option (List ℕ)) → IfOk (set_act o argument) Valid
-set_is_valid operation.Add (Some argument) = with_value argument act.Add (λ v t. t)
-set_is_valid operation.Rmv (Some argument) = with_value argument act.Rmv (λ v t. t)
-set_is_valid operation.Clear None = refl
-set_is_valid o argument = tt
+set_is_valid : (o : Operation) (arguments : List (List ℕ)) → IfOk (set_act o arguments) Valid
+set_is_valid operation.Add (argument ∷ []) = with_value argument act.Add (λ v t. t)
+set_is_valid operation.Rmv (argument ∷ []) = with_value argument act.Rmv (λ v t. t)
+set_is_valid operation.Clear [] = refl
+set_is_valid o arguments = tt
 
-flag_is_valid : (o : Operation) (argument : Option (List ℕ)) → IfOk (flag_act o argument) Valid
-flag_is_valid operation.Enable None = refl
-flag_is_valid operation.Disable None = refl
-flag_is_valid operation.Clear None = refl
-flag_is_valid o argument = tt
+flag_is_valid : (o : Operation) (arguments : List (List ℕ)) → IfOk (flag_act o arguments) Valid
+flag_is_valid operation.Enable [] = refl
+flag_is_valid operation.Disable [] = refl
+flag_is_valid operation.Clear [] = refl
+flag_is_valid o arguments = tt
 
-register_is_valid : (o : Operation) (argument : Option (List ℕ)) → IfOk (register_act o argument) Valid
-register_is_valid operation.Write (Some argument) = with_value argument act.Write (λ v t. t)
-register_is_valid operation.Clear None = refl
-register_is_valid o argument = tt
+register_is_valid : (o : Operation) (arguments : List (List ℕ)) → IfOk (register_act o arguments) Valid
+register_is_valid operation.Write (argument ∷ []) = with_value argument act.Write (λ v t. t)
+register_is_valid operation.Clear [] = refl
+register_is_valid o arguments = tt
 
-counter_is_valid : (o : Operation) (argument : Option (List ℕ)) → IfOk (counter_act o argument) Valid
-counter_is_valid operation.Inc (Some argument) = with_amount argument act.Inc (λ a t. t)
-counter_is_valid operation.Dec (Some argument) = with_amount argument act.Dec (λ a t. t)
-counter_is_valid o argument = tt
+counter_is_valid : (o : Operation) (arguments : List (List ℕ)) → IfOk (counter_act o arguments) Valid
+counter_is_valid operation.Inc (argument ∷ []) = with_amount argument act.Inc (λ a t. t)
+counter_is_valid operation.Dec (argument ∷ []) = with_amount argument act.Dec (λ a t. t)
+counter_is_valid o arguments = tt
 
-clearable_is_valid : (o : Operation) (argument : Option (List ℕ)) → IfOk (clearable_act o argument) Valid
-clearable_is_valid operation.Inc (Some argument) = with_amount argument act.Inc (λ a t. t)
-clearable_is_valid operation.Dec (Some argument) = with_amount argument act.Dec (λ a t. t)
-clearable_is_valid operation.Clear None = refl
-clearable_is_valid o argument = tt
+clearable_is_valid : (o : Operation) (arguments : List (List ℕ)) → IfOk (clearable_act o arguments) Valid
+clearable_is_valid operation.Inc (argument ∷ []) = with_amount argument act.Inc (λ a t. t)
+clearable_is_valid operation.Dec (argument ∷ []) = with_amount argument act.Dec (λ a t. t)
+clearable_is_valid operation.Clear [] = refl
+clearable_is_valid o arguments = tt
 
-act_is_valid : (k : Kind) (o : Operation) (argument : Option (List ℕ)) → IfOk (kind_act k o argument) Valid
-act_is_valid kind.AwSet o argument = set_is_valid o argument
-act_is_valid kind.RwSet o argument = set_is_valid o argument
-act_is_valid kind.EwFlag o argument = flag_is_valid o argument
-act_is_valid kind.DwFlag o argument = flag_is_valid o argument
-act_is_valid kind.MvReg o argument = register_is_valid o argument
-act_is_valid kind.Counter o argument = counter_is_valid o argument
-act_is_valid kind.RCounter o argument = clearable_is_valid o argument
+put_is_valid : (word place : List ℕ) → IfOk (value_in word >>= λ v. place_in place >>= λ p. Ok (act.Ins v p)) Valid
+put_is_valid word place =
+    given (λ v. IsTrue (is_value v)) Valid (value_in word) _ (value word) (λ v t.
+    given (λ p. IsTrue (is_valid_place p)) Valid (place_in place) _ (a_place place) (λ p valid. and_from (is_value v) (is_valid_place p) t valid))
+
+list_is_valid : (o : Operation) (arguments : List (List ℕ)) → IfOk (list_act o arguments) Valid
+list_is_valid operation.Ins (word ∷ place ∷ []) = put_is_valid word place
+list_is_valid operation.Del (id ∷ []) = given (λ e. IsTrue (is_valid_id e)) Valid (element_in id) _ (an_element id) (λ e valid. valid)
+list_is_valid operation.Clear [] = refl
+list_is_valid o arguments = tt
+
+act_is_valid : (k : Kind) (o : Operation) (arguments : List (List ℕ)) → IfOk (kind_act k o arguments) Valid
+act_is_valid kind.AwSet o arguments = set_is_valid o arguments
+act_is_valid kind.RwSet o arguments = set_is_valid o arguments
+act_is_valid kind.EwFlag o arguments = flag_is_valid o arguments
+act_is_valid kind.DwFlag o arguments = flag_is_valid o arguments
+act_is_valid kind.MvReg o arguments = register_is_valid o arguments
+act_is_valid kind.Counter o arguments = counter_is_valid o arguments
+act_is_valid kind.RCounter o arguments = clearable_is_valid o arguments
+act_is_valid kind.List o arguments = list_is_valid o arguments
 
 some_operation : (r : Result Operation Fault) → IfOk r (λ o. Unit {0})
 some_operation (Ok o) = tt
 some_operation (Err e) = tt
 
-update : (o word : List ℕ) (argument : Option (List ℕ)) → IfOk (update_in o word argument) (λ u. IsTrue (is_valid_update u))
-update o word argument =
+update : (o word : List ℕ) (arguments : List (List ℕ)) → IfOk (update_in o word arguments) (λ u. IsTrue (is_valid_update u))
+update o word arguments =
     given (λ (x : ObjectId). IsTrue (is_key x.key)) (λ u. IsTrue (is_valid_update u)) (object_in o) _ (object o) (λ x key.
     given (λ (operation : Operation). Unit {0}) (λ u. IsTrue (is_valid_update u)) (operation_in word) _ (some_operation (operation_in word)) (λ operation any.
-    given Valid (λ u. IsTrue (is_valid_update u)) (kind_act x.kind operation argument) _ (act_is_valid x.kind operation argument) (λ a valid.
+    given Valid (λ u. IsTrue (is_valid_update u)) (kind_act x.kind operation arguments) _ (act_is_valid x.kind operation arguments) (λ a valid.
     where_made (λ u. IsTrue (is_valid_update u)) (has_act x.kind a) _ fault.Operation (λ t. and_from (is_key x.key) (is_valid_act a) key valid))))
 
 -- ---- commands
@@ -184,18 +229,16 @@ module _ (n : ℕ) where
   abbrev Below : ℕ → Type 0
   Below r = r < n
 
-  does : (r o word : List ℕ) (argument : Option (List ℕ)) → IfOk (do_command n r o word argument) (CanRun n)
-  does r o word argument =
+  does : (r o word : List ℕ) (arguments : List (List ℕ)) → IfOk (do_command n r o word arguments) (CanRun n)
+  does r o word arguments =
       given Below (CanRun n) (member_of n r) _ (member n r) (λ r l.
-      given (λ u. IsTrue (is_valid_update u)) (CanRun n) (update_in o word argument) _ (update o word argument) (λ u t. (l, t)))
+      given (λ u. IsTrue (is_valid_update u)) (CanRun n) (update_in o word arguments) _ (update o word arguments) (λ u t. (l, t)))
 
   do_can_run : (words : List (List ℕ)) → IfOk (do_words n words) (CanRun n)
   do_can_run [] = tt
   do_can_run (a ∷ []) = tt
   do_can_run (a ∷ b ∷ []) = tt
-  do_can_run (r ∷ o ∷ word ∷ []) = does r o word None
-  do_can_run (r ∷ o ∷ word ∷ argument ∷ []) = does r o word (Some argument)
-  do_can_run (a ∷ b ∷ c ∷ d ∷ e ∷ words) = tt
+  do_can_run (r ∷ o ∷ word ∷ arguments) = either (CanRun n) (are_few arguments) (do_command n r o word arguments) (Err fault.Words) (does r o word arguments) tt
 
   ask_can_run : (words : List (List ℕ)) → IfOk (ask_words n words) (CanRun n)
   ask_can_run [] = tt
@@ -241,6 +284,29 @@ module _ (n : ℕ) where
   lone (r ∷ []) = member n r
   lone (a ∷ b ∷ words) = tt
 
+  -- a list is one of the kind of lists
+  is_list-true : (k : Kind) → is_list k ≡ true → k ≡ kind.List
+  is_list-true kind.AwSet e = cc
+  is_list-true kind.RwSet e = cc
+  is_list-true kind.EwFlag e = cc
+  is_list-true kind.DwFlag e = cc
+  is_list-true kind.MvReg e = cc
+  is_list-true kind.Counter e = cc
+  is_list-true kind.RCounter e = cc
+  is_list-true kind.List e = refl
+
+  a_list : (o : List ℕ) → IfOk (list_in o) (λ x. x.kind ≡ kind.List)
+  a_list o = given (λ (x : ObjectId). IsTrue (is_key x.key)) (λ (x : ObjectId). x.kind ≡ kind.List) (object_in o) _ (object o)
+      (λ x t. where_passed (λ (y : ObjectId). y.kind ≡ kind.List) (is_list x.kind) x fault.Object (is_list-true x.kind))
+
+  listed : (words : List (List ℕ)) → IfOk (lone_list n words) (λ x. (x.0 < n) × (x.1.kind ≡ kind.List))
+  listed [] = tt
+  listed (a ∷ []) = tt
+  listed (r ∷ o ∷ []) =
+      given Below (λ (x : ℕ × ObjectId). (x.0 < n) × (x.1.kind ≡ kind.List)) (member_of n r) _ (member n r)
+      (λ r l. given (λ (x : ObjectId). x.kind ≡ kind.List) (λ (x : ℕ × ObjectId). (x.0 < n) × (x.1.kind ≡ kind.List)) (list_in o) _ (a_list o) (λ x k. (l, k)))
+  listed (a ∷ b ∷ c ∷ words) = tt
+
   stop_can_run : (words : List (List ℕ)) → IfOk (stop_words n words) (CanRun n)
   stop_can_run [] = tt
   stop_can_run (a ∷ []) = tt
@@ -251,10 +317,16 @@ module _ (n : ℕ) where
   lone_can_run : (make : ℕ → Command) → ((r : ℕ) → r < n → CanRun n (make r)) → (words : List (List ℕ)) → IfOk (lone_member n words >>= λ r. Ok (make r)) (CanRun n)
   lone_can_run make can words = given Below (CanRun n) (lone_member n words) _ (lone words) can
 
+  list_can_run : (make : ℕ → ObjectId → Command) → ((r : ℕ) (object : ObjectId) → (r < n) × (object.kind ≡ kind.List) → CanRun n (make r object)) → (words : List (List ℕ))
+      → IfOk (lone_list n words >>= λ asked. Ok (make asked.0 asked.1)) (CanRun n)
+  list_can_run make can words = given (λ (x : ℕ × ObjectId). (x.0 < n) × (x.1.kind ≡ kind.List)) (CanRun n) (lone_list n words) _ (listed words) (λ x within. can x.0 x.1 within)
+
   -- the words behind each verb
   verb_can_run : (verb : Verb) (words : List (List ℕ)) → IfOk (verb_words n verb words) (CanRun n)
   verb_can_run verbs.Do words = do_can_run words
   verb_can_run verbs.Ask words = ask_can_run words
+  verb_can_run verbs.Ids words = list_can_run command.Ids (λ r object within. within) words
+  verb_can_run verbs.Tombs words = list_can_run command.Tombs (λ r object within. within) words
   verb_can_run verbs.Beat words = lone_can_run command.Beat (λ r l. l) words
   verb_can_run verbs.Give words = give_can_run words
   verb_can_run verbs.Resend words = resend_can_run words

@@ -81,6 +81,8 @@ commands_are_replied_to (command.Resend r k) world = outbox_is_replied_to (offer
 commands_are_replied_to (command.Raw r bytes) world = bytes_are_replied_to world r (read_at world r bytes)
 commands_are_replied_to command.Settle world = settling_is_replied_to (is_quiescent (world_settled world))
 commands_are_replied_to (command.Members n) world = regrouping_is_replied_to (epoch_in world == last_epoch) (not (is_at_rest world)) _ world (next_world n world)
+commands_are_replied_to (command.Ids r object) world = is_there _
+commands_are_replied_to (command.Tombs r object) world = is_there _
 commands_are_replied_to (command.Log r) world = is_there _
 commands_are_replied_to (command.Size r) world = is_there _
 commands_are_replied_to (command.Stable r) world = is_there _
@@ -102,6 +104,8 @@ keep_commands_are_replied_to (command.Resend r k) keep = is_there _
 keep_commands_are_replied_to (command.Raw r bytes) keep = is_there _
 keep_commands_are_replied_to command.Settle keep = is_there _
 keep_commands_are_replied_to (command.Members n) keep = is_there _
+keep_commands_are_replied_to (command.Ids r object) keep = is_there _
+keep_commands_are_replied_to (command.Tombs r object) keep = is_there _
 keep_commands_are_replied_to (command.Log r) keep = is_there _
 keep_commands_are_replied_to (command.Size r) keep = is_there _
 keep_commands_are_replied_to (command.Stable r) keep = is_there _

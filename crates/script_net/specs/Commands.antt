@@ -9,7 +9,7 @@ use Rattle.causal_model.specs.declared.outcome.Receive.{Receive}
 use Rattle.causal_model.specs.declared.outcome.Receive.TheVariants as receive
 use Rattle.frame_codec.specs.Fault.{fault_number}
 use Rattle.script_lang.specs.declared.command.Command.{Command}
-use Rattle.script_lang.specs.declared.command.Command.TheVariants.{Do, Ask, Beat, Give, Resend, Raw, Settle, Members, Log, Size, Stable, Seen, Noops, Lags, Stop}
+use Rattle.script_lang.specs.declared.command.Command.TheVariants.{Do, Ask, Beat, Give, Resend, Raw, Settle, Members, Ids, Tombs, Log, Size, Stable, Seen, Noops, Lags, Stop}
 use Rattle.script_lang.specs.declared.reply.Reply.{Reply}
 use Rattle.script_lang.specs.declared.reply.Reply.TheVariants as reply
 use Rattle.world_model.specs.World.{PlainWorld, size_of, local_at, beat_at, give_at}
@@ -18,7 +18,7 @@ use Rattle.world_model.specs.Raw.{raw_at}
 use Rattle.world_model.specs.Regrouping.{regroup_at}
 use Rattle.world_model.specs.Settling.{settle_at}
 use Rattle.world_model.specs.Stops.{PlainKeep, keep_local_at, keep_beat_at, keep_give_at, keep_stop_at}
-use Rattle.world_model.specs.Showing.{answer_at, log_at, entries_at, items_at, stable_at, seen_at, noops_at, lags_at}
+use Rattle.world_model.specs.Showing.{answer_at, list_ids_at, tombs_at, log_at, entries_at, items_at, stable_at, seen_at, noops_at, lags_at}
 use Rattle.world_model.specs.declared.outcome.Given.{Given}
 use Rattle.world_model.specs.declared.outcome.Given.TheVariants as given
 use Rattle.world_model.specs.declared.outcome.RawGot.{RawGot}
@@ -103,6 +103,8 @@ command_at (Resend r k) world = let made = resend_at r k world in (resent_reply 
 command_at (Raw r bytes) world = let made = raw_at r bytes world in (raw_reply made.0, made.1)
 command_at Settle world = let made = settle_at world in (settle_reply made.0, made.1)
 command_at (Members n) world = let made = regroup_at n world in (regroup_reply made.0, made.1)
+command_at (Ids r object) world = (Some (reply.Ids (list_ids_at world r object)), world)
+command_at (Tombs r object) world = (Some (reply.Tombs (tombs_at world r object)), world)
 command_at (Log r) world = (Some (reply.Log (log_at world r)), world)
 command_at (Size r) world = (Some (reply.Size (entries_at world r) (items_at world r)), world)
 command_at (Stable r) world = (Some (reply.Stable (size_of world) (stable_at world r)), world)
@@ -117,6 +119,8 @@ keep_command_at (Do r update) keep = let made = keep_local_at r update keep in (
 keep_command_at (Ask r object) keep = (Some (reply.Is (answer_at keep.world r object)), keep)
 keep_command_at (Beat r) keep = let made = keep_beat_at r keep in (beat_reply made.0, made.1)
 keep_command_at (Give r k s) keep = let made = keep_give_at r k s keep in (given_reply made.0, made.1)
+keep_command_at (Ids r object) keep = (Some (reply.Ids (list_ids_at keep.world r object)), keep)
+keep_command_at (Tombs r object) keep = (Some (reply.Tombs (tombs_at keep.world r object)), keep)
 keep_command_at (Log r) keep = (Some (reply.Log (log_at keep.world r)), keep)
 keep_command_at (Size r) keep = (Some (reply.Size (entries_at keep.world r) (items_at keep.world r)), keep)
 keep_command_at (Stable r) keep = (Some (reply.Stable (size_of keep.world) (stable_at keep.world r)), keep)

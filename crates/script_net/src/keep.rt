@@ -1,6 +1,7 @@
 //! Commands on a world of durable replicas, and what is replied to them.
 
 ghost use Rattle.std.specs.Prelude.{◌≡◌, ◌<◌, IfOk, false, length, Some};
+ghost use Rattle.op_base.specs.declared.name.Kind.TheVariants as kinds;
 ghost use Rattle.replica_keeper.specs.Worlds.{Shown};
 ghost use Rattle.script_lang.specs.Replies.{HasItsEntries};
 ghost use Rattle.script_lang.specs.Ranges.{IsWithin};
@@ -33,6 +34,8 @@ pub fn keep_reply_to(
         Command::Ask { r, object } => ask(alloc, world, *r, object),
         Command::Beat { r } => send_noop(alloc, world, *r),
         Command::Give { r, k, s } => give(alloc, world, *r, *k, *s),
+        Command::Ids { r, object } => list_ids(alloc, world, *r, object),
+        Command::Tombs { r, object } => Ok(Reply::Tombs(world.tombs(*r, object))),
         Command::Log { r } => list_log(alloc, world, *r),
         Command::Size { r } => Ok(size_reply(world, *r)),
         Command::Stable { r } => Ok(stable_reply(world, *r)),
@@ -90,6 +93,23 @@ fn give(alloc: Global, world: &mut KeepWorld, r: u8, k: u8, s: u32) -> Result<Re
     ensures entries { IfOk result HasItsEntries }
 {
     given_reply(world.give(alloc, r, k, s))
+}
+
+/// The ids of a list's elements at replica `r`.
+#[inline(never)]
+fn list_ids(
+    alloc: Global,
+    world: &mut KeepWorld,
+    r: u8,
+    object: &ObjectId,
+) -> Result<Reply, NoMemory>
+    requires of { r < length world.old.replicas.items }
+    requires goes_on { world.old.ended ≡ false }
+    requires kind { object.now.kind ≡ kinds.List }
+    ensures told { (keep : PlainKeep) → Shown world.old keep → KeepTold keep (Command.Ids r object.now) result world.new }
+    ensures entries { IfOk result HasItsEntries }
+{
+    Ok(Reply::Ids(world.list_ids(alloc, r, object)?))
 }
 
 /// The ids of replica `r`'s log.

@@ -1,6 +1,7 @@
 //! Commands on a world, and what is replied to them.
 
 ghost use Rattle.std.specs.Prelude.{◌≡◌, ◌<◌, ◌≤◌, IfOk, length, Some};
+ghost use Rattle.op_base.specs.declared.name.Kind.TheVariants as kinds;
 ghost use Rattle.script_lang.specs.Replies.{HasItsEntries};
 ghost use Rattle.script_lang.specs.Ranges.{IsWithin};
 ghost use Rattle.world_model.specs.World.{PlainWorld, size_of};
@@ -35,6 +36,8 @@ pub fn reply_to(alloc: Global, world: &mut World, command: &Command) -> Result<R
         Command::Raw { r, bytes } => offer_bytes(alloc, world, *r, bytes),
         Command::Settle => settle(alloc, world),
         Command::Members { n } => change_members(alloc, world, *n),
+        Command::Ids { r, object } => list_ids(alloc, world, *r, object),
+        Command::Tombs { r, object } => Ok(Reply::Tombs(world.tombs(*r, object))),
         Command::Log { r } => list_log(alloc, world, *r),
         Command::Size { r } => Ok(size_reply(world, *r)),
         Command::Stable { r } => Ok(stable_reply(world, *r)),
@@ -125,6 +128,17 @@ fn change_members(alloc: Global, world: &mut World, n: u8) -> Result<Reply, NoMe
     ensures entries { IfOk result HasItsEntries }
 {
     regroup_reply(world.regroup(alloc, n))
+}
+
+/// The ids of a list's elements at replica `r`.
+#[inline(never)]
+fn list_ids(alloc: Global, world: &World, r: u8, object: &ObjectId) -> Result<Reply, NoMemory>
+    requires of { r < length world.now.nodes.items }
+    requires kind { object.now.kind ≡ kinds.List }
+    ensures told { (plain : PlainWorld) → ShowsPlain world.now plain → Told plain (Command.Ids r object.now) result world.now }
+    ensures entries { IfOk result HasItsEntries }
+{
+    Ok(Reply::Ids(world.list_ids(alloc, r, object)?))
 }
 
 /// The ids of replica `r`'s log.

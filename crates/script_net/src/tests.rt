@@ -1,11 +1,13 @@
 //! Whole scripts: each line's reply, as worked by hand.
 
 mod changes;
+mod lists;
 mod scripts;
 mod stops;
 
 use crate::Runner;
 use crate::tests::changes::CHANGES;
+use crate::tests::lists::{KEPT_LISTS, LISTS};
 use crate::tests::scripts::{LIMIT, SCRIPTS, Script};
 use crate::tests::stops::STOPS;
 use op_base::{NoMemory, Text};
@@ -86,6 +88,13 @@ fn members_change(rt: HostRuntime) -> Result<(), Fail> {
 #[test]
 fn durable_replicas_are_stopped(rt: HostRuntime) -> Result<(), Fail> {
     assert_eq!(rt; first_wrong_of(rt.alloc(), Mode::Keep, &STOPS)?, None);
+    Ok(())
+}
+
+#[test]
+fn lists_have_their_order(rt: HostRuntime) -> Result<(), Fail> {
+    assert_eq!(rt; first_wrong_of(rt.alloc(), Mode::Store, &LISTS)?, None);
+    assert_eq!(rt; first_wrong_of(rt.alloc(), Mode::Keep, &KEPT_LISTS)?, None);
     Ok(())
 }
 

@@ -2,7 +2,7 @@
 use Rattle.std.specs.Prelude.{ℕ, zero, suc, ◌+◌, ◌-◌, nat_lt, ◌==◌, List, [], ◌∷◌, ◌++◌, map, codes, slice_index_or, if◌then◌else◌}
 use Rattle.std.specs.List.{flat_map}
 use Rattle.std.specs.Fmt.{decimal}
-use Rattle.op_base.specs.Name.{kind_word, kinds}
+use Rattle.op_base.specs.Name.{kind_word}
 use Rattle.op_base.specs.declared.name.Kind.{Kind}
 use Rattle.op_base.specs.declared.name.Kind.TheVariants.{AwSet, RwSet, EwFlag, DwFlag, MvReg, Counter, RCounter}
 use Rattle.script_lang.specs.Acts.{operation_word}
@@ -43,9 +43,13 @@ operations =
 abbrev pub operation_of : ℕ → Kind × Operation
 operation_of code = slice_index_or operations (code - 1) (AwSet, Add)
 
--- the kinds by number, from 0 in their order
+-- the kinds that scripts are made of, in their order: all but lists
+abbrev pub drawn_kinds : List Kind
+drawn_kinds = AwSet ∷ RwSet ∷ EwFlag ∷ DwFlag ∷ MvReg ∷ Counter ∷ RCounter ∷ []
+
+-- these kinds by number, from 0
 abbrev pub kind_at : ℕ → Kind
-kind_at place = slice_index_or kinds place AwSet
+kind_at place = slice_index_or drawn_kinds place AwSet
 
 -- the object of a kind with the key k0 or k1
 abbrev pub object_word : Kind → ℕ → List ℕ
@@ -138,7 +142,7 @@ questions_of kind =
 
 -- the lines behind those that are drawn: settle, and fourteen questions
 abbrev pub closing_lines : List (List (List ℕ))
-closing_lines = (codes "settle" ∷ []) ∷ flat_map questions_of kinds
+closing_lines = (codes "settle" ∷ []) ∷ flat_map questions_of drawn_kinds
 
 -- a line: words with one space between them, and a newline
 abbrev pub line_of : List (List ℕ) → List ℕ

@@ -17,7 +17,7 @@ pub enum Argument {
     Amount,
 }
 
-/// The kinds, in their order.
+/// The kinds that scripts are made of, in their order: all but lists.
 const KINDS: [Kind; 7] = [
     Kind::AwSet,
     Kind::RwSet,
@@ -58,7 +58,11 @@ pub fn argument_of(operation: Operation) -> Argument
     match operation {
         Operation::Add | Operation::Rmv | Operation::Write => Argument::Value,
         Operation::Inc | Operation::Dec => Argument::Amount,
-        Operation::Clear | Operation::Enable | Operation::Disable => Argument::Nothing,
+        Operation::Clear
+        | Operation::Enable
+        | Operation::Disable
+        | Operation::Ins
+        | Operation::Del => Argument::Nothing,
     }
 }
 
@@ -71,7 +75,7 @@ pub fn operation_of(code: u32) -> (Kind, Operation)
     OPERATIONS[code as usize - 1]
 }
 
-/// The kind of a number, in the order of kinds.
+/// The kind of a number, in the order of those that scripts are made of.
 pub fn kind_at(place: u32) -> Kind
     requires { place < 7 }
     ensures { result ≡ kind_at place }

@@ -1,6 +1,12 @@
-use Rattle.std.proofs.Common.{rules}
+use Rattle.std.proofs.Common.{sym, ◌∙◌, rules}
+use Rattle.std.proofs.lemmas.List.{take_rest}
 use Rattle.script_lang.proofs.Counts.{do-other}
 use Rattle.script_lang.proofs.command.read_do.Goals as goal
+use Rattle.script_lang.proofs.command.read_do.Goals.{in_default-via-then-words-lt3, in_default-via-in-len3-up+else-are_few}
 
 pub returns-in_default-clause-command : goal.returns-in_default-clause-command
-returns-in_default-clause-command c = λ _. do-other (λ word. word.now) c.args.n c.args.words.now (λ e. search rules) (λ e. search rules)
+returns-in_default-clause-command c = λ _.
+    do-other (λ word. word.now) c.args.n c.args.words.now (λ some. elim c.in_default.branch [
+      | in_default-via-then-words-lt3 w ↦ absurd (search rules)
+      | in_default-via-in-len3-up+else-are_few w ↦ sym (rw take_rest at w.are_few.ensures) ∙ w.if-are_few.false
+    ])
