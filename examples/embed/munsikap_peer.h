@@ -72,7 +72,7 @@ enum {
     MUNSIKAP_FAR = 13,        /* the message is too far ahead to be kept, so it has to come again later */
     MUNSIKAP_NO_FRAME = 14,   /* there are no more frames */
     MUNSIKAP_BAD_TEXT = 20,   /* 23, 25 to 28: a text is no update, or 25: no object. What is above 20 is N of `bad N`; 23
-                                 says that it has neither two nor three words */
+                                 says that it has fewer than two words or more than four */
     MUNSIKAP_BAD_FRAME = 40   /* 41 to 50: bytes are no frame of the store. What is above 40 is N of `bad frame N` */
 };
 
@@ -87,8 +87,8 @@ int32_t munsikap_create(struct munsikap_peer *peer, uint8_t me, uint8_t n, uint8
  * A peer that was ended must not come back under its number: it has forgotten what it sent. */
 void munsikap_free(struct munsikap_peer *peer);
 
-/* Does an operation, as a script writes it behind `do r`: an object, an act and perhaps an argument, as
- * "awset:list add milk" (docs/FORMATS.md has the kinds and their acts).
+/* Does an operation, as a script writes it behind `do r`: an object, an act and its arguments, as
+ * "awset:list add milk" or "list:a ins milk head" (docs/FORMATS.md has the kinds and their acts).
  * MUNSIKAP_DONE: it is done here, and its frame goes to all other members. `count` has the frame's length. Where it is no
  * more than `room`, the frame is in `frame`; MUNSIKAP_MOST_FRAME bytes are always enough. Else nothing was written there,
  * and the frame is the last that munsikap_frame hands out, where the store has more members than this one.

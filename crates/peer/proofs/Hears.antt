@@ -16,7 +16,7 @@ use Rattle.frame_codec.specs.declared.fault.FrameFault.{FrameFault}
 use Rattle.frame_codec.proofs.Read.{frames_are_read}
 use Rattle.replica_core.specs.Rules.{StandsFor}
 use Rattle.replica_core.specs.declared.replica.Replica.{Replica}
-use Rattle.peer.specs.Calls.{heard_of, is_read}
+use Rattle.peer.specs.Calls.{heard_of, is_read, is_taken}
 use Rattle.peer.specs.Rules.{hear_by, hear_rule}
 use Rattle.peer.specs.declared.answers.Heard.TheVariants as heard
 use Rattle.peer.proofs.Stands.{limit_by_test}
@@ -38,6 +38,15 @@ heard_is_read receive.Far = refl
 heard_is_read receive.Kept = refl
 heard_is_read (receive.Took steps) = refl
 heard_is_read receive.NoMemory = refl
+
+-- a message is taken in where its replica accepts it
+pub taken_is_accepted : (answer : Receive) → is_taken (heard_of answer) ≡ is_accepted answer
+taken_is_accepted receive.Old = refl
+taken_is_accepted receive.Again = refl
+taken_is_accepted receive.Far = refl
+taken_is_accepted receive.Kept = refl
+taken_is_accepted (receive.Took steps) = refl
+taken_is_accepted receive.NoMemory = refl
 
 -- where bytes are the frame of a message, what its replica makes of the message follows the rule of hearing them
 pub heard_follows : (r new : Replica) (bytes : List ℕ) (m : Message) (answer : Receive) → IsFrame r.n 0 r.limit bytes m

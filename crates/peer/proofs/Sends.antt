@@ -10,17 +10,21 @@ use Rattle.op_base.specs.declared.message.Message.{Message}
 use Rattle.op_base.specs.declared.operation.Update.{Update}
 use Rattle.causal_model.specs.Chapter.{is_chapter}
 use Rattle.causal_model.specs.Follows.{Follows}
-use Rattle.causal_model.specs.Sending.{is_sent, local_messages, local_rule}
+use Rattle.causal_model.specs.Sending.{is_sent, local_messages, local_rule, beat_messages, beat_rule}
 use Rattle.causal_model.specs.Stability.{stable_vector, is_stable}
 use Rattle.causal_model.specs.State.{State, with_own}
+use Rattle.causal_model.specs.declared.outcome.Beat.{Beat}
+use Rattle.causal_model.specs.declared.outcome.Beat.TheVariants as beat_of_replica
 use Rattle.causal_model.specs.declared.outcome.Local.{Local}
 use Rattle.causal_model.specs.declared.outcome.Local.TheVariants as local
 use Rattle.causal_model.proofs.Chapters.{chapter_induction}
 use Rattle.replica_core.specs.Standing.{Fields, Standing}
-use Rattle.replica_core.specs.Rules.{fields_of, StandsFor}
+use Rattle.replica_core.specs.Rules.{fields_of, StandsFor, Unchanged}
+use Rattle.replica_core.proofs.Stands.{unchanged_stands}
 use Rattle.replica_core.specs.declared.replica.Replica.{Replica}
-use Rattle.peer.specs.Calls.{updated_of, is_framed}
-use Rattle.peer.specs.Rules.{update_rule}
+use Rattle.peer.specs.Calls.{updated_of, beaten_of, is_framed, is_beat_framed}
+use Rattle.peer.specs.Rules.{update_rule, peer_beat_rule, frame_at}
+use Rattle.peer.specs.declared.answers.Beat.TheVariants as beat
 use Rattle.peer.specs.declared.answers.Updated.TheVariants as updated
 use Rattle.peer.proofs.Stands.{chapter_of}
 
@@ -46,6 +50,45 @@ unsent_follows r u answer unsent told s stands = elim (told s stands) [
   | inl is ↦ inl (ap (updated_of r.n) is.0, subst (λ sent. StandsFor r (fold with_own s sent)) (sym (unsent_has_none answer unsent) ∙ ap local_messages is.0) is.1)
   | inr lacks ↦ inr (ap (updated_of r.n) lacks.0, framed_is_sent r.n (local_rule r.w r.limit u s).0 ∙ lacks.1, lacks.2)
 ]
+
+-- ---- what is sent
+
+sent_is_no_fault : (m : Message) → local.Sent m ≡ local.NoMemory → ⊥
+sent_is_no_fault m e = cc
+
+-- what is drafted of an update is what the rule of updates sends
+drafted_is_sent : (r : Replica) (u : Update) (m : Message) → Follows StandsFor local.NoMemory is_sent (λ s. ((local_rule r.w r.limit u s).0, s)) r (local.Sent m) r
+    → (s : State) → StandsFor r s → local.Sent m ≡ (local_rule r.w r.limit u s).0
+drafted_is_sent r u m told s stands = elim (told s stands) [
+  | inl is ↦ is.0
+  | inr lacks ↦ absurd (sent_is_no_fault m lacks.0)
+]
+
+-- where it is sent, and its frame handed out, the replica follows that rule
+pub sent_follows : (r new : Replica) (u : Update) (m : Message) (frame : List ℕ) → Follows StandsFor local.NoMemory is_sent (λ s. ((local_rule r.w r.limit u s).0, s)) r (local.Sent m) r
+    → frame ≡ frame_at r m → ((s : State) → StandsFor r s → StandsFor new (with_own s m)) → Follows StandsFor updated.NoMemory is_framed (update_rule r.n r.w r.limit u) r (updated.Frame frame) new
+sent_follows r new u m frame told of goes s stands =
+    let sent = drafted_is_sent r u m told s stands in
+    inl (ap (λ (f : List ℕ). updated.Frame f) of ∙ ap (updated_of r.n) sent, subst (λ (ms : List Message). StandsFor new (fold with_own s ms)) (ap local_messages sent) (goes s stands))
+
+-- so it does where there is no memory for that
+pub lacking_follows : (r new : Replica) (u : Update) (m : Message) → Follows StandsFor local.NoMemory is_sent (λ s. ((local_rule r.w r.limit u s).0, s)) r (local.Sent m) r
+    → Unchanged r new → Follows StandsFor updated.NoMemory is_framed (update_rule r.n r.w r.limit u) r updated.NoMemory new
+lacking_follows r new u m told same s stands =
+    inr (refl, ap (λ (answer : Local). is_framed (updated_of r.n answer)) (sym (drafted_is_sent r u m told s stands)), unchanged_stands r new s same stands)
+
+-- a no-op that is drafted, sent and handed out follows the rule of beats
+pub beat_follows : (r new : Replica) (m : Message) (frame : List ℕ) → ((s : State) → StandsFor r s → beat_of_replica.Sent m ≡ (beat_rule r.w r.limit s).0)
+    → frame ≡ frame_at r m → ((s : State) → StandsFor r s → StandsFor new (with_own s m)) → Follows StandsFor beat.NoMemory is_beat_framed (peer_beat_rule r.n r.w r.limit) r (beat.Frame frame) new
+beat_follows r new m frame told of goes s stands =
+    let sent = told s stands in
+    inl (ap (λ (f : List ℕ). beat.Frame f) of ∙ ap (beaten_of r.n) sent, subst (λ (ms : List Message). StandsFor new (fold with_own s ms)) (ap beat_messages sent) (goes s stands))
+
+-- so does one where there is no memory for that
+pub lacking_beat_follows : (r new : Replica) (m : Message) → ((s : State) → StandsFor r s → beat_of_replica.Sent m ≡ (beat_rule r.w r.limit s).0)
+    → Unchanged r new → Follows StandsFor beat.NoMemory is_beat_framed (peer_beat_rule r.n r.w r.limit) r beat.NoMemory new
+lacking_beat_follows r new m told same s stands =
+    inr (refl, ap (λ (answer : Beat). is_beat_framed (beaten_of r.n answer)) (sym (told s stands)), unchanged_stands r new s same stands)
 
 -- ---- what is sent again
 

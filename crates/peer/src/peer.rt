@@ -25,6 +25,10 @@ impl Model for Peer {
 
     ghost Value = { AReplica };
 
+    ghost use Rattle.replica_core.specs.contracts.replica.Replica as the_replica;
+
+    ghost coded = { the_replica.the_row.coded };
+
     ghost view = { λ p. p.replica };
 
     ghost invariant = { λ p. p.replica.epoch ≡ 0 };
@@ -47,7 +51,7 @@ impl Peer {
     }
 
     /// What an object is, by all operations that were delivered here: the values of a set or a register in byte order,
-    /// whether a flag is on, or the value of a counter.
+    /// those of a list in its order, whether a flag is on, or the value of a counter.
     pub fn ask(&self, alloc: Global, object: &ObjectId) -> Result<Answer, NoMemory>
         ensures { IfOk result (λ a. (s : State) → StandsFor self.now s → a ≡ answer object.now (events s.history)) }
     {

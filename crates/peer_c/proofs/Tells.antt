@@ -1,7 +1,9 @@
 -- What a text is that is no update, and what is told of an update that wasn't sent.
-use Rattle.std.proofs.Common.{◌≡◌, ◌≢◌, ℕ, false, List, [], ◌∷◌, take, refl, sym, ◌∙◌}
+use Rattle.std.proofs.Common.{◌≡◌, ◌≢◌, ℕ, ◌≤◌, true, false, List, [], ◌∷◌, length, get_or, map, take, drop, refl, sym, ap, subst, ◌∙◌, arith}
 use Rattle.std.specs.Prelude.{Result, Ok, Err}
+use Rattle.std.proofs.lemmas.Bool.{cond-true}
 use Rattle.op_base.specs.declared.operation.Update.{Update}
+use Rattle.script_lang.specs.Acts.{are_few, update_in}
 use Rattle.script_lang.specs.declared.fault.Fault.{Fault}
 use Rattle.script_lang.specs.declared.fault.Fault.TheVariants as fault
 use Rattle.peer.specs.Calls.{is_framed}
@@ -16,7 +18,24 @@ update_by_seven [] = refl
 update_by_seven (a ∷ []) = refl
 update_by_seven (a ∷ b ∷ []) = refl
 update_by_seven (a ∷ b ∷ c ∷ []) = refl
-update_by_seven (a ∷ b ∷ c ∷ d ∷ words) = refl
+update_by_seven (a ∷ b ∷ c ∷ d ∷ []) = refl
+update_by_seven (a ∷ b ∷ c ∷ d ∷ e ∷ words) = refl
+
+-- no more than two arguments are few
+few_arguments : {X : Type 0} (f : X → List ℕ) (arguments : List X) → length arguments ≤ 2 → are_few (map f arguments) ≡ true
+few_arguments f [] few = refl
+few_arguments f (a ∷ []) few = refl
+few_arguments f (a ∷ b ∷ []) few = refl
+few_arguments f (a ∷ b ∷ c ∷ arguments) few = absurd (omega arith)
+
+-- words are an update by their arguments where these are few
+pub few_update : {X : Type 0} (f : X → List ℕ) (none : X) (words arguments : List X) → 2 ≤ length words → arguments ≡ drop 2 words → length arguments ≤ 2
+    → words_update (map f words) ≡ update_in (f (get_or words 0 none)) (f (get_or words 1 none)) (map f arguments)
+few_update f none [] arguments two are few = absurd (omega arith)
+few_update f none (object ∷ []) arguments two are few = absurd (omega arith)
+few_update {X} f none (object ∷ operation ∷ words) arguments two are few =
+    subst (λ (xs : List X). words_update (map f (object ∷ operation ∷ words)) ≡ update_in (f object) (f operation) (map f xs)) (sym are)
+    (cond-true _ _ _ (few_arguments f words (omega (arith, few, ap length are))))
 
 err_is_not_ok : (f : Fault) (u : Update) → Err f ≡ Ok u → ⊥
 err_is_not_ok f u e = cc

@@ -1,11 +1,11 @@
 -- What the C library tells of a peer's answers, and what it hands out of them.
-use Rattle.std.specs.Prelude.{◌≡◌, ◌++◌, ◌≤◌, ◌∷◌, [], ℕ, Bool, true, false, List, Some, None, Result, Err, length, drop}
+use Rattle.std.specs.Prelude.{◌≡◌, ◌++◌, ◌≤◌, ◌∷◌, [], ℕ, Bool, true, false, List, Result, Err, if◌then◌else◌, length, drop}
 use Rattle.std.specs.List.{filter}
 use Rattle.op_base.specs.declared.operation.Update.{Update}
 use Rattle.op_base.specs.declared.outcome.Step.{Step}
 use Rattle.op_base.specs.declared.outcome.Step.TheVariants as step
 use Rattle.frame_codec.specs.Fault.{fault_number}
-use Rattle.script_lang.specs.Acts.{update_in}
+use Rattle.script_lang.specs.Acts.{are_few, update_in}
 use Rattle.script_lang.specs.Words.{words_of}
 use Rattle.script_lang.specs.declared.fault.Fault.{Fault}
 use Rattle.script_lang.specs.declared.fault.Fault.TheVariants as fault
@@ -18,13 +18,10 @@ use Rattle.peer.specs.declared.answers.Heard.TheVariants as heard
 use Rattle.peer_c.specs.declared.outcome.Outcome.{Outcome}
 use Rattle.peer_c.specs.declared.outcome.Outcome.TheVariants as outcome
 
--- the update that words are: an object, an operation and perhaps an argument
+-- the update that words are: an object, an operation and no more than two arguments
 abbrev pub words_update : List (List ℕ) → Result Update Fault
-words_update [] = Err fault.Words
-words_update (object ∷ []) = Err fault.Words
-words_update (object ∷ operation ∷ []) = update_in object operation None
-words_update (object ∷ operation ∷ argument ∷ []) = update_in object operation (Some argument)
-words_update (object ∷ operation ∷ argument ∷ more ∷ words) = Err fault.Words
+words_update (object ∷ operation ∷ arguments) = if are_few arguments then update_in object operation arguments else Err fault.Words
+words_update words = Err fault.Words
 
 -- the update that a text is
 abbrev pub text_update : List ℕ → Result Update Fault

@@ -35,7 +35,7 @@ pub extern "C" fn munsikap_free(alloc: Global, handle: &mut Handle) {
     drop(handle.take(alloc));
 }
 
-/// Sends an update: an object, an operation and perhaps an argument, as behind `do r` in a script. The length of its frame
+/// Sends an update: an object, an operation and its arguments, as behind `do r` in a script. The length of its frame
 /// goes to `count`, and the frame to `frame` where there is room for it.
 #[unsafe(no_mangle)]
 pub extern "C" fn munsikap_update(

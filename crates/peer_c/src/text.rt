@@ -24,13 +24,14 @@ pub fn faulty(fault: Fault) -> Outcome
     }
 }
 
-/// The update of words: an object, an operation and perhaps an argument.
+/// The update of words: an object, an operation and no more than two arguments.
 fn read_words(alloc: Global, words: &[&[u8]]) -> Result<Update, Fault>
     ensures { Reads (words_update (map (λ word. word.now) words.now)) result }
 {
     match words {
-        [object, operation] => read_update(alloc, object, operation, None),
-        [object, operation, argument] => read_update(alloc, object, operation, Some(argument)),
+        [object, operation, arguments @ ..] if arguments.len() <= 2 => {
+            read_update(alloc, object, operation, arguments)
+        }
         _ => Err(Fault::Words),
     }
 }

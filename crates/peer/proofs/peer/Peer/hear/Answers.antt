@@ -1,12 +1,12 @@
-use Rattle.std.proofs.Common.{sym, subst}
+use Rattle.std.proofs.Common.{sym, ap, subst, ◌∙◌}
 use Rattle.causal_model.specs.Follows.{Follows}
-use Rattle.replica_core.specs.Rules.{StandsFor}
+use Rattle.replica_core.specs.Rules.{StandsFor, Unchanged}
 use Rattle.replica_core.specs.declared.replica.Replica.{Replica}
-use Rattle.peer.specs.Calls.{is_read}
+use Rattle.peer.specs.Calls.{is_read, is_taken}
 use Rattle.peer.specs.Rules.{hear_rule}
 use Rattle.peer.specs.declared.answers.Heard.{Heard}
 use Rattle.peer.specs.declared.answers.Heard.TheVariants as heard
-use Rattle.peer.proofs.Hears.{frame_is_carried, heard_follows}
+use Rattle.peer.proofs.Hears.{frame_is_carried, heard_follows, taken_is_accepted}
 use Rattle.peer.proofs.Stands.{is_bounded}
 use Rattle.peer.proofs.peer.Peer.hear.Goals as goal
 
@@ -28,3 +28,8 @@ returns-clause-answer c =
     subst (λ (r : Replica). Follows StandsFor heard.NoMemory is_read (hear_rule r.n r.w r.limit bytes) r c.heard_of.result c.receive.new.self) c.self.view_is
     (subst (λ (x : Heard). Follows StandsFor heard.NoMemory is_read (hear_rule r.n r.w r.limit bytes) r x c.receive.new.self) (sym c.heard_of.ensures)
     (heard_follows r c.receive.new.self bytes c.in-Ok.message c.receive.result c.in-Ok.ensures.found c.receive.ensures.answer))
+
+pub returns-clause-refused : goal.returns-clause-refused
+returns-clause-refused c = λ refused.
+    subst (λ (r : Replica). Unchanged r c.receive.new.self) c.self.view_is
+    (c.receive.ensures.refused (sym (taken_is_accepted c.receive.result) ∙ ap is_taken (sym c.heard_of.ensures) ∙ refused))
