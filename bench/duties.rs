@@ -40,6 +40,11 @@ impl<N: Num> script::World for World<N> {
         let o = member.names.find(kind as u32, key, Names::hash(kind as u32, key)).ok();
         member.state.answer(o, kind, &member.names, out);
     }
+    fn list(&mut self, r: usize, key: &[u8], asked: Asked, out: &mut Vec<u8>) {
+        let Member { state, names, .. } = &self.members[r];
+        let o = names.find(List as u32, key, Names::hash(List as u32, key)).ok();
+        state.put_list(o.map(|o| names.object_of(o)), asked, out);
+    }
     /// The journal of who is new is a copy of member 0's, and its own note.
     fn regroup(&mut self, n: usize) {
         self.members.truncate(n);

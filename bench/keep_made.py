@@ -15,15 +15,17 @@ BAD_LINES = [
     b"settle", b"resend 0 1", b"raw 0 01", b"members 2", b"noops 0", b"lags 0", b"raw", b"members 0", b"Stop 0 0", b"open 0",
     b"keep 2 2", b"store 2 2", b"0: ask counter:a", b"x" * 16384, b"x" * 16385, b"ask 0 counter:a" + b" " * 16384,
     # words that lack, or are too many
-    b"stop", b"stop 0", b"stop 0 0 0", b"stop 16", b"do 0", b"do 0 counter:a", b"do 0 awset:a add x y", b"ask 0", b"give 0 0",
+    b"stop", b"stop 0", b"stop 0 0 0", b"stop 16", b"do 0", b"do 0 counter:a", b"do 0 awset:a add x y", b"do 0 list:a ins x head y", b"ask 0",
+    b"ids 0", b"tombs 0 list:a x", b"give 0 0",
     b"give 0 0 1 1", b"beat", b"beat 0 0", b"log", b"size 0 0", b"stable", b"seen 0 1",
     # no such member
     b"stop 16 0", b"stop x x", b"do 16 counter: inc 1", b"ask 4294967296 counter:a", b"give 0 16 x", b"give -1 0 1", b"beat 99",
     b"log 00000000016", b"size +0", b"stable 0x0", b"seen \r\r",
     # no object, no act, no value, no amount
-    b"ask 0 counter:", b"ask 0 list:a", b"do 0 awset add x", b"do 0 counter:a add x", b"do 0 ewflag:a on", b"do 0 mvreg:a rmv x",
+    b"ask 0 counter:", b"ask 0 set:a", b"ids 0 awset:a", b"tombs 0 list", b"tombs 0 counter:a", b"do 0 awset add x", b"do 0 counter:a add x", b"do 0 ewflag:a on", b"do 0 mvreg:a rmv x",
     b"do 0 awset:a add \x7f", b"do 0 rwset:a rmv \xff", b"do 0 mvreg:a write " + b"v" * 4097, b"do 0 counter:a inc 4294967296",
-    b"give 0 0 x", b"give 0 0 4294967296", b"stop 0 x", b"stop 0 -1", b"stop 0 4294967296", b"stop 0 00000000000", b"stop 0 0x1",
+    b"do 0 list:a ins x 0.16.1",
+    b"do 0 list:a del head", b"ids 16 list:a", b"give 0 0 x", b"give 0 0 4294967296", b"stop 0 x", b"stop 0 -1", b"stop 0 4294967296", b"stop 0 00000000000", b"stop 0 0x1",
 ]
 BAD_HEADERS = [
     b"keep 0 1", b"keep 17 1", b"keep 1 0", b"keep 1 65", b"keep 1 1 0", b"keep 1 1 1000001", b"keep", b"keep 1", b"keep 1 1 1 1",
@@ -34,7 +36,7 @@ LIMITED = [b"keep %d %d %d", b"keep %d\t%d 00%d", b"keep %d %d %d\r"]
 # A value of as many bytes as there may be.
 LONG = b"v" * 4096
 # How often each kind of line is drawn.
-LINES = {"do": 28, "give": 30, "round": 4, "beat": 9, "stop": 12, "ask": 8, "show": 10, "bad": 3, "skip": 2}
+LINES = {"do": 28, "give": 30, "round": 4, "beat": 9, "stop": 12, "ask": 8, "list": 3, "show": 10, "bad": 3, "skip": 2}
 
 
 class Drawn:
@@ -69,7 +71,7 @@ class Drawn:
         words = drawn_operation(self.draw, self.keys)
         while self.kinds and words[0].split(b":")[0] not in self.kinds:
             words = drawn_operation(self.draw, self.keys)
-        if words[1] in (b"add", b"rmv", b"write") and self.draw.random() < 0.01:
+        if words[1] in (b"add", b"rmv", b"write", b"ins") and self.draw.random() < 0.01:
             words[2] = LONG
         return words
 
@@ -114,6 +116,8 @@ class Drawn:
             self.add(b"stop", b"%d" % r, b"%d" % self.room(r))
         elif kind == "ask":
             self.add(b"ask", b"%d" % r, self.operation()[0])
+        elif kind == "list":
+            self.add(self.draw.choice([b"ids", b"tombs"]), b"%d" % r, b"list:" + self.draw.choice(self.keys))
         elif kind in ("bad", "skip"):
             self.lines.append(self.draw.choice(BAD_LINES if kind == "bad" else SKIPPED))
             self.store.reply(self.lines[-1])

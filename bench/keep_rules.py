@@ -13,22 +13,22 @@ import sys
 from typing import NamedTuple
 
 sys.dont_write_bytecode = True
+from elements import Elements
 from live_rules import (
-    LINE_BYTES, NO_OP, Bad, Message, State, answer_of, frame_of, is_after, member_of, number_of, object_of, operation_of,
-    words_of,
+    LINE_BYTES, NO_OP, Bad, Message, State, amount_of, answer_of, frame_of, member_of, number_of, object_of, operation_of, words_of,
 )
 
 # How many messages a member sends at most where the header doesn't say.
 USUAL_LIMIT = 10000
 # The commands, with how many words stand behind each.
 COMMANDS = {
-    b"do": (3, 4), b"ask": (2,), b"beat": (1,), b"give": (3,), b"log": (1,), b"size": (1,), b"stable": (1,), b"seen": (1,),
-    b"stop": (2,),
+    b"do": (3, 4, 5), b"ask": (2,), b"ids": (2,), b"tombs": (2,), b"beat": (1,), b"give": (3,), b"log": (1,), b"size": (1,),
+    b"stable": (1,), b"seen": (1,), b"stop": (2,),
 }
 # The acts that are logged, by their kinds.
 LOGGED = {
     b"awset": (b"add",), b"rwset": (b"add", b"rmv"), b"ewflag": (b"enable",), b"dwflag": (b"enable", b"disable"),
-    b"mvreg": (b"write",), b"counter": (), b"rcounter": (b"inc", b"dec"),
+    b"mvreg": (b"write",), b"counter": (), b"rcounter": (b"inc", b"dec"), b"list": (b"del", b"clear"),
 }
 
 
@@ -79,13 +79,17 @@ def value_of(message):
 
 
 def covers(later, earlier):
-    """Whether an operation makes an earlier one redundant."""
-    if later.operation.object != earlier.operation.object or not is_logged(earlier):
-        return False
+    """Whether an operation makes an earlier one of its object redundant, which is logged. In a list none does."""
     kind = kind_of(earlier)
-    if kind in (b"ewflag", b"dwflag", b"mvreg") or later.operation.act == b"clear":
+    if kind in (b"ewflag", b"dwflag", b"mvreg") or kind != b"list" and later.operation.act == b"clear":
         return True
     return kind in (b"awset", b"rwset") and value_of(later) == value_of(earlier)
+
+
+def is_covered(message, done):
+    """Whether one of what was done makes an operation redundant that is logged."""
+    later = (m for m in done if m.operation.object == message.operation.object and m.is_after(message))
+    return is_logged(message) and any(covers(m, message) for m in later)
 
 
 def operations_of(state):
@@ -95,9 +99,9 @@ def operations_of(state):
 
 def uncovered_of(state):
     """The operations that no later one covers: those that are stable, and those that aren't."""
-    done, stable = operations_of(state), state.stable()
-    uncovered = [m for m in done if not any(is_after(other, m) and covers(other, m) for other in done)]
-    return [m for m in uncovered if m.number <= stable[m.origin]], [m for m in uncovered if m.number > stable[m.origin]]
+    done, stable = operations_of(state), state.stable_messages()
+    uncovered = [m for m in done if not is_covered(m, done)]
+    return [m for m in uncovered if m in stable], [m for m in uncovered if m not in stable]
 
 
 def log_of(state):
@@ -184,19 +188,20 @@ class Replica:
 
 
 # ---------------------------------------------------------------- a script
-def amount_of(word):
-    """A number."""
-    number = number_of(word)
-    if number is None:
-        raise Bad(8)
-    return number
+def list_of(word):
+    """A list's text."""
+    object_ = object_of(word)
+    if not object_.startswith(b"list:"):
+        raise Bad(5)
+    return object_
 
 
 class Store:
     """The durable replicas of a script, and what each member sent."""
 
-    # What a replica is made by.
-    make = Replica
+    # The word of its header, and its commands; what a replica is made by, and what tells the elements of a list.
+    word, commands = b"keep", COMMANDS
+    make, elements = Replica, Elements
 
     def __init__(self, n, w, limit):
         self.n, self.w, self.limit = n, w, limit
@@ -216,11 +221,17 @@ class Store:
         """Runs a command. What it replies."""
         if len(line.removesuffix(b"\r")) > LINE_BYTES:
             raise Bad(1)
-        if verb not in COMMANDS:
+        if verb not in self.commands:
             raise Bad(2)
-        if len(words) not in COMMANDS[verb]:
+        if len(words) not in self.commands[verb]:
             raise Bad(3)
-        r, rest = member_of(words[0], self.n), words[1:]
+        return self.of_store(verb, *words) or self.of_member(verb, member_of(words[0], self.n), *words[1:])
+
+    def of_store(self, verb, *words):
+        """Runs a command that is of no member. What it replies, or `None` where it is of one."""
+
+    def of_member(self, verb, r, *rest):
+        """Runs a command of a member. What it replies."""
         state = self.replicas[r].state
         if verb == b"do":
             operation = operation_of(rest)
@@ -231,7 +242,17 @@ class Store:
             return self.give(r, member_of(rest[0], self.n), amount_of(rest[1]))
         if verb == b"stop":
             return self.replicas[r].stop(amount_of(rest[0]))
-        return answer_of(object_of(rest[0]), state.history) if verb == b"ask" else self.shown(verb, state)
+        return self.answer(verb, rest[0], state) if verb in (b"ask", b"ids", b"tombs") else self.shown(verb, state)
+
+    def answer(self, verb, word, state):
+        """What is asked of an object at a replica."""
+        if verb == b"ask":
+            return answer_of(object_of(word), state.history, self.elements)
+        object_ = list_of(word)
+        elements = self.elements(m for m in state.history if m.operation.object == object_)
+        if verb == b"ids":
+            return b" ".join([b"ids", *(b"%d.%d.%d" % id_ for id_ in elements.ids())])
+        return b"tombs %d" % elements.tombs(state.stable_messages())
 
     def send(self, r, operation, why):
         """Sends an operation or a no-op at a replica."""
@@ -255,11 +276,11 @@ class Store:
         return b" ".join([verb, *(b"%d" % count for count in counts)])
 
 
-def header_of(line):
-    """The store of a header, as its numbers, or `None`."""
+def header_of(line, first):
+    """The store of a header with such a first word, as its numbers, or `None`."""
     words = words_of(line)
     numbers = [number_of(word) for word in words[1:]]
-    if len(line.removesuffix(b"\r")) > LINE_BYTES or words[0] != b"keep" or len(numbers) not in (2, 3) or None in numbers:
+    if len(line.removesuffix(b"\r")) > LINE_BYTES or words[0] != first or len(numbers) not in (2, 3) or None in numbers:
         return None
     n, w, limit = [*numbers, USUAL_LIMIT][:3]
     return (n, w, limit) if 1 <= n <= 16 and 1 <= w <= 64 and 1 <= limit <= 1000000 else None
@@ -275,7 +296,7 @@ def exchanges_of(script, make=Store):
     """The lines behind a script's header that have a reply, each with its number and that. `None` without such a header."""
     lines = enumerate(script.split(b"\n"), 1)
     header = next((line for _, line in lines if not is_passed_over(line)), None)
-    numbers = header_of(header) if header is not None else None
+    numbers = header_of(header, make.word) if header is not None else None
     if numbers is None:
         return None
     store = make(*numbers)
@@ -284,7 +305,7 @@ def exchanges_of(script, make=Store):
 
 
 def transcript_of(script, make=Store):
-    """The transcript of a script. `None` without a header of durable replicas."""
+    """The transcript of a script. `None` without a header of such a store."""
     exchanges = exchanges_of(script, make)
     return None if exchanges is None else b"".join(reply + b"\n" for _, _, reply in exchanges)
 

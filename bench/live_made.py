@@ -33,12 +33,20 @@ BAD_LINES = [
     b"0: ask ewflag:a:b", b"0: ask awset:a\r\r",
     b"0: do counter:a add x", b"0: do awset:a clear x", b"0: do awset:a add", b"0: do counter:a clear", b"0: do ewflag:a on",
     b"0: do mvreg:a rmv x",
+    b"0: do awset:a add x y z", b"0: do awset:a clear x y", b"0: do list:a ins x", b"0: do list:a ins x head y", b"0: do list:a del",
+    b"0: do list:a clear x", b"0: do list:a add x", b"0: do list:a ins \x7f 0.0.0", b"0: do list:a ins x 0.16.1",
+    b"0: do list:a ins x 0.0", b"0: do list:a ins x Head", b"0: do list:a del head", b"0: do list:a del 0.0.0", b"0: ids list:a",
     b"0: do awset:a add " + b"v" * 4097, b"0: do rwset:a rmv \xff", b"0: do mvreg:a write x\x01", b"0: do awset:a add \x7f",
     b"0: do counter:a inc x", b"0: do counter:a dec -1", b"0: do rcounter:a inc 4294967296",
     b"0: do rcounter:a inc 00000000001",
 ]
 SKIPPED = [b"", b"  \t", b"# a comment", b"\t#0: ask counter:a", b"#" * 20000, b"\r"]
 HEADERS = [b"live %d %d %d %d %d", b"live\t%d  %d %d %d %d ", b"  live %d 0%d %d %d %d\r"]
+
+
+def drawn_id(draw):
+    """The id of an element, as a word: there may be one."""
+    return b"0.%d.%d" % (draw.choice([0, 0, 1, 2]), draw.randint(1, 12))
 
 
 def drawn_operation(draw, keys):
@@ -52,6 +60,10 @@ def drawn_operation(draw, keys):
         words.append(draw.choice(VALUES))
     elif takes == "amount":
         words.append(b"%d" % draw.choice([0, 1, 2, 7, 100, 4294967295]))
+    elif takes == "place":
+        words += [draw.choice(VALUES), draw.choice([b"head", drawn_id(draw), drawn_id(draw)])]
+    elif takes == "id":
+        words.append(drawn_id(draw))
     return words
 
 

@@ -1,13 +1,15 @@
 """The rules of live runs, plainly over whole histories: frames, what a replica may do, what an object is, and live inputs.
 
 `bench/live_check.py` reads texts by them, and `bench/live_made.py` makes texts by them; `bench/keep_rules.py` has scripts of
-durable replicas by the same rules. Nothing here is quick: a state is the list of all messages that were delivered, and each test
-and each answer asks that list.
+durable replicas by the same rules, and `bench/list_rules.py` those of a store. Nothing here is quick: a state is the list of all
+messages that were delivered, and each test and each answer asks that list.
 """
 
 import operator
 import re
 from typing import NamedTuple
+
+from elements import Elements
 
 # How many messages a member sends at most, and the bytes of an input, a line, a key and a value.
 LIMIT = 65535
@@ -15,6 +17,7 @@ INPUT_BYTES = 4194304
 LINE_BYTES = 16384
 KEY = re.compile(rb"[a-z0-9_.-]{1,32}")
 VALUE_BYTES = 4096
+OLD_VALUE_BYTES = 64
 # The operations in the order of their codes, from 1: kind, act, and what it takes.
 OPERATIONS = [
     (b"awset", b"add", "value"), (b"awset", b"rmv", "value"), (b"awset", b"clear", None),
@@ -24,32 +27,41 @@ OPERATIONS = [
     (b"mvreg", b"write", "value"), (b"mvreg", b"clear", None),
     (b"counter", b"inc", "amount"), (b"counter", b"dec", "amount"),
     (b"rcounter", b"inc", "amount"), (b"rcounter", b"dec", "amount"), (b"rcounter", b"clear", None),
+    (b"list", b"ins", "place"), (b"list", b"del", "id"), (b"list", b"clear", None),
 ]
+# How many words stand behind an act for what it takes: a value, an amount, a value and a place, the id of an element, or nothing.
+WORDS = {"value": 1, "amount": 1, "place": 2, "id": 1, None: 0}
+# The last code of frames of version 1.
+OLD_CODES = 19
 KINDS = list(dict.fromkeys(kind for kind, _, _ in OPERATIONS))
 
 
 # ---------------------------------------------------------------- messages
 class Operation(NamedTuple):
-    """An operation on an object, as its text says it; a no-op has the code 0 and neither."""
+    """An operation on an object, as its text says it; a no-op has the code 0 and nothing else. An element is named by its id, as
+    three numbers, and the head is `None`."""
 
     code: int
     object: bytes | None = None
     argument: bytes | int | None = None
+    element: tuple | None = None
 
     @property
     def act(self):
-        return OPERATIONS[self.code - 1][1]
+        return OPERATIONS[self.code - 1][1] if self.code else None
 
 
 NO_OP = Operation(0)
 
 
 class Message(NamedTuple):
-    """What a member sends: who it is of, how many messages of each member its sender had, itself counted, and what it does."""
+    """What a member sends: who it is of, how many messages of each member its sender had, itself counted, what it does, and its
+    epoch."""
 
     origin: int
     tag: tuple
     operation: Operation
+    epoch: int = 0
 
     @property
     def number(self):
@@ -58,6 +70,12 @@ class Message(NamedTuple):
     @property
     def id(self):
         return self.origin, self.number
+
+    def is_after(self, earlier):
+        """Whether it happened after another."""
+        if self.epoch != earlier.epoch:
+            return self.epoch > earlier.epoch
+        return self.tag[earlier.origin] >= earlier.number and self.id != earlier.id
 
 
 def is_value(word):
@@ -71,20 +89,15 @@ def is_value(word):
     return True
 
 
-def is_after(later, earlier):
-    """Whether a message happened after another."""
-    return later.id != earlier.id and later.tag[earlier.origin] >= earlier.number
-
-
 # ---------------------------------------------------------------- frames
 class BadFrame(Exception):
     """Bytes that are no frame, with the number of their first fault."""
 
 
 def frame_of(message, n):
-    """The frame of a message among n members, in the version that is written, in epoch 0."""
-    code, object_, argument = message.operation
-    parts = [bytes([2, message.origin, n, code]), bytes(4), *(entry.to_bytes(4, "big") for entry in message.tag)]
+    """The frame of a message among n members, in the version that is written."""
+    code, object_, argument, element = message.operation
+    parts = [bytes([2, message.origin, n, code]), message.epoch.to_bytes(4, "big"), *(entry.to_bytes(4, "big") for entry in message.tag)]
     if code:
         key = object_.split(b":", 1)[1]
         parts += [len(key).to_bytes(2, "big"), key]
@@ -92,49 +105,90 @@ def frame_of(message, n):
             parts += [len(argument).to_bytes(2, "big"), argument]
         elif argument is not None:
             parts.append(argument.to_bytes(4, "big"))
+        if OPERATIONS[code - 1][2] == "place":
+            parts.append(bytes([element is not None]))
+        if element is not None:
+            parts += [element[0].to_bytes(4, "big"), bytes([element[1]]), element[2].to_bytes(4, "big")]
     return b"".join(parts)
 
 
-def field_of(data, at):
-    """The bytes behind a length of 16 bits, and the place behind them. `None` where they are cut."""
-    size = int.from_bytes(data[at:at + 2], "big")
-    end = at + 2 + size
-    return (data[at + 2:end], end) if at + 2 <= len(data) and end <= len(data) else None
+class Fields:
+    """The bytes of a frame behind its timestamp, which are taken field by field; lengths have so many bytes. What is cut, or not
+    as it has to be, is told by a fault."""
+
+    def __init__(self, data, length):
+        self.data, self.length = data, length
+
+    def bytes(self, size, fault):
+        """So many bytes."""
+        if len(self.data) < size:
+            raise BadFrame(fault)
+        taken, self.data = self.data[:size], self.data[size:]
+        return taken
+
+    def number(self, size, fault):
+        return int.from_bytes(self.bytes(size, fault), "big")
+
+    def text(self, is_right, fault):
+        """A length, and as many bytes, which have to be right."""
+        taken = self.bytes(self.number(self.length, fault), fault)
+        if not is_right(taken):
+            raise BadFrame(fault)
+        return taken
+
+    def value(self):
+        most = VALUE_BYTES if self.length == 2 else OLD_VALUE_BYTES
+        return self.text(lambda value: len(value) <= most and is_value(value), 8)
+
+    def id(self):
+        """The id of an element."""
+        id_ = self.number(4, 8), self.number(1, 8), self.number(4, 8)
+        if not is_id(*id_):
+            raise BadFrame(8)
+        return id_
+
+    def place(self):
+        """The head, or an id."""
+        is_behind = self.number(1, 8)
+        if is_behind > 1:
+            raise BadFrame(8)
+        return self.id() if is_behind else None
+
+    def operation(self, code):
+        """What a code other than 0 does."""
+        kind, _, takes = OPERATIONS[code - 1]
+        object_ = kind + b":" + self.text(KEY.fullmatch, 7)
+        if takes == "value":
+            return Operation(code, object_, self.value())
+        if takes == "amount":
+            return Operation(code, object_, self.number(4, 8))
+        if takes == "place":
+            return Operation(code, object_, self.value(), self.place())
+        return Operation(code, object_, element=self.id() if takes == "id" else None)
 
 
-def message_of(data, n):
-    """The message whose frame of version 2 these bytes are, among n members, in epoch 0."""
-    at = 8 + 4 * n
-    if len(data) < at or data[0] == 1:
-        raise BadFrame(1 if len(data) < 4 + 4 * n or data[0] == 2 else 2)
-    origin, code = data[1], data[3]
-    faults = [(data[0] != 2, 2), (data[4:8] != bytes(4), 10), (data[2] != n, 3), (origin >= n, 4), (code > len(OPERATIONS), 5)]
+def message_of(data, n, epoch=0, limit=None, oldest=2):
+    """The message whose frame these bytes are, among n members, in an epoch. Version 1 is read where it is the oldest that is."""
+    is_wide = data[:1] == b"\2"
+    head = 8 if is_wide else 4
+    if len(data) < head + 4 * n:
+        raise BadFrame(1)
+    version, origin, members, code = data[:4]
+    faults = [
+        (not is_wide and not (version == oldest == 1 and epoch == 0), 2), (is_wide and data[4:8] != epoch.to_bytes(4, "big"), 10),
+        (members != n, 3), (origin >= n, 4), (code > (len(OPERATIONS) if is_wide else OLD_CODES), 5),
+    ]
     for is_so, fault in faults:
         if is_so:
             raise BadFrame(fault)
-    tag = tuple(int.from_bytes(data[8 + 4 * x:12 + 4 * x], "big") for x in range(n))
-    if tag[origin] == 0 or max(tag) > LIMIT:
+    tag = tuple(int.from_bytes(data[head + 4 * x:head + 4 + 4 * x], "big") for x in range(n))
+    if tag[origin] == 0 or max(tag) > (LIMIT if limit is None else limit):
         raise BadFrame(6)
-    operation = NO_OP
-    if code:
-        kind, _, takes = OPERATIONS[code - 1]
-        key = field_of(data, at)
-        if key is None or not KEY.fullmatch(key[0]):
-            raise BadFrame(7)
-        at, argument = key[1], None
-        if takes == "value":
-            value = field_of(data, at)
-            if value is None or not is_value(value[0]):
-                raise BadFrame(8)
-            argument, at = value
-        elif takes == "amount":
-            if len(data) < at + 4:
-                raise BadFrame(8)
-            argument, at = int.from_bytes(data[at:at + 4], "big"), at + 4
-        operation = Operation(code, kind + b":" + key[0], argument)
-    if at != len(data):
+    fields = Fields(data[head + 4 * n:], 2 if is_wide else 1)
+    operation = fields.operation(code) if code else NO_OP
+    if fields.data:
         raise BadFrame(9)
-    return Message(origin, tag, operation)
+    return Message(origin, tag, operation, epoch)
 
 
 # ---------------------------------------------------------------- one replica
@@ -144,13 +198,14 @@ def is_below(one, other):
 
 
 class State:
-    """What a replica has: all messages that it delivered, in their order and those of each member too, and its early ones."""
+    """What a replica has: all messages that it delivered, in their order, those of each member of its epoch too, and its early
+    ones. It begins an epoch with what it delivered in those before."""
 
-    def __init__(self, me, n, w, limit=None):
-        self.me, self.n, self.w = me, n, w
+    def __init__(self, me, n, w, limit=None, epoch=0, past=()):
+        self.me, self.n, self.w, self.epoch = me, n, w, epoch
         self.limit = LIMIT if limit is None else limit
         self.noop_window = 2 * (n - 1) * w + 1
-        self.history = []
+        self.history = list(past)
         self.of = [[] for _ in range(n)]
         self.early = {}
 
@@ -169,6 +224,11 @@ class State:
     def stable(self):
         """How many messages of each member every member is known to have."""
         return tuple(map(min, zip(*map(self.known, range(self.n)))))
+
+    def stable_messages(self):
+        """The messages that are stable: those of epochs that are over, and of this as many of each member as all are known to have."""
+        stable = self.stable()
+        return [m for m in self.history if m.epoch < self.epoch or m.number <= stable[m.origin]]
 
     def unstable(self, is_noop):
         """How many own operations aren't stable, or how many own no-ops."""
@@ -192,7 +252,7 @@ class State:
     def is_due(self):
         """Whether an operation of another member was delivered since the last own message, or at all where there is none."""
         for message in reversed(self.history):
-            if message.origin == self.me:
+            if message.origin == self.me or message.epoch < self.epoch:
                 return False
             if message.operation != NO_OP:
                 return True
@@ -209,7 +269,7 @@ class State:
     def own(self, operation):
         """The next own message, where it may be sent."""
         counts = self.counts()
-        return Message(self.me, counts[:self.me] + (counts[self.me] + 1,) + counts[self.me + 1:], operation)
+        return Message(self.me, counts[:self.me] + (counts[self.me] + 1,) + counts[self.me + 1:], operation, self.epoch)
 
     # --- receiving
     def refusal(self, message):
@@ -259,8 +319,8 @@ class State:
 
 
 # ---------------------------------------------------------------- what objects are
-def answer_of(object_, history):
-    """What an object is after these messages: `=`, and its answer."""
+def answer_of(object_, history, elements=Elements):
+    """What an object is after these messages: `=`, and its answer. The elements of a list are told by a class."""
     done = [m for m in history if m.operation.object == object_]
     kind = object_.split(b":", 1)[0]
 
@@ -271,7 +331,7 @@ def answer_of(object_, history):
         return [m for m in done if m.operation.act == act and m.operation.argument == value]
 
     def is_followed(m, others):
-        return any(is_after(other, m) for other in others)
+        return any(other.is_after(m) for other in others)
 
     def add_wins(adds, takers):
         return any(not is_followed(m, takers) for m in adds)
@@ -294,6 +354,8 @@ def answer_of(object_, history):
         values = [b"on" if add_wins(of_act(b"enable"), of_act(b"disable", b"clear")) else b"off"]
     elif kind == b"dwflag":
         values = [b"on" if remove_wins(of_act(b"enable"), of_act(b"disable")) else b"off"]
+    elif kind == b"list":
+        values = elements(done).values()
     else:
         counted = live(of_act(b"inc", b"dec")) if kind == b"rcounter" else done
         values = [b"%d" % sum(m.operation.argument if m.operation.act == b"inc" else -m.operation.argument for m in counted)]
@@ -348,20 +410,44 @@ def object_of(word):
     return word
 
 
+def is_id(epoch, origin, number):
+    """Whether three numbers are the id of an element, if of none that there is."""
+    return origin <= 15 and number >= 1
+
+
+def id_of(word):
+    """The id of an element."""
+    numbers = tuple(map(number_of, word.split(b".")))
+    if len(numbers) != 3 or None in numbers or not is_id(*numbers):
+        raise Bad(8)
+    return numbers
+
+
+def amount_of(word):
+    """A number."""
+    number = number_of(word)
+    if number is None:
+        raise Bad(8)
+    return number
+
+
 def operation_of(words):
     """The operation that an object, an act and what it takes are."""
     object_, act, *arguments = object_of(words[0]), *words[1:]
     kind = object_.split(b":", 1)[0]
     code = next((at for at, (of, name, _) in enumerate(OPERATIONS, 1) if (of, name) == (kind, act)), None)
-    if code is None or len(arguments) != (OPERATIONS[code - 1][2] is not None):
+    if code is None or len(arguments) != WORDS[OPERATIONS[code - 1][2]]:
         raise Bad(6)
     takes = OPERATIONS[code - 1][2]
-    if takes == "value" and not is_value(arguments[0]):
+    if takes in ("value", "place") and not is_value(arguments[0]):
         raise Bad(7)
-    if takes == "amount" and number_of(arguments[0]) is None:
-        raise Bad(8)
-    argument = number_of(arguments[0]) if takes == "amount" else arguments[0] if takes == "value" else None
-    return Operation(code, object_, argument)
+    if takes == "value":
+        return Operation(code, object_, arguments[0])
+    if takes == "amount":
+        return Operation(code, object_, amount_of(arguments[0]))
+    if takes == "place":
+        return Operation(code, object_, arguments[0], None if arguments[1] == b"head" else id_of(arguments[1]))
+    return Operation(code, object_, element=id_of(arguments[0]) if takes == "id" else None)
 
 
 def words_of(line):
@@ -382,7 +468,7 @@ def take_line(run, number, line):
         return
     if not re.fullmatch(rb"[0-9]+:", first) or words and words[0] not in (b"do", b"ask"):
         raise Bad(2)
-    if not words or words[0] == b"do" and len(words) not in (3, 4) or words[0] == b"ask" and len(words) != 2:
+    if not words or words[0] == b"do" and len(words) not in (3, 4, 5) or words[0] == b"ask" and len(words) != 2:
         raise Bad(3)
     c = member_of(first[:-1], run.clients)
     if words[0] == b"ask":

@@ -19,9 +19,11 @@ from live_rules import LIMIT, NO_OP, OPERATIONS, read_input
 
 def do_line(r, operation):
     """The line of an operation at a replica."""
-    _, act, takes = OPERATIONS[operation.code - 1]
-    argument = operation.argument if takes == "value" else b"%d" % operation.argument if takes else None
-    return b" ".join([b"do %d" % r, operation.object, act, *([argument] if takes else [])])
+    takes, argument, element = OPERATIONS[operation.code - 1][2], operation.argument, operation.element
+    taken = [] if argument is None else [argument if isinstance(argument, bytes) else b"%d" % argument]
+    if takes in ("place", "id"):
+        taken.append(b"head" if element is None else b"%d.%d.%d" % element)
+    return b" ".join([b"do %d" % r, operation.object, operation.act, *taken])
 
 
 def steps_behind(journal, at):

@@ -6,6 +6,7 @@
 #[path = "plain/member.rs"]
 mod member;
 mod plain {
+    pub mod lists;
     pub mod replica;
     pub mod text;
 }
@@ -75,7 +76,7 @@ impl<'a> Input<'a> {
         if digits.is_empty() || !digits.iter().all(u8::is_ascii_digit) { return Err(2); }
         let command = match words.get(1) {
             None => return Err(3),
-            Some(&b"do") if (4..=5).contains(&words.len()) => {
+            Some(&b"do") if (4..=6).contains(&words.len()) => {
                 let c = below(digits, self.header.clients)?;
                 (c, words[2], Command::Do(operation(words)?))
             }

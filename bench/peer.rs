@@ -37,7 +37,7 @@ impl<N> World<N> {
         let (kind, _, arg) = CODES[op.code as usize - 1];
         let o = self.names.object(kind as u32, op.key, Names::hash(kind as u32, op.key));
         let obj = self.names.object_of(o);
-        (if arg == Arg::Val { self.names.value(o, op.value, Names::hash(8 + o, op.value)) } else { o }, obj)
+        (if arg.has_value() { self.names.value(o, op.value, Names::hash(8 + o, op.value)) } else { o }, obj)
     }
 }
 impl<N: Num> script::World for World<N> {
@@ -49,9 +49,9 @@ impl<N: Num> script::World for World<N> {
     fn replica(&self, r: usize) -> &Replica<N> { &self.members[r].state }
     fn steps(&mut self) -> &mut Steps { &mut self.steps }
     fn send(&mut self, r: usize, op: &RawOp) -> u32 {
-        let (item, obj) = self.intern(op);
+        let names = self.intern(op);
         let state = &mut self.members[r].state;
-        let m = Msg { tag: state.next_tag(), item, obj, amount: op.amount, origin: r as u8, code: op.code };
+        let m = Msg::new(r as u8, state.next_tag(), names, op.code, op.amount, op.element);
         state.deliver(&m, &self.names);
         self.sent[r].push(m);
         m.seq()
@@ -69,13 +69,16 @@ impl<N: Num> script::World for World<N> {
         kept
     }
     fn receive(&mut self, r: usize, origin: u8, tag: Tag<N>, op: &RawOp) -> Got {
-        let (item, obj) = self.intern(op);
-        let m = Msg { tag, item, obj, amount: op.amount, origin, code: op.code };
+        let m = Msg::new(origin, tag, self.intern(op), op.code, op.amount, op.element);
         self.members[r].receive(&m, &self.names, &mut self.steps)
     }
     fn answer(&mut self, r: usize, kind: Kind, key: &[u8], out: &mut Vec<u8>) {
         let o = self.names.find(kind as u32, key, Names::hash(kind as u32, key)).ok();
         self.members[r].state.answer(o, kind, &self.names, out);
+    }
+    fn list(&mut self, r: usize, key: &[u8], asked: Asked, out: &mut Vec<u8>) {
+        let o = self.names.find(List as u32, key, Names::hash(List as u32, key)).ok();
+        self.members[r].state.put_list(o.map(|o| self.names.object_of(o)), asked, out);
     }
     fn regroup(&mut self, n: usize) {
         self.members.truncate(n);

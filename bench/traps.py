@@ -76,6 +76,15 @@ def regs(turns=15000):
     return s
 
 
+def deletes(asks=300, elements=64):
+    """A list of 1024 elements is asked for, and its tombs: each second was deleted by two members, and none of that is stable."""
+    s = ['store 16 64 65535']
+    for k in range(16): s += [f'do {k} list:d ins v{k * elements + j} head' for j in range(elements)]
+    s.append('settle')
+    for k in range(16): s += [f'do {k} list:d del 0.{(k + j % 2) % 16}.{1 + j // 2 * 2}' for j in range(64)]
+    return s + [f'resend 0 {k}' for k in range(1, 16)] + ['size 0'] + ['ask 0 list:d', 'tombs 0 list:d'] * asks
+
+
 # Each trap's word, what it is, and what makes its lines.
 TRAPS = {
     "marks": ("512 marks wait for 512 entries", marks),
@@ -86,4 +95,5 @@ TRAPS = {
     "flags": ("30000 flags, on and then off", flags),
     "logs": ("a log of 1024 entries, listed", logs),
     "regs": ("a register, written in turn", regs),
+    "deletes": ("1024 deletes in the log, asked", deletes),
 }

@@ -153,6 +153,65 @@ def change_with_items(values=60000, changes=10):  # two members settle many valu
     return s + ['size 0', 'size 1', 'ask 1 counter:c']
 
 
+def letter(i): return 'etaoinshrdlu'[i * 7919 % 12]
+
+
+def typed(elements=20000):  # one member types at the end of a list
+    places = ['head'] + [f'0.0.{i + 1}' for i in range(elements)]
+    return ['store 1 64 65535'] + [f'do 0 list:d ins {letter(i)} {places[i]}' for i in range(elements)]
+
+
+def scattered(elements=20000, limit=65535):  # one member puts elements in at random places
+    R = random.Random(17)
+    s = [f'store 1 64 {limit}', 'do 0 list:d ins x head']
+    return s + [f'do 0 list:d ins {letter(i)} 0.0.{1 + R.randrange(i)}' for i in range(1, elements)]
+
+
+def scattered_whole():  # the same up to 4 MB
+    s, size = [], 0
+    for l in scattered(200000, 1000000):
+        size += len(l) + 1
+        if size > CAP: return s
+        s.append(l)
+
+
+def typed_in_turn(elements=20000, run=16):  # two members type at the end in turn, and are given what the other typed
+    s, sent, place = ['store 2 64 65535'], [0, 0], 'head'
+    for i in range(0, elements, run):
+        r = i // run % 2
+        for j in range(i, i + run):
+            s.append(f'do {r} list:d ins {letter(j)} {place}')
+            sent[r] += 1
+            place = f'0.{r}.{sent[r]}'
+        s += [f'give {1 - r} {r} {number}' for number in range(sent[r] - run + 1, sent[r] + 1)]
+    return s + ['ids 0 list:d', 'ids 1 list:d']
+
+
+def typed_at_once(elements=20000, run=8):  # three members type at one place, and are then given what the others typed there meanwhile
+    s, sent = ['store 3 64 65535', 'do 0 list:d ins x head', 'give 1 0 1', 'give 2 0 1'], [1, 0, 0]
+    for i in range(0, elements, 3 * run):
+        new = []
+        for r in range(3):
+            place = '0.0.1'
+            for j in range(run):
+                s.append(f'do {r} list:d ins {letter(i + j)} {place}')
+                sent[r] += 1
+                place = f'0.{r}.{sent[r]}'
+                new.append((r, sent[r]))
+        s += [f'give {r} {k} {number}' for k, number in new for r in range(3) if r != k]
+    return s + [f'ids {r} list:d' for r in range(3)]
+
+
+def deleted(elements=20000):  # a list that was typed, each of whose elements is deleted, in random order
+    order = list(range(1, elements + 1))
+    random.Random(19).shuffle(order)
+    return typed(elements) + [f'do 0 list:d del 0.0.{number}' for number in order] + ['tombs 0 list:d', 'size 0']
+
+
+def read(elements=20000, asks=50):  # a list whose elements are at random places, read again and again
+    return scattered(elements) + ['ask 0 list:d', 'ids 0 list:d', 'tombs 0 list:d'] * asks
+
+
 def comment(): return ['# ' + 'x' * 4000000, 'store 1 1']
 
 
@@ -220,6 +279,13 @@ WORKLOADS = {
     "l": ("96000 inc, limit 1000000", long_members),
     "m1": ("2000 epochs of 3 members", many_epochs),
     "m2": ("10 changes, 60000 settled values", change_with_items),
+    "n1": ("20000 elements typed at the end", typed),
+    "n2": ("the same by two members in turn", typed_in_turn),
+    "n3": ("20000 elements at random places", scattered),
+    "n4": ("3 members at one place at once", typed_at_once),
+    "n5": ("20000 elements typed and deleted", deleted),
+    "n6": ("20000 elements, read 50 times", read),
+    "n7": ("ins at random places, 4 MB", scattered_whole),
 }
 
 # The same of durable replicas. Each is measured beside the same script of a store, without its stops.

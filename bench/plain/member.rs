@@ -6,7 +6,7 @@ use std::collections::VecDeque;
 
 // ---------------------------------------------------------------- messages
 /// The bytes of a value that stands in the message itself.
-const SHORT: usize = 24;
+const SHORT: usize = 22;
 #[derive(Clone)]
 pub enum Value { Short(u8, [u8; SHORT]), Long(Box<[u8]>) }
 impl Value {
@@ -24,17 +24,18 @@ impl Value {
 }
 #[derive(Clone)]
 pub struct Message<N> {
-    pub tag: Tag<N>, key: [u8; 32], key_len: u8, pub origin: u8, pub code: u8, kind: u8, amount: u32, key_hash: u32, value_hash: u32, value: Value,
+    pub tag: Tag<N>, key: [u8; 32], key_len: u8, pub origin: u8, pub code: u8, amount: u32, key_hash: u32, value_hash: u32, value: Value,
+    element: Option<ElementId>,
 }
 impl<N: Num> Message<N> {
     #[inline(always)]
     pub fn of(origin: u8, tag: Tag<N>, op: &RawOp) -> Self {
         let mut key = [0; 32];
         key[..op.key.len()].copy_from_slice(op.key);
-        let kind = if op.code == 0 { 0 } else { CODES[op.code as usize - 1].0 as u8 };
-        let key_hash = if op.code == 0 { 0 } else { Names::hash(kind as u32, op.key) };
+        let key_hash = if op.code == 0 { 0 } else { Names::hash(CODES[op.code as usize - 1].0 as u32, op.key) };
         let value_hash = if op.value.is_empty() { 0 } else { Names::hash(7, op.value) };
-        Message { tag, key, key_len: op.key.len() as u8, origin, code: op.code, kind, amount: op.amount, key_hash, value_hash, value: Value::of(op.value) }
+        let (value, element) = (Value::of(op.value), op.element);
+        Message { tag, key, key_len: op.key.len() as u8, origin, code: op.code, amount: op.amount, key_hash, value_hash, value, element }
     }
     #[inline(always)]
     pub fn seq(&self) -> u32 { self.tag.at(self.origin as usize & 15) }
@@ -46,16 +47,20 @@ impl<N: Num> Message<N> {
     #[inline(always)]
     fn intern(&self, names: &mut Names) -> (u32, u32) {
         if self.code == 0 { return (NONE, NONE); }
-        let o = names.object(self.kind as u32, self.key(), self.key_hash);
+        let (kind, _, arg) = CODES[self.code as usize - 1];
+        let o = names.object(kind as u32, self.key(), self.key_hash);
         let obj = names.object_of(o);
-        if self.argument() != Arg::Val { return (o, obj); }
+        if !arg.has_value() { return (o, obj); }
         (names.value(o, self.value.bytes(), self.value_hash ^ o.wrapping_mul(0x9e37_79b1)), obj)
     }
     #[inline(always)]
     pub fn frame(&self, n: usize, epoch: u32) -> Vec<u8> {
         let named = match self.code {
             0 => 0,
-            _ => 2 + self.key_len as usize + match self.argument() { Arg::Nil => 0, Arg::Amt => 4, Arg::Val => 2 + self.value.bytes().len() },
+            _ => 2 + self.key_len as usize + match self.argument() {
+                Arg::Nil => 0, Arg::Amt => 4, Arg::Val => 2 + self.value.bytes().len(), Arg::Id => 9,
+                Arg::Put => 2 + self.value.bytes().len() + if self.element.is_some() { 10 } else { 1 },
+            },
         };
         let mut frame = Vec::with_capacity(8 + 4 * n + named);
         self.encode(&mut frame, n, epoch);
@@ -69,14 +74,22 @@ impl<N: Num> Message<N> {
         if self.code == 0 { return; }
         out.extend_from_slice(&(self.key_len as u16).to_be_bytes());
         out.extend_from_slice(self.key());
-        match self.argument() {
-            Arg::Nil => {}
-            Arg::Amt => out.extend_from_slice(&self.amount.to_be_bytes()),
-            Arg::Val => {
-                let value = self.value.bytes();
-                out.extend_from_slice(&(value.len() as u16).to_be_bytes());
-                out.extend_from_slice(value);
-            }
+        let arg = self.argument();
+        if arg.has_value() {
+            let value = self.value.bytes();
+            out.extend_from_slice(&(value.len() as u16).to_be_bytes());
+            out.extend_from_slice(value);
+        }
+        match arg {
+            Arg::Nil | Arg::Val => return,
+            Arg::Amt => return out.extend_from_slice(&self.amount.to_be_bytes()),
+            Arg::Put => out.push(self.element.is_some() as u8),
+            Arg::Id => {}
+        }
+        if let Some(ElementId { epoch, origin, seq }) = self.element {
+            out.extend_from_slice(&epoch.to_be_bytes());
+            out.push(origin);
+            out.extend_from_slice(&seq.get().to_be_bytes());
         }
     }
 }
@@ -101,8 +114,8 @@ impl<N: Num> Member<N> {
         Member { state, names, early: Vec::new(), outbox: VecDeque::new(), journal }
     }
     fn deliver(&mut self, m: &Message<N>) {
-        let (item, obj) = m.intern(&mut self.names);
-        self.state.deliver(&Msg { tag: m.tag, item, obj, amount: m.amount, origin: m.origin, code: m.code }, &self.names);
+        let names = m.intern(&mut self.names);
+        self.state.deliver(&Msg::new(m.origin, m.tag, names, m.code, m.amount, m.element), &self.names);
         let stable = self.state.stable.at(self.state.me);
         while self.outbox.front().is_some_and(|m| m.seq() <= stable) { self.outbox.pop_front(); }
     }

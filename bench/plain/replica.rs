@@ -1,6 +1,7 @@
-//! What a replica of both plain programs keeps beside its messages: what was delivered, the log, the settled items, and the
-//! places of early messages.
+//! What a replica of both plain programs keeps beside its messages: what was delivered, the log, the settled items, lists, and
+//! the places of early messages.
 
+use super::lists::*;
 use super::text::*;
 
 // ---------------------------------------------------------------- timestamps
@@ -62,13 +63,27 @@ impl<N: Num> Tag<N> {
     pub fn at_most(&self, o: &Self) -> bool { N::at_most(&self.0, &o.0) }
     #[inline(always)]
     pub fn min_with(&mut self, o: &Self) { for i in 0..16 { self.0[i] = self.0[i].min(o.0[i]); } }
+    #[inline(always)]
+    pub fn max_with(&mut self, o: &Self) { for i in 0..16 { self.0[i] = self.0[i].max(o.0[i]); } }
+    fn sum(&self) -> u32 { self.0.iter().map(|v| v.wide()).sum() }
 }
 
 // ---------------------------------------------------------------- messages
-/// A message to be delivered. `item` names the object with its value, or the object where the operation has no value.
+/// A message to be delivered. `item` names the object with its value, or the object where the operation has no value. Where it
+/// is of a list, `epoch` and `amount` are the place that it names.
 #[derive(Clone, Copy)]
-pub struct Msg<N> { pub tag: Tag<N>, pub item: u32, pub obj: u32, pub amount: u32, pub origin: u8, pub code: u8 }
-impl<N: Num> Msg<N> { #[inline(always)] pub fn seq(&self) -> u32 { self.tag.at(self.origin as usize & 15) } }
+pub struct Msg<N> { pub tag: Tag<N>, pub item: u32, pub obj: u32, amount: u32, epoch: u16, pub origin: u8, pub code: u8 }
+impl<N: Num> Msg<N> {
+    #[inline(always)]
+    pub fn new(origin: u8, tag: Tag<N>, (item, obj): (u32, u32), code: u8, amount: u32, element: Option<ElementId>) -> Self {
+        let place = Place::of(element);
+        Msg { tag, item, obj, amount: if code < INS { amount } else { place.at }, epoch: place.epoch, origin, code }
+    }
+    #[inline(always)]
+    pub fn seq(&self) -> u32 { self.tag.at(self.origin as usize & 15) }
+    #[inline(always)]
+    fn place(&self) -> Place { Place { epoch: self.epoch, at: self.amount } }
+}
 
 // ---------------------------------------------------------------- one replica
 #[derive(Clone, Copy, Default)]
@@ -82,6 +97,9 @@ struct Unstable<N> { tag: Tag<N>, entry: u32, noop: bool }
 #[derive(Default)]
 struct Early { ring: Vec<u32>, held: u32 }
 
+/// What is asked of a list beside its answer: the ids of its elements, or how many are kept that aren't shown.
+#[derive(Clone, Copy, PartialEq, Eq)]
+pub enum Asked { Ids, Tombs }
 /// What became of a message that was received.
 pub enum Got { Old, Again, Far, Kept, Took }
 /// The messages that were delivered (or found unsound): origin, number, whether it is sound.
@@ -95,7 +113,7 @@ pub struct Replica<N> {
     window: Vec<std::collections::VecDeque<Unstable<N>>>, ops: [u32; 16], noops: [u32; 16],
     early: Vec<Early>, places: u32, free_places: Vec<u32>, heads: u16,
     log: Vec<Entry<N>>, free_log: Vec<u32>, first: u32, last: u32, logged: usize,
-    slots: Vec<Slot>, objects: Vec<Object>, items: usize, touched: Vec<u32>,
+    slots: Vec<Slot>, objects: Vec<Object>, items: usize, touched: Vec<u32>, lists: Lists,
 }
 impl<N: Num> Replica<N> {
     pub fn new(me: usize, n: usize, w: u32, limit: u32) -> Self {
@@ -104,22 +122,22 @@ impl<N: Num> Replica<N> {
             window: (0..n).map(|_| Default::default()).collect(), ops: [0; 16], noops: [0; 16],
             early: (0..n).map(|_| Default::default()).collect(), places: 0, free_places: Vec::new(), heads: 0,
             log: Vec::new(), free_log: Vec::new(), first: NONE, last: NONE, logged: 0,
-            slots: Vec::new(), objects: Vec::new(), items: 0, touched: Vec::new(),
+            slots: Vec::new(), objects: Vec::new(), items: 0, touched: Vec::new(), lists: Lists::default(),
         }
     }
 
     // --- epochs
     /// Whether each operation is stable: then nothing is logged.
     pub fn is_at_rest(&self) -> bool { self.ops.iter().all(|unstable| *unstable == 0) }
-    /// Begins the next epoch, of `n` members, with the items and nothing else of what it has.
+    /// Begins the next epoch, of `n` members, with the items, the lists and nothing else of what it has.
     pub fn regroup(&mut self, n: usize) {
-        let (slots, objects) = (std::mem::take(&mut self.slots), std::mem::take(&mut self.objects));
-        *self = Replica { epoch: self.epoch + 1, slots, objects, items: self.items, ..Replica::new(self.me, n, self.w, self.limit) };
+        let (slots, objects, lists) = (std::mem::take(&mut self.slots), std::mem::take(&mut self.objects), std::mem::take(&mut self.lists));
+        *self = Replica { epoch: self.epoch + 1, slots, objects, items: self.items, lists, ..Replica::new(self.me, n, self.w, self.limit) };
     }
-    /// A replica that begins as another member, with a copy of the items.
+    /// A replica that begins as another member, with a copy of the items and the lists.
     pub fn newcomer(&self, me: usize) -> Self {
-        let (slots, objects) = (self.slots.clone(), self.objects.clone());
-        Replica { epoch: self.epoch, slots, objects, items: self.items, ..Replica::new(me, self.n, self.w, self.limit) }
+        let (slots, objects, lists) = (self.slots.clone(), self.objects.clone(), self.lists.clone());
+        Replica { epoch: self.epoch, slots, objects, items: self.items, lists, ..Replica::new(me, self.n, self.w, self.limit) }
     }
 
     // --- the log and the settled items
@@ -128,14 +146,20 @@ impl<N: Num> Replica<N> {
         if item as usize >= self.slots.len() { self.slots.resize(item as usize + 1, Slot::default()); }
         if obj as usize >= self.objects.len() { self.objects.resize_with(obj as usize + 1, Object::default); }
     }
-    fn unlink(&mut self, e: u32) -> Entry<N> {
+    /// Takes an entry out of the log, not out of its chain.
+    #[inline(always)]
+    fn take_entry(&mut self, e: u32) -> Entry<N> {
         let x = self.log[e as usize];
         if x.prev == NONE { self.first = x.next } else { self.log[x.prev as usize].next = x.next }
         if x.next == NONE { self.last = x.prev } else { self.log[x.next as usize].prev = x.prev }
-        if x.up == NONE { self.slots[x.item as usize].head = x.down.wrapping_add(1) } else { self.log[x.up as usize].down = x.down }
-        if x.down != NONE { self.log[x.down as usize].up = x.up }
         self.free_log.push(e);
         self.logged -= 1;
+        x
+    }
+    fn unlink(&mut self, e: u32) -> Entry<N> {
+        let x = self.take_entry(e);
+        if x.up == NONE { self.slots[x.item as usize].head = x.down.wrapping_add(1) } else { self.log[x.up as usize].down = x.down }
+        if x.down != NONE { self.log[x.down as usize].up = x.up }
         let s = &mut self.slots[x.item as usize];
         match x.code {
             5 | 11 => s.downs -= 1,
@@ -145,9 +169,10 @@ impl<N: Num> Replica<N> {
         }
         x
     }
-    fn push_log(&mut self, m: &Msg<N>) -> u32 {
-        let head = self.slots[m.item as usize].head;
-        let x = Entry { prev: self.last, next: NONE, up: NONE, down: head.wrapping_sub(1), item: m.item, obj: m.obj, amount: m.amount,
+    /// Puts an entry into the log, of an item or a slot of a list, ahead of the others in a chain.
+    #[inline(always)]
+    fn put_entry(&mut self, m: &Msg<N>, item: u32, head: u32) -> u32 {
+        let x = Entry { prev: self.last, next: NONE, up: NONE, down: head.wrapping_sub(1), item, obj: m.obj, amount: m.amount,
             seq: N::of(m.seq()), origin: m.origin, code: m.code };
         let e = match self.free_log.pop() {
             Some(e) => { self.log[e as usize] = x; e }
@@ -156,6 +181,11 @@ impl<N: Num> Replica<N> {
         if self.last == NONE { self.first = e } else { self.log[self.last as usize].next = e }
         self.last = e;
         if x.down != NONE { self.log[x.down as usize].up = e }
+        self.logged += 1;
+        e
+    }
+    fn push_log(&mut self, m: &Msg<N>) -> u32 {
+        let e = self.put_entry(m, m.item, self.slots[m.item as usize].head);
         let valued = CODES[m.code as usize - 1].2 == Arg::Val;
         let s = &mut self.slots[m.item as usize];
         let idle = s.idle();
@@ -167,7 +197,6 @@ impl<N: Num> Replica<N> {
         }
         if m.code == 17 { self.objects[m.obj as usize].logged += m.amount as i64 }
         if m.code == 18 { self.objects[m.obj as usize].logged -= m.amount as i64 }
-        self.logged += 1;
         e
     }
     /// The marks of the slot go, and its entries that happened before the message.
@@ -224,7 +253,12 @@ impl<N: Num> Replica<N> {
         o.sum += by;
         self.items = self.items + (o.sum != 0) as usize - was as usize;
     }
-    fn settle_entry(&mut self, e: u32) {
+    fn settle_entry(&mut self, e: u32, tag: &Tag<N>) {
+        match self.log[e as usize].code {
+            DEL => return self.settle_delete(e),
+            CLEAR => return self.settle_clear(e, tag),
+            _ => {}
+        }
         let x = self.unlink(e);
         match x.code {
             17 => self.add_sum(x.obj, x.amount as i64),
@@ -238,12 +272,93 @@ impl<N: Num> Replica<N> {
         }
     }
 
+    // --- lists
+    /// The entries of a chain, the latest first.
+    #[inline]
+    fn chain(&self, head: u32) -> impl Iterator<Item = &Entry<N>> {
+        let mut e = head.wrapping_sub(1);
+        std::iter::from_fn(move || {
+            let x = self.log.get(e as usize)?;
+            e = x.down;
+            Some(x)
+        })
+    }
+    /// The timestamp of an entry of the log.
+    #[inline]
+    fn tag_of(&self, x: &Entry<N>) -> &Tag<N> {
+        let k = x.origin as usize & 15;
+        &self.window[k][(x.seq.wide() - self.stable.at(k) - 1) as usize].tag
+    }
+    /// Whether a message of this epoch with this timestamp happened after the one that put an element in.
+    #[inline]
+    fn has_seen(&self, tag: &Tag<N>, x: &Element) -> bool { (x.id.epoch as u32) < self.epoch || tag.at(x.id.origin()) >= x.id.seq() }
+    /// The slot of the element that a message names, where it has seen it, and nothing stable took it out.
+    #[inline]
+    fn named(&self, m: &Msg<N>) -> Option<u32> {
+        let e = self.lists.find(m.place())?;
+        let x = self.lists.get(e);
+        if x.list == m.obj && !x.is_gone && self.has_seen(&m.tag, x) { Some(e) } else { None }
+    }
+    /// Puts an element in, unless its message names one that it hasn't seen, or has seen taken out.
+    fn insert(&mut self, m: &Msg<N>) {
+        let mut behind = None;
+        if m.place() != Place::HEAD {
+            let Some(e) = self.named(m) else { return };
+            let x = self.lists.get(e);
+            let before = |y: &Entry<N>| m.tag.at(y.origin as usize & 15) >= y.seq.wide();
+            if self.chain(x.deletes).any(before) { return; }
+            if self.chain(self.lists.clears(m.obj)).any(|y| before(y) && self.has_seen(self.tag_of(y), x)) { return; }
+            behind = Some(e);
+        }
+        let id = Place { epoch: self.epoch as u16, at: (m.origin as u32) << 24 | m.seq() };
+        self.lists.put(m.obj, behind, id, m.tag.sum(), m.item);
+    }
+    fn log_delete(&mut self, m: &Msg<N>) -> u32 {
+        let Some(at) = self.named(m) else { return self.put_entry(m, NONE, 0) };
+        let e = self.put_entry(m, at, self.lists.get(at).deletes);
+        self.lists.get_mut(at).deletes = e + 1;
+        e
+    }
+    fn log_clear(&mut self, m: &Msg<N>) -> u32 {
+        let e = self.put_entry(m, m.item, self.lists.clears(m.obj));
+        self.lists.row_mut(m.obj).clears = e + 1;
+        e
+    }
+    /// Something stable took an element out, and the log's other deletes of it do nothing more.
+    fn mark_gone(&mut self, at: u32) {
+        let x = self.lists.get_mut(at);
+        x.is_gone = true;
+        let mut e = std::mem::take(&mut x.deletes).wrapping_sub(1);
+        while e != NONE {
+            let y = &mut self.log[e as usize];
+            y.item = NONE;
+            e = y.down;
+        }
+    }
+    fn settle_delete(&mut self, e: u32) {
+        let x = self.take_entry(e);
+        if x.item == NONE { return; }
+        self.mark_gone(x.item);
+        // What stands ahead may be gone already, and have waited for what leaves.
+        let mut at = x.item;
+        while let Some(ahead) = self.lists.leave(at).filter(|ahead| *ahead != NONE) { at = ahead; }
+    }
+    /// What stands above an element that a clear has seen, it has seen too: so none waits but these.
+    fn settle_clear(&mut self, e: u32, tag: &Tag<N>) {
+        let x = self.take_entry(e);
+        if x.up == NONE { self.lists.row_mut(x.obj).clears = x.down.wrapping_add(1) } else { self.log[x.up as usize].down = x.down }
+        if x.down != NONE { self.log[x.down as usize].up = x.up }
+        let seen: Vec<u32> = self.lists.slots_of(x.obj).filter(|at| self.has_seen(tag, self.lists.get(*at))).collect();
+        for at in &seen { self.mark_gone(*at); }
+        for at in seen.iter().rev() { self.lists.leave(*at); }
+    }
+
     // --- one message of the history
     pub fn deliver(&mut self, m: &Msg<N>, names: &Names) {
         let k = m.origin as usize & 15;
         let mut entry = NONE;
         if m.code != 0 {
-            self.fit(m.item, m.obj);
+            if m.code < INS { self.fit(m.item, m.obj) } else { self.lists.fit(m.obj) }
             match m.code {
                 1 | 4 | 5 => { self.prune_value(m.item, m.obj, &m.tag); entry = self.push_log(m) }
                 2 => self.prune_value(m.item, m.obj, &m.tag),
@@ -254,6 +369,9 @@ impl<N: Num> Replica<N> {
                 15 => self.add_sum(m.obj, m.amount as i64),
                 16 => self.add_sum(m.obj, -(m.amount as i64)),
                 17 | 18 => entry = self.push_log(m),
+                INS => self.insert(m),
+                DEL => entry = self.log_delete(m),
+                CLEAR => entry = self.log_clear(m),
                 _ => { let s = self.objects[m.obj as usize].sum; self.add_sum(m.obj, -s); self.prune_slot(m.item, &m.tag) }
             }
             self.ops[k] += 1;
@@ -277,7 +395,7 @@ impl<N: Num> Replica<N> {
                 let u = self.window[x].pop_front().unwrap();
                 self.stable.raise(x);
                 if u.noop { self.noops[x] -= 1 } else { self.ops[x] -= 1 }
-                if u.entry != NONE { self.settle_entry(u.entry); }
+                if u.entry != NONE { self.settle_entry(u.entry, &u.tag); }
             }
         }
         while let Some(i) = self.touched.pop() {
@@ -412,6 +530,37 @@ impl<N: Num> Replica<N> {
                 let v = self.objects.get(obj as usize).map_or(0, |o| o.sum + o.logged);
                 out.extend_from_slice(if v < 0 { b" -" } else { b" " });
                 put(out, v.unsigned_abs());
+            }
+            List => for x in self.shown(obj) { out.push(b' '); out.extend_from_slice(names.text(x.value)); },
+        }
+        out.push(b'\n');
+    }
+    /// The elements of a list, each with whether it is shown: neither a message that is stable took it out, nor one of the log.
+    fn elements(&self, list: u32) -> impl Iterator<Item = (&Element, bool)> {
+        // What the log's clears have seen together.
+        let clears = self.chain(self.lists.clears(list)).map(|y| *self.tag_of(y));
+        let cleared = clears.reduce(|mut all, tag| { all.max_with(&tag); all });
+        self.lists.slots_of(list).map(move |at| {
+            let x = self.lists.get(at);
+            (x, !x.is_gone && x.deletes == 0 && !cleared.as_ref().is_some_and(|tag| self.has_seen(tag, x)))
+        })
+    }
+    fn shown(&self, list: u32) -> impl Iterator<Item = &Element> { self.elements(list).filter(|(_, is_shown)| *is_shown).map(|(x, _)| x) }
+    /// What else is asked of a list, if there is one.
+    pub fn put_list(&self, list: Option<u32>, asked: Asked, out: &mut Vec<u8>) {
+        let list = list.unwrap_or(NONE);
+        match asked {
+            Asked::Ids => {
+                out.extend_from_slice(b"ids");
+                for Element { id, .. } in self.shown(list) {
+                    out.push(b' '); put(out, id.epoch as u64);
+                    out.push(b'.'); put(out, id.origin() as u64);
+                    out.push(b'.'); put(out, id.seq() as u64);
+                }
+            }
+            Asked::Tombs => {
+                out.extend_from_slice(b"tombs ");
+                put(out, self.elements(list).filter(|(_, is_shown)| !is_shown).count() as u64);
             }
         }
         out.push(b'\n');

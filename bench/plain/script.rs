@@ -29,6 +29,8 @@ pub trait World {
     /// Offers to `r` a message that came as a frame.
     fn receive(&mut self, r: usize, origin: u8, tag: Tag<Self::N>, op: &RawOp) -> Got;
     fn answer(&mut self, r: usize, kind: Kind, key: &[u8], out: &mut Vec<u8>);
+    /// What else is asked of a list.
+    fn list(&mut self, r: usize, key: &[u8], asked: Asked, out: &mut Vec<u8>);
     /// Begins the next epoch, of `n` members, in which nothing was sent: who is new begins with a copy of what member 0 has.
     fn regroup(&mut self, n: usize);
 }
@@ -39,12 +41,12 @@ impl<W: World> Stage<W> {
     fn open(n: usize, w: u32, limit: u32) -> Self { Stage { world: W::open(n, w, limit), n, limit, bytes: Vec::new() } }
     /// Runs one line without its newline and final CR.
     fn line(&mut self, line: &[u8], out: &mut Vec<u8>) {
-        let mut words: [&[u8]; 6] = [&[]; 6];
+        let mut words: [&[u8]; 7] = [&[]; 7];
         let mut count = 0;
         let mut i = 0;
         let blank = |c: u8| c == b' ' || c == b'\t';
         let l = line.len();
-        while count < 6 {
+        while count < 7 {
             while i < l && blank(line[i]) { i += 1; }
             if i == l { break; }
             let s = i;
@@ -60,7 +62,7 @@ impl<W: World> Stage<W> {
     fn run(&mut self, line: &[u8], w: &[&[u8]], out: &mut Vec<u8>) -> Result<(), u8> {
         if line.len() > LINE { return Err(1); }
         let (lo, hi) = match w[0] {
-            b"do" => (4, 5), b"ask" | b"resend" | b"raw" => (3, 3), b"give" => (4, 4),
+            b"do" => (4, 6), b"ask" | b"ids" | b"tombs" | b"resend" | b"raw" => (3, 3), b"give" => (4, 4),
             b"beat" | b"log" | b"size" | b"stable" | b"seen" | b"noops" | b"lags" => (2, 2), b"members" => (2, 2), b"settle" => (1, 1), _ => return Err(2),
         };
         if w.len() < lo || w.len() > hi { return Err(3); }
@@ -87,6 +89,10 @@ impl<W: World> Stage<W> {
             b"ask" => {
                 let (kind, key) = object(w[2]).ok_or(5u8)?;
                 self.world.answer(r, kind, key, out);
+            }
+            b"ids" | b"tombs" => {
+                let (_, key) = object(w[2]).filter(|(kind, _)| *kind == List).ok_or(5u8)?;
+                self.world.list(r, key, if w[0] == b"ids" { Asked::Ids } else { Asked::Tombs }, out);
             }
             b"beat" => match self.world.replica(r).may_beat() {
                 Some(t) => out.extend_from_slice(t),

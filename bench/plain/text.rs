@@ -1,6 +1,7 @@
 //! What both plain programs read and write: kinds and operations, names, lines and frames.
 
 use super::replica::{Num, Tag};
+use std::num::NonZeroU32;
 
 /// No place of a list.
 pub const NONE: u32 = u32::MAX;
@@ -10,18 +11,56 @@ pub const LINE: usize = 16_384;
 // ---------------------------------------------------------------- kinds and codes
 #[derive(Clone, Copy, PartialEq, Eq)]
 #[repr(u8)]
-pub enum Kind { AwSet, RwSet, EwFlag, DwFlag, MvReg, Counter, RCounter }
+pub enum Kind { AwSet, RwSet, EwFlag, DwFlag, MvReg, Counter, RCounter, List }
 pub use Kind::*;
+/// What an operation takes: nothing, a value, an amount, a value and its place in a list, or the id of an element.
 #[derive(Clone, Copy, PartialEq, Eq)]
-pub enum Arg { Nil, Val, Amt }
-pub const CODES: [(Kind, &str, Arg); 19] = [
+pub enum Arg { Nil, Val, Amt, Put, Id }
+impl Arg { #[inline(always)] pub fn has_value(self) -> bool { matches!(self, Arg::Val | Arg::Put) } }
+pub const CODES: [(Kind, &str, Arg); 22] = [
     (AwSet, "add", Arg::Val), (AwSet, "rmv", Arg::Val), (AwSet, "clear", Arg::Nil),
     (RwSet, "add", Arg::Val), (RwSet, "rmv", Arg::Val), (RwSet, "clear", Arg::Nil),
     (EwFlag, "enable", Arg::Nil), (EwFlag, "disable", Arg::Nil), (EwFlag, "clear", Arg::Nil),
     (DwFlag, "enable", Arg::Nil), (DwFlag, "disable", Arg::Nil), (DwFlag, "clear", Arg::Nil),
     (MvReg, "write", Arg::Val), (MvReg, "clear", Arg::Nil),
     (Counter, "inc", Arg::Amt), (Counter, "dec", Arg::Amt),
-    (RCounter, "inc", Arg::Amt), (RCounter, "dec", Arg::Amt), (RCounter, "clear", Arg::Nil)];
+    (RCounter, "inc", Arg::Amt), (RCounter, "dec", Arg::Amt), (RCounter, "clear", Arg::Nil),
+    (List, "ins", Arg::Put), (List, "del", Arg::Id), (List, "clear", Arg::Nil)];
+/// The codes of a list.
+pub const INS: u8 = 20;
+pub const DEL: u8 = 21;
+pub const CLEAR: u8 = 22;
+/// The last code of frames of version 1.
+const LAST_OF_FIRST: u8 = 19;
+
+// ---------------------------------------------------------------- elements
+/// The id of an element of a list: the epoch, the member and the number of the message that put it in. It takes nine bytes,
+/// and so do an id or none.
+#[derive(Clone, Copy)]
+#[repr(packed)]
+pub struct ElementId { pub epoch: u32, pub origin: u8, pub seq: NonZeroU32 }
+/// A place of a list in six bytes: the head, all zeros, or behind the element of an id. In `at` the member stands above the
+/// number, since no store has numbers above a million.
+#[derive(Clone, Copy, PartialEq, Eq)]
+pub struct Place { pub epoch: u16, pub at: u32 }
+impl Place {
+    pub const HEAD: Place = Place { epoch: 0, at: 0 };
+    /// What no element has.
+    const NOWHERE: Place = Place { epoch: u16::MAX, at: u32::MAX };
+    #[inline]
+    pub fn of(id: Option<ElementId>) -> Place {
+        let Some(id) = id else { return Place::HEAD };
+        let seq = id.seq.get();
+        match u16::try_from(id.epoch) {
+            Ok(epoch) if seq < 1 << 24 => Place { epoch, at: (id.origin as u32) << 24 | seq },
+            _ => Place::NOWHERE,
+        }
+    }
+    #[inline]
+    pub fn origin(self) -> usize { (self.at >> 24) as usize & 15 }
+    #[inline]
+    pub fn seq(self) -> u32 { self.at & 0xff_ffff }
+}
 
 // ---------------------------------------------------------------- names
 /// Objects and their values are interned once; items are found by the id.
@@ -101,8 +140,8 @@ impl Names {
 
 /// An operation as parsed, not interned yet.
 #[derive(Clone, Copy)]
-pub struct RawOp<'a> { pub code: u8, pub key: &'a [u8], pub value: &'a [u8], pub amount: u32 }
-pub const NO_OP: RawOp<'static> = RawOp { code: 0, key: &[], value: &[], amount: 0 };
+pub struct RawOp<'a> { pub code: u8, pub key: &'a [u8], pub value: &'a [u8], pub amount: u32, pub element: Option<ElementId> }
+pub const NO_OP: RawOp<'static> = RawOp { code: 0, key: &[], value: &[], amount: 0, element: None };
 
 // ---------------------------------------------------------------- reading text
 pub fn put(out: &mut Vec<u8>, mut v: u64) {
@@ -132,12 +171,22 @@ fn value_ok(b: &[u8]) -> bool {
 }
 fn kind(b: &[u8]) -> Option<Kind> {
     Some(match b { b"awset" => AwSet, b"rwset" => RwSet, b"ewflag" => EwFlag, b"dwflag" => DwFlag, b"mvreg" => MvReg,
-        b"counter" => Counter, b"rcounter" => RCounter, _ => return None })
+        b"counter" => Counter, b"rcounter" => RCounter, b"list" => List, _ => return None })
 }
 pub fn object(b: &[u8]) -> Option<(Kind, &[u8])> {
     let i = b.iter().take(9).position(|c| *c == b':')?;
     let k = kind(&b[..i])?;
     if key_ok(&b[i + 1..]) { Some((k, &b[i + 1..])) } else { None }
+}
+/// An id as its text says it: three numbers parted by points.
+fn element(b: &[u8]) -> Option<ElementId> {
+    let mut parts = b.split(|c| *c == b'.').map(number);
+    let (epoch, origin, seq) = (parts.next()??, parts.next()??, parts.next()??);
+    if parts.next().is_some() { return None; }
+    element_id(epoch, origin, seq)
+}
+fn element_id(epoch: u32, origin: u32, seq: u32) -> Option<ElementId> {
+    NonZeroU32::new(seq).filter(|_| origin <= 15).map(|seq| ElementId { epoch, origin: origin as u8, seq })
 }
 fn code(k: Kind, word: &[u8]) -> Option<u8> {
     Some(match (k, word) {
@@ -148,6 +197,7 @@ fn code(k: Kind, word: &[u8]) -> Option<u8> {
         (MvReg, b"write") => 13, (MvReg, b"clear") => 14,
         (Counter, b"inc") => 15, (Counter, b"dec") => 16,
         (RCounter, b"inc") => 17, (RCounter, b"dec") => 18, (RCounter, b"clear") => 19,
+        (List, b"ins") => INS, (List, b"del") => DEL, (List, b"clear") => CLEAR,
         _ => return None,
     })
 }
@@ -157,12 +207,15 @@ pub fn operation<'a>(w: &[&'a [u8]]) -> Result<RawOp<'a>, u8> {
     let (kind, key) = object(w[2]).ok_or(5u8)?;
     let c = code(kind, w[3]).ok_or(6u8)?;
     let arg = CODES[c as usize - 1].2;
-    if (arg != Arg::Nil) != (w.len() == 5) { return Err(6); }
+    let taken = match arg { Arg::Nil => 0, Arg::Val | Arg::Amt | Arg::Id => 1, Arg::Put => 2 };
+    if w.len() != 4 + taken { return Err(6); }
     let mut op = RawOp { code: c, key, ..NO_OP };
+    if arg.has_value() { if !value_ok(w[4]) { return Err(7); } op.value = w[4] }
     match arg {
-        Arg::Val => { if !value_ok(w[4]) { return Err(7); } op.value = w[4] }
         Arg::Amt => op.amount = number(w[4]).ok_or(8u8)?,
-        Arg::Nil => {}
+        Arg::Id => op.element = Some(element(w[4]).ok_or(8u8)?),
+        Arg::Put if w[5] != b"head" => op.element = Some(element(w[5]).ok_or(8u8)?),
+        _ => {}
     }
     Ok(op)
 }
@@ -175,7 +228,7 @@ pub fn decode<'a, N: Num>(b: &'a [u8], n: usize, limit: u32, epoch: u32) -> Resu
     if wide && b[4..8] != epoch.to_be_bytes() { return Err(10); }
     if b[2] as usize != n { return Err(3); }
     if b[1] as usize >= n { return Err(4); }
-    if b[3] > 19 { return Err(5); }
+    if b[3] > if wide { CLEAR } else { LAST_OF_FIRST } { return Err(5); }
     let mut tag = Tag::zero();
     for (i, c) in b[head..head + 4 * n].chunks_exact(4).enumerate() {
         let v = u32::from_be_bytes(c.try_into().unwrap());
@@ -187,10 +240,19 @@ pub fn decode<'a, N: Num>(b: &'a [u8], n: usize, limit: u32, epoch: u32) -> Resu
     let mut op = RawOp { code: b[3], ..NO_OP };
     if op.code > 0 {
         op.key = field(&mut rest, wide).filter(|k| key_ok(k)).ok_or(7u8)?;
-        match CODES[op.code as usize - 1].2 {
-            Arg::Val => op.value = field(&mut rest, wide).filter(|v| (wide || v.len() <= 64) && value_ok(v)).ok_or(8u8)?,
+        let arg = CODES[op.code as usize - 1].2;
+        if arg.has_value() {
+            op.value = field(&mut rest, wide).filter(|v| (wide || v.len() <= 64) && value_ok(v)).ok_or(8u8)?;
+        }
+        match arg {
             Arg::Amt => { op.amount = u32::from_be_bytes(rest.get(..4).ok_or(8u8)?.try_into().unwrap()); rest = &rest[4..] }
-            Arg::Nil => {}
+            Arg::Id => op.element = Some(id_field(&mut rest).ok_or(8u8)?),
+            Arg::Put => {
+                let is_head = match rest.first() { Some(0) => true, Some(1) => false, _ => return Err(8) };
+                rest = &rest[1..];
+                if !is_head { op.element = Some(id_field(&mut rest).ok_or(8u8)?) }
+            }
+            Arg::Nil | Arg::Val => {}
         }
     }
     if rest.is_empty() { Ok((b[1], tag, op)) } else { Err(9) }
@@ -204,6 +266,11 @@ fn field<'a>(rest: &mut &'a [u8], wide: bool) -> Option<&'a [u8]> {
     let f = rest.get(at..at + len)?;
     *rest = &rest[at + len..];
     Some(f)
+}
+fn id_field(rest: &mut &[u8]) -> Option<ElementId> {
+    let ([e0, e1, e2, e3, origin, s0, s1, s2, s3], more) = rest.split_first_chunk::<9>()?;
+    *rest = more;
+    element_id(u32::from_be_bytes([*e0, *e1, *e2, *e3]), *origin as u32, u32::from_be_bytes([*s0, *s1, *s2, *s3]))
 }
 
 const HEX: [u8; 256] = {
