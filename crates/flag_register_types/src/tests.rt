@@ -1,12 +1,12 @@
-//! What flags and registers are by an item and entries. Expected answers come from the rules of the kinds: an enable is on,
-//! but in the kind in which a disable wins where a disable still counts; a register has each write that nothing covers.
+//! What a flag and a register are by an item and entries, once each: a clause says it of all. Expected answers come from the
+//! rules of the kinds: an enable is on, but where a disable still counts; a register has each write that nothing covers.
 
 ghost use Rattle.std.specs.Prelude.{IsTrue};
 ghost use Rattle.causal_model.specs.Items.{is_filled};
 
 use crate::{flag_on, mvreg_values};
 use causal_model::ItemView;
-use op_base::{Act, Cell, Entry, Item, Key, Kind, ObjectId, Tag, Update, Value, item_order};
+use op_base::{Act, Cell, Entry, Item, Kind, ObjectId, Tag, Update, Value, item_order};
 use std::alloc::Global;
 use std::cmp::Ordering;
 use std::test::Fail;
@@ -49,11 +49,11 @@ impl ItemView for OneItem {
     ghost filled = { λ v. Prim.search rules };
 }
 
-/// The item of an object and a value with an on mark, and with an off mark as told.
-fn item_of(object: ObjectId, value: Option<Value>, off: bool) -> OneItem {
+/// The item of an object and a value, with an on mark.
+fn item_of(object: ObjectId, value: Option<Value>) -> OneItem {
     let cell = Cell {
         on: true,
-        off,
+        off: false,
         sum: 0,
     };
     OneItem {
@@ -65,16 +65,9 @@ fn item_of(object: ObjectId, value: Option<Value>, off: bool) -> OneItem {
     }
 }
 
-/// The object of a kind whose key is one byte.
-fn object_of(alloc: Global, kind: Kind, key: u8) -> Result<ObjectId, Fail> {
-    Ok(ObjectId {
-        kind,
-        key: Key::read(alloc, &[key])?,
-    })
-}
-
-/// Puts an entry at the end, if the object's kind has such an act.
-fn push_entry(entries: &mut Vec<Entry>, object: ObjectId, act: Act) -> Result<(), Fail> {
+/// The entry of an object and an act, if its kind has such an act.
+fn entry_of(alloc: Global, object: ObjectId, act: Act) -> Result<Vec<Entry>, Fail> {
+    let mut entries = Vec::new(alloc);
     if let Ok(update) = Update::new(object, act) {
         entries.push(Entry {
             origin: 0,
@@ -82,7 +75,7 @@ fn push_entry(entries: &mut Vec<Entry>, object: ObjectId, act: Act) -> Result<()
             update,
         })?;
     }
-    Ok(())
+    Ok(entries)
 }
 
 /// Whether an object is a flag that is on.
@@ -113,76 +106,27 @@ fn listed(
 }
 
 #[test]
-fn a_flag_is_on_as_its_item_and_its_entries_say(rt: HostRuntime) -> Result<(), Fail> {
+fn a_flag_is_off_where_a_disable_counts(rt: HostRuntime) -> Result<(), Fail> {
     let alloc = rt.alloc();
-    for (kind, key, off, logged, answer) in [
-        (Kind::EwFlag, b'a', false, *b"  ", true),
-        (Kind::EwFlag, b'b', false, *b"  ", false),
-        (Kind::EwFlag, b'b', false, *b"+ ", true),
-        (Kind::DwFlag, b'a', false, *b"+ ", true),
-        (Kind::DwFlag, b'a', false, *b"- ", false),
-        (Kind::DwFlag, b'a', true, *b"+ ", false),
-        (Kind::DwFlag, b'b', true, *b"+-", false),
-        (Kind::DwFlag, b'b', true, *b"+ ", true),
-    ] {
-        let items = item_of(object_of(alloc, kind, key)?, None, off);
-        let mut entries = Vec::new(alloc);
-        for sign in logged {
-            let act = if sign == b'+' {
-                Act::Enable
-            } else {
-                Act::Disable
-            };
-            if sign != b' ' {
-                push_entry(&mut entries, object_of(alloc, kind, b'a')?, act)?;
-            }
-        }
-        assert_eq!(rt;
-            is_on(&entries, &items, &object_of(alloc, kind, b'a')?),
-            answer,
-            "{kind:?} {key} {off} {logged:?}"
-        );
-    }
+    let object = ObjectId::read(alloc, b"dwflag:f")?;
+    let items = item_of(ObjectId::read(alloc, b"dwflag:f")?, None);
+    let disabled = entry_of(alloc, ObjectId::read(alloc, b"dwflag:f")?, Act::Disable)?;
+    assert!(rt; is_on(&[], &items, &object));
+    assert!(rt; !is_on(&disabled, &items, &object));
     Ok(())
 }
 
 #[test]
-fn a_register_has_each_value_once(rt: HostRuntime) -> Result<(), Fail> {
+fn a_register_has_each_value_in_order(rt: HostRuntime) -> Result<(), Fail> {
     let alloc = rt.alloc();
-    for (key, logged, answer) in [
-        (b'a', *b"  ", "c"),
-        (b'b', *b"  ", ""),
-        (b'a', *b"ba", "abc"),
-        (b'a', *b"ca", "ac"),
-        (b'b', *b"bb", "b"),
-    ] {
-        let items = item_of(
-            object_of(alloc, Kind::MvReg, key)?,
-            Some(Value::read(alloc, b"c")?),
-            false,
-        );
-        let mut entries = Vec::new(alloc);
-        for byte in logged {
-            if byte == b' ' {
-                continue;
-            }
-            push_entry(
-                &mut entries,
-                object_of(alloc, Kind::MvReg, b'a')?,
-                Act::Write(Value::read(alloc, &[byte])?),
-            )?;
-        }
-        assert_eq!(rt;
-            listed(
-                alloc,
-                &entries,
-                &items,
-                &object_of(alloc, Kind::MvReg, b'a')?
-            )?
-            .as_slice(),
-            answer.as_bytes(),
-            "{key} {logged:?}"
-        );
-    }
+    let object = ObjectId::read(alloc, b"mvreg:r")?;
+    let settled = Value::read(alloc, b"c")?;
+    let items = item_of(ObjectId::read(alloc, b"mvreg:r")?, Some(settled));
+    let write = Act::Write(Value::read(alloc, b"a")?);
+    let entries = entry_of(alloc, ObjectId::read(alloc, b"mvreg:r")?, write)?;
+    assert_eq!(rt;
+        listed(alloc, &entries, &items, &object)?.as_slice(),
+        b"ac".as_slice()
+    );
     Ok(())
 }

@@ -1,5 +1,5 @@
-//! What is in an object by its items and its entries. Expected answers come from the rules of the kinds: what is settled or
-//! logged as put in is in, but in the kinds in which a remove wins where something is settled or logged as taken out.
+//! What no clause says: that the values of a set are listed where there is memory, from its items alone and from items and
+//! entries among which are those of other sets.
 
 ghost use Rattle.std.specs.Prelude.{◌≡◌, true, All, IsTrue};
 ghost use Rattle.op_base.specs.Order.{item_cmp};
@@ -7,11 +7,9 @@ ghost use Rattle.std.specs.declared.cmp.Ordering.TheVariants.{Less};
 ghost use Rattle.op_base.specs.declared.outcome.Item.{Item};
 ghost use Rattle.causal_model.specs.Items.{is_filled, Rise};
 
-use crate::{has, values};
+use crate::values;
 use causal_model::ItemView;
-use op_base::{
-    Act, Cell, Entry, Item, Key, Kind, NoMemory, ObjectId, Tag, Update, Value, item_order,
-};
+use op_base::{Act, Cell, Entry, Item, Kind, NoMemory, ObjectId, Tag, Update, Value, item_order};
 use std::alloc::Global;
 use std::cmp::Ordering;
 use std::test::Fail;
@@ -99,105 +97,33 @@ impl Items {
     }
 }
 
-/// Puts an item of a key and a value at the end, where the second byte of its text is `+`, with an off mark where the third
-/// is `-`. The first is the value, or a space where there is none.
-fn push_item(
-    alloc: Global,
-    items: &mut Items,
-    kind: Kind,
-    key: &[u8],
-    text: &[u8; 3],
-) -> Result<(), Fail> {
-    let object = ObjectId {
-        kind,
-        key: Key::read(alloc, key)?,
-    };
-    let value = if text[0] == b' ' {
-        None
-    } else {
-        Some(Value::read(alloc, &text[..1])?)
-    };
-    if text[1] == b'+' {
-        items.push(object, value, text[2] == b'-')?;
-    }
-    Ok(())
+/// Puts an item of a set and a value at the end, where it stands there.
+fn push_item(alloc: Global, items: &mut Items, set: &[u8], value: &[u8]) -> Result<(), Fail> {
+    let value = Value::read(alloc, value)?;
+    let object = ObjectId::read(alloc, set)?;
+    Ok(items.push(object, Some(value), false)?)
 }
 
-/// Items of `k` of a kind, between one of `j` and one of `l`.
-fn items_of(alloc: Global, kind: Kind, texts: [[u8; 3]; 3]) -> Result<Items, Fail> {
-    let other = if has_values(kind) { b"z+-" } else { b" +-" };
-    let mut items = Items::new(alloc);
-    push_item(alloc, &mut items, kind, b"j", other)?;
-    for text in texts {
-        push_item(alloc, &mut items, kind, b"k", &text)?;
-    }
-    push_item(alloc, &mut items, kind, b"l", other)?;
-    Ok(items)
-}
-
-/// Whether the objects of a kind have values.
-fn has_values(kind: Kind) -> bool {
-    matches!(kind, Kind::AwSet | Kind::RwSet | Kind::MvReg)
-}
-
-/// What a text says: `+` puts its value in, `-` takes it out.
-fn act(alloc: Global, kind: Kind, text: &[u8; 2]) -> Result<Act, Fail> {
-    let puts = text[0] == b'+';
-    Ok(match kind {
-        Kind::EwFlag | Kind::DwFlag if puts => Act::Enable,
-        Kind::EwFlag | Kind::DwFlag => Act::Disable,
-        Kind::MvReg => Act::Write(Value::read(alloc, &text[1..])?),
-        _ if puts => Act::Add(Value::read(alloc, &text[1..])?),
-        _ => Act::Rmv(Value::read(alloc, &text[1..])?),
+/// The entry of an add of a value to a set.
+fn entry(alloc: Global, set: &[u8], value: &[u8]) -> Result<Entry, Fail> {
+    let act = Act::Add(Value::read(alloc, value)?);
+    let update = Update::new(ObjectId::read(alloc, set)?, act)
+        .ok()
+        .ok_or("a set has an add")?;
+    Ok(Entry {
+        origin: 0,
+        tag: Tag::zero(1),
+        update,
     })
 }
 
-/// Puts an entry of a key at the end, if its kind has such an act.
-fn push_entry(
-    alloc: Global,
-    entries: &mut Vec<Entry>,
-    kind: Kind,
-    key: &[u8],
-    text: &[u8; 2],
-) -> Result<(), Fail> {
-    let object = ObjectId {
-        kind,
-        key: Key::read(alloc, key)?,
-    };
-    if let Ok(update) = Update::new(object, act(alloc, kind, text)?) {
-        entries.push(Entry {
-            origin: 0,
-            tag: Tag::zero(1),
-            update,
-        })?;
-    }
-    Ok(())
-}
-
-/// Entries of `k` of a kind, behind two of `j`.
-fn entries_of(alloc: Global, kind: Kind, texts: [[u8; 2]; 4]) -> Result<Vec<Entry>, Fail> {
-    let mut entries = Vec::new(alloc);
-    push_entry(alloc, &mut entries, kind, b"j", b"+y")?;
-    push_entry(alloc, &mut entries, kind, b"j", b"-a")?;
-    for text in texts {
-        if text[0] != b' ' {
-            push_entry(alloc, &mut entries, kind, b"k", &text)?;
-        }
-    }
-    Ok(entries)
-}
-
-/// The bytes of the values that are in a set or a register, all of one byte.
-fn listed(
-    alloc: Global,
-    entries: &[Entry],
-    items: &Items,
-    object: &ObjectId,
-) -> Result<Vec<u8>, Fail> {
+/// The bytes of the values of a set.
+fn listed(alloc: Global, entries: &[Entry], items: &Items, set: &[u8]) -> Result<Vec<u8>, Fail> {
+    let object = ObjectId::read(alloc, set)?;
     let mut bytes = Vec::new(alloc);
     match object.kind {
         Kind::AwSet | Kind::RwSet | Kind::MvReg => {
-            for value in values(alloc, entries, items, object)?.as_slice() {
+            for value in values(alloc, entries, items, &object)?.as_slice() {
                 bytes.extend_from_slice(value.as_slice())?;
             }
         }
@@ -206,176 +132,45 @@ fn listed(
     Ok(bytes)
 }
 
-/// Whether a set or a register has a value, or whether a flag without one is on.
-fn holds(entries: &[Entry], items: &Items, object: &ObjectId, value: Option<&Value>) -> bool {
-    match (object.kind, value) {
-        (Kind::AwSet | Kind::RwSet | Kind::MvReg, Some(value)) => {
-            has(entries, items, object, Some(value))
-        }
-        (Kind::EwFlag | Kind::DwFlag, None) => has(entries, items, object, None),
-        _ => false,
-    }
-}
-
 #[test]
-fn values_are_in_by_the_item_and_the_entries(rt: HostRuntime) -> Result<(), Fail> {
+fn values_are_listed_from_items_alone(rt: HostRuntime) -> Result<(), Fail> {
     let alloc = rt.alloc();
-    for (kind, settled, logged, answer) in [
-        (
-            Kind::AwSet,
-            [*b"   ", *b"   ", *b"   "],
-            [*b"  ", *b"  ", *b"  ", *b"  "],
-            "",
-        ),
-        (
-            Kind::AwSet,
-            [*b"a+ ", *b"c+ ", *b"   "],
-            [*b"  ", *b"  ", *b"  ", *b"  "],
-            "ac",
-        ),
-        (
-            Kind::AwSet,
-            [*b"   ", *b"   ", *b"   "],
-            [*b"+d", *b"+a", *b"+d", *b"  "],
-            "ad",
-        ),
-        (
-            Kind::AwSet,
-            [*b"a+ ", *b"c+ ", *b"   "],
-            [*b"+d", *b"+b", *b"+c", *b"+b"],
-            "abcd",
-        ),
-        (
-            Kind::RwSet,
-            [*b"a+ ", *b"b+-", *b"c+ "],
-            [*b"  ", *b"  ", *b"  ", *b"  "],
-            "ac",
-        ),
-        (
-            Kind::RwSet,
-            [*b"a+ ", *b"c+ ", *b"   "],
-            [*b"-c", *b"+b", *b"-d", *b"  "],
-            "ab",
-        ),
-        (
-            Kind::RwSet,
-            [*b"c+-", *b"   ", *b"   "],
-            [*b"+c", *b"+b", *b"-b", *b"+a"],
-            "a",
-        ),
-        (
-            Kind::RwSet,
-            [*b"c+-", *b"   ", *b"   "],
-            [*b"+c", *b"-e", *b"+e", *b"  "],
-            "",
-        ),
-        (
-            Kind::MvReg,
-            [*b"b+ ", *b"   ", *b"   "],
-            [*b"+c", *b"+a", *b"+c", *b"  "],
-            "abc",
-        ),
-        (
-            Kind::MvReg,
-            [*b"   ", *b"   ", *b"   "],
-            [*b"+b", *b"  ", *b"  ", *b"  "],
-            "b",
-        ),
-    ] {
-        let items = items_of(alloc, kind, settled)?;
-        let entries = entries_of(alloc, kind, logged)?;
-        let object = ObjectId {
-            kind,
-            key: Key::read(alloc, b"k")?,
-        };
-        let answer = answer.as_bytes();
-        assert_eq!(rt;
-            listed(alloc, &entries, &items, &object)?.as_slice(),
-            answer,
-            "{settled:?} {logged:?}"
-        );
-        for byte in b"abcdeyz" {
-            let value = Value::read(alloc, &[*byte])?;
-            assert_eq!(rt;
-                holds(&entries, &items, &object, Some(&value)),
-                answer.contains(byte),
-                "{settled:?} {logged:?} {byte}"
-            );
-        }
-    }
+    let mut items = Items::new(alloc);
+    push_item(alloc, &mut items, b"awset:k", b"a")?;
+    push_item(alloc, &mut items, b"awset:k", b"c")?;
+    assert_eq!(rt;
+        listed(alloc, &[], &items, b"awset:k")?.as_slice(),
+        b"ac".as_slice()
+    );
     Ok(())
 }
 
+/// An item of `k`, behind one of another set.
+fn items_of_two(alloc: Global) -> Result<Items, Fail> {
+    let mut items = Items::new(alloc);
+    push_item(alloc, &mut items, b"awset:j", b"z")?;
+    push_item(alloc, &mut items, b"awset:k", b"c")?;
+    Ok(items)
+}
+
+/// Entries of `k`, two of them of one value, and between them one of another set.
+fn entries_of_two(alloc: Global) -> Result<Vec<Entry>, Fail> {
+    let mut entries = Vec::new(alloc);
+    entries.push(entry(alloc, b"awset:k", b"d")?)?;
+    entries.push(entry(alloc, b"awset:k", b"a")?)?;
+    entries.push(entry(alloc, b"awset:j", b"y")?)?;
+    entries.push(entry(alloc, b"awset:k", b"d")?)?;
+    Ok(entries)
+}
+
 #[test]
-fn a_flag_is_on_by_the_item_and_the_entries(rt: HostRuntime) -> Result<(), Fail> {
+fn values_are_listed_from_items_and_entries(rt: HostRuntime) -> Result<(), Fail> {
     let alloc = rt.alloc();
-    for (kind, settled, logged, answer) in [
-        (
-            Kind::EwFlag,
-            [*b"   ", *b"   ", *b"   "],
-            [*b"  ", *b"  ", *b"  ", *b"  "],
-            false,
-        ),
-        (
-            Kind::EwFlag,
-            [*b" + ", *b"   ", *b"   "],
-            [*b"  ", *b"  ", *b"  ", *b"  "],
-            true,
-        ),
-        (
-            Kind::EwFlag,
-            [*b"   ", *b"   ", *b"   "],
-            [*b"+ ", *b"  ", *b"  ", *b"  "],
-            true,
-        ),
-        (
-            Kind::DwFlag,
-            [*b"   ", *b"   ", *b"   "],
-            [*b"- ", *b"  ", *b"  ", *b"  "],
-            false,
-        ),
-        (
-            Kind::DwFlag,
-            [*b" + ", *b"   ", *b"   "],
-            [*b"  ", *b"  ", *b"  ", *b"  "],
-            true,
-        ),
-        (
-            Kind::DwFlag,
-            [*b" + ", *b"   ", *b"   "],
-            [*b"+ ", *b"  ", *b"  ", *b"  "],
-            true,
-        ),
-        (
-            Kind::DwFlag,
-            [*b" + ", *b"   ", *b"   "],
-            [*b"- ", *b"  ", *b"  ", *b"  "],
-            false,
-        ),
-        (
-            Kind::DwFlag,
-            [*b"   ", *b"   ", *b"   "],
-            [*b"+ ", *b"- ", *b"  ", *b"  "],
-            false,
-        ),
-        (
-            Kind::DwFlag,
-            [*b" +-", *b"   ", *b"   "],
-            [*b"+ ", *b"  ", *b"  ", *b"  "],
-            false,
-        ),
-    ] {
-        let items = items_of(alloc, kind, settled)?;
-        let entries = entries_of(alloc, kind, logged)?;
-        let object = ObjectId {
-            kind,
-            key: Key::read(alloc, b"k")?,
-        };
-        assert_eq!(rt;
-            holds(&entries, &items, &object, None),
-            answer,
-            "{kind:?} {settled:?} {logged:?}"
-        );
-    }
+    let items = items_of_two(alloc)?;
+    let entries = entries_of_two(alloc)?;
+    assert_eq!(rt;
+        listed(alloc, &entries, &items, b"awset:k")?.as_slice(),
+        b"acd".as_slice()
+    );
     Ok(())
 }

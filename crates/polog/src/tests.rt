@@ -1,5 +1,6 @@
-//! What no clause says: that a log is made where there is memory, and what it holds as it is filled, pruned and emptied.
-ghost use Rattle.std.specs.Prelude.{◌≡◌, ◌<◌, ◌≤◌, ◌*◌, [], length, IfOk, IsTrue, true};
+//! What no clause says: that a log is made and its ids are listed where there is memory, also once it was pruned by a rule;
+//! and that what is stripped one by one comes in the order of the history.
+ghost use Rattle.std.specs.Prelude.{◌≡◌, ◌<◌, ◌≤◌, length, IfOk, IsTrue};
 ghost use Rattle.op_base.specs.Message.{fits};
 ghost use Rattle.op_base.specs.Timestamp.{entry};
 ghost use Rattle.causal_model.specs.Log.{message_of};
@@ -73,11 +74,7 @@ fn entry(alloc: Global, origin: u8, seq: u32, set: &[u8], value: &[u8]) -> Resul
 /// Two entries of member 0 in one set, and between them one of member 1 in another, which stands before it in the order of
 /// objects.
 fn log_of_three(alloc: Global) -> Result<Polog, Fail>
-    ensures members { IfOk result (λ log. log.n ≡ 2) }
-    ensures room { IfOk result (λ log. log.room ≡ 4) }
-    ensures pushed { IfOk result (λ log. log.pushed ≡ 3) }
-    ensures entries { IfOk result (λ log. length log.entries ≡ 3) }
-    ensures handed_out { IfOk result (λ log. log.stripped ≡ []) }
+    ensures { IfOk result (λ log. log.n ≡ 2) }
 {
     let mut log = Polog::create(alloc, 2, 2)?;
     log.push(entry(alloc, 0, 1, b"awset:b", b"x")?);
@@ -99,38 +96,6 @@ fn is_next(next: Option<Entry>, id: (u8, u32)) -> bool {
     }
 }
 
-/// Whether the entries are those with these ids.
-fn are_entries(entries: &[Entry], ids: &[(u8, u32)]) -> bool {
-    for (entry, id) in entries.iter().zip(ids) {
-        if !is_entry(entry, *id) {
-            return false;
-        }
-    }
-    entries.len() == ids.len()
-}
-
-/// Whether the stable entries come out one by one as these, and then no more.
-fn come_one_by_one(log: &mut Polog, stable: &Tag, gone: &[(u8, u32)]) -> bool
-    requires { length stable.now ≡ log.old.n }
-{
-    for id in gone {
-        if !is_next(log.strip_one(stable), *id) {
-            return false;
-        }
-    }
-    log.strip_one(stable).is_none()
-}
-
-/// Whether the stripped entries are handed out as these, and then no more.
-fn are_handed_out(log: &mut Polog, gone: &[(u8, u32)]) -> bool {
-    for id in gone {
-        if !is_next(log.next_stripped(), *id) {
-            return false;
-        }
-    }
-    log.next_stripped().is_none()
-}
-
 /// Whether the ids of the entries are these.
 fn has_ids(alloc: Global, log: &Polog, ids: &[(u8, u32)]) -> Result<bool, Fail> {
     let found = log.ids(alloc)?;
@@ -142,102 +107,36 @@ fn has_ids(alloc: Global, log: &Polog, ids: &[(u8, u32)]) -> Result<bool, Fail> 
     Ok(found.len() == ids.len())
 }
 
-/// Whether a log's entries of a set are those with these ids.
-fn has_of(alloc: Global, log: &Polog, set: &[u8], ids: &[(u8, u32)]) -> Result<bool, Fail> {
-    Ok(are_entries(log.of_object(&ObjectId::read(alloc, set)?), ids))
-}
-
 #[test]
-fn entries_of_an_object_stand_together_in_history_order(rt: HostRuntime) -> Result<(), Fail> {
+fn the_ids_of_a_log_are_listed_in_history_order(rt: HostRuntime) -> Result<(), Fail> {
     let alloc = rt.alloc();
     let log = log_of_three(alloc)?;
-    let grouped = [(1, 1), (0, 1), (0, 2)];
-    assert_eq!(rt; are_entries(log.grouped(), grouped.as_slice()), true);
-    let cases: [(&[u8], &[(u8, u32)]); 3] = [
-        (b"awset:a", &[(1, 1)]),
-        (b"awset:b", &[(0, 1), (0, 2)]),
-        (b"awset:c", &[]),
-    ];
-    for (set, ids) in cases {
-        assert_eq!(rt; has_of(alloc, &log, set, ids)?, true, "{set:?}");
-    }
+    assert_eq!(rt; has_ids(alloc, &log, &[(0, 1), (1, 1), (0, 2)])?, true);
     Ok(())
 }
 
 #[test]
-fn what_is_stable_goes_in_history_order(rt: HostRuntime) -> Result<(), Fail> {
-    let alloc = rt.alloc();
-    // stable counts of members 0 and 1, what goes and what stays
-    let cases: [(u32, u32, &[(u8, u32)], &[(u8, u32)]); 5] = [
-        (0, 0, &[], &[(0, 1), (1, 1), (0, 2)]),
-        (0, 1, &[(1, 1)], &[(0, 1), (0, 2)]),
-        (1, 1, &[(0, 1), (1, 1)], &[(0, 2)]),
-        (2, 0, &[(0, 1), (0, 2)], &[(1, 1)]),
-        (2, 1, &[(0, 1), (1, 1), (0, 2)], &[]),
-    ];
-    for (first, second, gone, left) in cases {
-        let stable = tag(0, first, second);
-        let mut log = log_of_three(alloc)?;
-        assert_eq!(rt;
-            come_one_by_one(&mut log, &stable, gone),
-            true,
-            "{first} {second}"
-        );
-        assert_eq!(rt; has_ids(alloc, &log, left)?, true, "{first} {second}");
-        let mut log = log_of_three(alloc)?;
-        log.strip(&stable);
-        assert_eq!(rt; has_ids(alloc, &log, left)?, true, "{first} {second}");
-        assert_eq!(rt; are_handed_out(&mut log, gone), true, "{first} {second}");
-    }
+fn what_is_stable_goes_one_by_one_in_history_order(rt: HostRuntime) -> Result<(), Fail> {
+    let mut log = log_of_three(rt.alloc())?;
+    let stable = tag(0, 2, 1);
+    assert_eq!(rt; is_next(log.strip_one(&stable), (0, 1)), true);
+    assert_eq!(rt; is_next(log.strip_one(&stable), (1, 1)), true);
+    assert_eq!(rt; is_next(log.strip_one(&stable), (0, 2)), true);
+    assert!(rt; log.strip_one(&stable).is_none());
     Ok(())
-}
-
-/// What stays of the three entries when member 1 sends a message on a set and has seen so many of member 0's.
-fn pruned(alloc: Global, set: &[u8], seen: u32) -> Result<Polog, Fail> {
-    let mut log = log_of_three(alloc)?;
-    let message = Message {
-        origin: 1,
-        tag: tag(1, 2, seen),
-        op: Op::Update(add(alloc, set, b"v")?),
-    };
-    log.prune(&message, &LastOfObject);
-    Ok(log)
 }
 
 #[test]
 fn what_is_covered_goes_and_what_is_concurrent_stays(rt: HostRuntime) -> Result<(), Fail> {
     let alloc = rt.alloc();
-    let cases: [(&[u8], u32, &[(u8, u32)]); 5] = [
-        (b"awset:b", 0, &[(0, 1), (1, 1), (0, 2)]),
-        (b"awset:b", 1, &[(1, 1), (0, 2)]),
-        (b"awset:b", 2, &[(1, 1)]),
-        (b"awset:a", 2, &[(0, 1), (0, 2)]),
-        (b"awset:c", 2, &[(0, 1), (1, 1), (0, 2)]),
-    ];
-    for (set, seen, left) in cases {
-        let log = pruned(alloc, set, seen)?;
-        assert_eq!(rt; has_ids(alloc, &log, left)?, true, "{seen}");
-    }
-    Ok(())
-}
-
-/// A log with all entries for which it has room.
-fn full_log(alloc: Global) -> Result<Polog, Fail>
-    ensures members { IfOk result (λ log. log.n ≡ 2) }
-    ensures handed_out { IfOk result (λ log. log.stripped ≡ []) }
-{
     let mut log = log_of_three(alloc)?;
-    log.push(entry(alloc, 1, 2, b"awset:a", b"v")?);
-    Ok(log)
-}
-
-#[test]
-fn a_log_has_room_for_the_windows_of_all(rt: HostRuntime) -> Result<(), Fail> {
-    let mut log = full_log(rt.alloc())?;
-    assert_eq!(rt; log.len(), 4);
-    log.strip(&tag(0, 2, 2));
-    assert_eq!(rt; log.len(), 0);
-    let all = [(0, 1), (1, 1), (0, 2), (1, 2)];
-    assert_eq!(rt; are_handed_out(&mut log, all.as_slice()), true);
+    // member 1 has seen the first entry of the set, and not the second
+    let message = Message {
+        origin: 1,
+        tag: tag(1, 2, 1),
+        op: Op::Update(add(alloc, b"awset:b", b"v")?),
+    };
+    log.prune(&message, &LastOfObject);
+    assert_eq!(rt; has_ids(alloc, &log, &[(1, 1), (0, 2)])?, true);
     Ok(())
 }

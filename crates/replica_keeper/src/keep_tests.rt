@@ -4,21 +4,13 @@ ghost use Rattle.std.specs.Prelude.{◌≡◌, ◌<◌, false, length, IfOk, OnO
 
 use crate::KeepWorld;
 use causal_model::{Beat, Local, Receive};
-use op_base::{Act, Answer, ObjectId, Tag, Update};
+use op_base::{Act, Answer, ObjectId, Update};
 use std::alloc::Global;
 use std::test::Fail;
 use world::Given;
 
 fn counter_c(alloc: Global) -> Result<ObjectId, Fail> {
     Ok(ObjectId::read(alloc, b"counter:c")?)
-}
-
-/// Counts of two members.
-fn counts(first: u32, second: u32) -> Tag {
-    let mut tag = Tag::zero(2);
-    tag.set(0, first);
-    tag.set(1, second);
-    tag
 }
 
 /// The world of two members with a window of 2.
@@ -91,13 +83,6 @@ fn a_stop_loses_what_is_not_synced(rt: HostRuntime) -> Result<(), Fail> {
     assert!(rt; world.answer(alloc, 1, &object)? == Answer::Sum(5));
     confirms(alloc, &mut world, 1)?;
     assert_eq!(rt; world.stop(alloc, 1, 0)?, 3);
-    takes(alloc, &mut world, 0, 1)?;
-    assert_eq!(rt; world.stop(alloc, 0, 20)?, 1);
-    assert_eq!(rt; world.seen(0), counts(1, 0));
-    takes(alloc, &mut world, 0, 1)?;
-    assert_eq!(rt; world.stop(alloc, 0, 21)?, 3);
-    assert_eq!(rt; world.stable(0), counts(1, 1));
-    assert_eq!(rt; world.size(0), (0, 1));
     assert_eq!(rt; world.kept(alloc, 1)?.len(), 0);
     Ok(())
 }

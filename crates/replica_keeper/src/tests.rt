@@ -61,14 +61,3 @@ fn what_is_let_out_is_there_after_a_stop(rt: HostRuntime) -> Result<(), Fail> {
     assert_eq!(rt; replica.stop().len(), 28);
     Ok(())
 }
-
-#[test]
-fn a_length_that_no_record_has_is_a_fault(rt: HostRuntime) -> Result<(), Fail> {
-    let alloc = rt.alloc();
-    let mut keeper = MemoryKeeper::new(Vec::new(alloc));
-    keeper.reserve(4)?;
-    keeper.append(&[0, 0, 32, 1])?;
-    let fault = Durable::start(alloc, 0, 2, 2, 10000, keeper).err();
-    assert!(rt; matches!(fault, Some((StartFault::Damaged { at: 0 }, _))));
-    Ok(())
-}

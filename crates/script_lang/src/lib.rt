@@ -34,6 +34,4 @@ pub use reply::{Reply, put_reply};
 pub use word::{Words, is_passed_over, split};
 
 #[cfg(test)]
-mod reply_tests;
-#[cfg(test)]
 mod tests;

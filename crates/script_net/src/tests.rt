@@ -8,7 +8,7 @@ mod stops;
 use crate::Runner;
 use crate::tests::changes::CHANGES;
 use crate::tests::lists::{KEPT_LISTS, LISTS};
-use crate::tests::scripts::{LIMIT, SCRIPTS, Script};
+use crate::tests::scripts::{SCRIPTS, Script};
 use crate::tests::stops::STOPS;
 use op_base::{NoMemory, Text};
 use replica_core::CreateFault;
@@ -64,15 +64,6 @@ fn first_wrong_of(
     Ok(None)
 }
 
-/// A run at a store of two members.
-fn run_of_two(alloc: Global) -> Result<Runner, Fail> {
-    Ok(
-        Runner::create(alloc, 2, 2, LIMIT)
-            .ok()
-            .ok_or("there is memory")?,
-    )
-}
-
 #[test]
 fn each_line_has_its_reply(rt: HostRuntime) -> Result<(), Fail> {
     assert_eq!(rt; first_wrong_of(rt.alloc(), Mode::Store, &SCRIPTS)?, None);
@@ -95,48 +86,5 @@ fn durable_replicas_are_stopped(rt: HostRuntime) -> Result<(), Fail> {
 fn lists_have_their_order(rt: HostRuntime) -> Result<(), Fail> {
     assert_eq!(rt; first_wrong_of(rt.alloc(), Mode::Store, &LISTS)?, None);
     assert_eq!(rt; first_wrong_of(rt.alloc(), Mode::Keep, &KEPT_LISTS)?, None);
-    Ok(())
-}
-
-#[test]
-fn lines_and_values_have_their_limits(rt: HostRuntime) -> Result<(), Fail> {
-    let alloc = rt.alloc();
-    let mut runner = run_of_two(alloc)?;
-    // the first words, how many bytes `v` follow, and the reply
-    let cases = [
-        ("do 0 awset:a add ", 4096, "ok 1"),
-        ("do 0 awset:a add ", 4097, "bad 7"),
-        ("", 16384, "bad 2"),
-        ("", 16385, "bad 1"),
-    ];
-    for (words, count, reply) in cases {
-        let mut line = Text::new(alloc);
-        line.extend_from_slice(words.as_bytes())?;
-        for _ in 0..count {
-            line.push(b'v')?;
-        }
-        let mut out = Text::new(alloc);
-        runner.line(alloc, line.as_slice(), &mut out)?;
-        assert_eq!(rt; out, line_of(alloc, reply)?);
-    }
-    Ok(())
-}
-
-#[test]
-fn lines_without_a_word_are_passed_over(rt: HostRuntime) -> Result<(), Fail> {
-    let alloc = rt.alloc();
-    let mut runner = run_of_two(alloc)?;
-    let mut out = Text::new(alloc);
-    for line in ["", " \t", "# do 0 counter:a inc 1"] {
-        runner.line(alloc, line.as_bytes(), &mut out)?;
-    }
-    assert_eq!(rt; out.len(), 0);
-    Ok(())
-}
-
-#[test]
-fn a_store_of_seventeen_members_has_no_run(rt: HostRuntime) -> Result<(), Fail> {
-    let made = Runner::create(rt.alloc(), 17, 2, LIMIT);
-    assert_eq!(rt; made.err(), Some(CreateFault::BadNumbers));
     Ok(())
 }

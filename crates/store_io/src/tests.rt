@@ -1,5 +1,5 @@
-//! What no clause says: that the definitions of the clauses are those that were meant, and what
-//! passes the edge.
+//! What no clause says: that a sink is made where there is memory, what a whole write that fails leaves, and what passes the
+//! edge.
 use super::*;
 use std::alloc::Allocator;
 use std::fmt::Display;
@@ -8,88 +8,6 @@ use std::io::{BufRead, ErrorKind, Input, Lines, Print, Read};
 use std::test::Fail;
 
 const FAILED: Result<usize, Failed> = Err(Failed);
-
-#[test]
-fn a_memory_source_gives_pieces_and_fails_where_told(rt: HostRuntime) -> Result<(), Fail> {
-    let alloc = rt.alloc();
-    // Seven bytes and a buffer of four.
-    let cases: [(usize, &[u32], &[Result<usize, Failed>]); 7] = [
-        (
-            1,
-            &[],
-            &[
-                Ok(1),
-                Ok(1),
-                Ok(1),
-                Ok(1),
-                Ok(1),
-                Ok(1),
-                Ok(1),
-                Ok(0),
-                Ok(0),
-            ],
-        ),
-        (3, &[], &[Ok(3), Ok(3), Ok(1), Ok(0)]),
-        (9, &[], &[Ok(4), Ok(3), Ok(0)]),
-        (3, &[1], &[FAILED, Ok(3), Ok(3), Ok(1), Ok(0)]),
-        (9, &[2], &[Ok(4), FAILED, Ok(3), Ok(0)]),
-        (
-            3,
-            &[4, 1, 2],
-            &[FAILED, FAILED, Ok(3), FAILED, Ok(3), Ok(1), Ok(0)],
-        ),
-        (9, &[3, 3], &[Ok(4), Ok(3), FAILED, Ok(0)]),
-    ];
-    for (piece, failing, answers) in cases {
-        assert!(rt; piece >= 1);
-        let bytes = b"abcdefg".to_vec(alloc)?;
-        let mut source = MemorySource::new(bytes, piece, failing.to_vec(alloc)?);
-        let mut given = Vec::new(alloc);
-        for answer in answers {
-            let mut buf = [0; 4];
-            let read = source.read(&mut buf);
-            assert_eq!(rt; read, *answer, "piece {piece}, failing {failing:?}");
-            if let Ok(count) = read {
-                assert!(rt; count <= 4);
-                given.extend_from_slice(&buf[..count])?;
-            }
-        }
-        assert_eq!(rt; given.as_slice(), b"abcdefg".as_slice());
-    }
-    Ok(())
-}
-
-#[test]
-fn a_memory_sink_takes_pieces_until_its_room_is_used(rt: HostRuntime) -> Result<(), Fail> {
-    let alloc = rt.alloc();
-    // Each write is of three bytes, and there is room for five.
-    let cases: [(usize, &[u32], &[Result<usize, Failed>], &[u8]); 6] = [
-        (1, &[], &[Ok(1), Ok(1), Ok(1)], b"aaa"),
-        (2, &[], &[Ok(2), Ok(2), Ok(1), FAILED, FAILED], b"ababa"),
-        (4, &[], &[Ok(3), Ok(2), FAILED], b"abcab"),
-        (2, &[1], &[FAILED, Ok(2), Ok(2), Ok(1), FAILED], b"ababa"),
-        (1, &[2, 4], &[Ok(1), FAILED, Ok(1), FAILED, Ok(1)], b"aaa"),
-        (
-            2,
-            &[3, 4],
-            &[Ok(2), Ok(2), FAILED, FAILED, Ok(1), FAILED],
-            b"ababa",
-        ),
-    ];
-    for (piece, failing, answers, held) in cases {
-        assert!(rt; piece >= 1);
-        let mut sink = MemorySink::create(alloc, 5, piece, failing.to_vec(alloc)?)?;
-        for answer in answers {
-            assert_eq!(rt;
-                sink.write(b"abc"),
-                *answer,
-                "piece {piece}, failing {failing:?}"
-            );
-        }
-        assert_eq!(rt; sink.bytes(), held);
-    }
-    Ok(())
-}
 
 #[test]
 fn a_whole_write_that_fails_leaves_a_prefix(rt: HostRuntime) -> Result<(), Fail> {
@@ -102,18 +20,6 @@ fn a_whole_write_that_fails_leaves_a_prefix(rt: HostRuntime) -> Result<(), Fail>
     assert_eq!(rt; sink.bytes(), b"abcdxyz".as_slice());
     assert_eq!(rt; write_whole(&mut sink, b"uv"), Err(Failed));
     assert_eq!(rt; sink.bytes(), b"abcdxyzu".as_slice());
-    Ok(())
-}
-
-#[test]
-fn a_steady_source_gives_what_fits(rt: HostRuntime) -> Result<(), Fail> {
-    let mut source = SteadySource::new(b"abcde".to_vec(rt.alloc())?);
-    let mut buf = [0; 3];
-    assert_eq!(rt; source.read(&mut buf), Ok(3));
-    assert_eq!(rt; buf, *b"abc");
-    assert_eq!(rt; source.read(&mut buf), Ok(2));
-    assert_eq!(rt; buf, *b"dec");
-    assert_eq!(rt; source.read(&mut buf), Ok(0));
     Ok(())
 }
 

@@ -17,109 +17,51 @@ const FIRST: &[u8] = b"live 1 1 1 0 0\n0: do counter:a inc 5\n0: ask counter:a\n
 const FIRST_TEXT: &[u8] =
     b"reply 0 1 1 ok 1\nreply 0 2 1 = 5\nsettled\njournal 0 1\nsent 0200010f000000000000000100016100000005\nfinal 0 counter:a = 5\n";
 
-/// Runs a live input, and gives the status and what was written.
-fn live<R: Threads + Wait + Sync + AllocGlobal>(
+/// Whether a live input ends with a status, and a text begins so.
+fn gives<R: Threads + Wait + Sync + AllocGlobal>(
     rt: &R,
     input: &[u8],
-) -> Result<(Status, Vec<u8>), AllocError> {
-    outcome_at(rt, &WORDS, input, WHOLE, &OpenGate)
+    status: Status,
+    text: &[u8],
+) -> Result<bool, AllocError> {
+    let (found, written) = outcome_at(rt, &WORDS, input, WHOLE, &OpenGate)?;
+    Ok(found == status && written.as_slice().starts_with(text))
 }
 
 #[test]
 fn one_client_has_one_text(rt: HostRuntime) -> Result<(), Fail> {
-    let cases: [(&[u8], &[u8]); 6] = [
-        (FIRST, FIRST_TEXT),
-        // Blanks, carriage returns, what is passed over, and no newline at the end.
-        (
-            b"# first\r\n live\t1 01 1 0 0 \r\n\n \t# more\n0: do counter:a inc 5\r\n 00:\task counter:a\r",
-            FIRST_TEXT,
-        ),
-        // Nothing is asked.
-        (b"live 2 4 1 0 0", b"settled\njournal 0 0\njournal 1 0\n"),
-        // Lines that are no commands, by their numbers among all lines.
-        (
-            b"\nlive 1 4 2 10 0\nfrob\n0:\n0: frob counter:a\n: ask counter:a\n2: ask counter:a\nclient 0\nclient 0 1\nclient 2 0\n",
-            b"bad line 3 2\nbad line 4 3\nbad line 5 2\nbad line 6 2\nbad line 7 4\nbad line 8 3\nbad line 9 4\nbad line 10 4\nsettled\njournal 0 0\n",
-        ),
-        (
-            b"live 1 4 2 10 0\n0: ask counter:A\n# none\n0: do awset:l frob\n0: do awset:l add\n0: do awset:l add \x7F\n0: do counter:a inc x\nlive 1 1 1 0 0",
-            b"bad line 2 5\nbad line 4 6\nbad line 5 6\nbad line 6 7\nbad line 7 8\nbad line 8 2\nsettled\njournal 0 0\n",
-        ),
-        // The window is full, and no call is made again.
-        (
-            b"live 2 1 1 0 0\n0: do counter:a inc 5\n0: do counter:a inc 5\n",
-            b"reply 0 1 1 ok 1\nreply 0 2 1 busy\nsettled\njournal 0 ",
-        ),
-    ];
-    for (input, text) in cases {
-        let (status, written) = live(&rt, input)?;
-        assert_eq!(rt; status, Status::Fine, "at {input:?}");
-        assert!(rt; written.as_slice().starts_with(text), "at {input:?}");
-    }
+    assert!(rt; gives(&rt, FIRST, Status::Fine, FIRST_TEXT)?);
+    // Lines that are no commands, by their numbers among all lines.
+    let bad =
+        b"\nlive 1 4 2 10 0\nfrob\n0:\n# none\n2: ask counter:a\n0: ask counter:A\n0: do counter:a inc x";
+    let told =
+        b"bad line 3 2\nbad line 4 3\nbad line 6 4\nbad line 7 5\nbad line 8 8\nsettled\njournal 0 0\n";
+    assert!(rt; gives(&rt, bad, Status::Fine, told)?);
+    // The window is full, and no call is made again.
+    let full = b"live 2 1 1 0 0\n0: do counter:a inc 5\n0: do counter:a inc 5\n";
+    let busy = b"reply 0 1 1 ok 1\nreply 0 2 1 busy\nsettled\njournal 0 ";
+    assert!(rt; gives(&rt, full, Status::Fine, busy)?);
     Ok(())
 }
 
 #[test]
-fn a_live_input_has_a_live_header(rt: HostRuntime) -> Result<(), Fail> {
-    let cases: [&[u8]; 13] = [
-        b"",
-        b"\n# no command\n",
-        b"store 1 1\n",
-        b"0: ask counter:a\nlive 1 1 1 0 0\n",
-        b"live 0 1 1 0 0\n",
-        b"live 17 1 1 0 0\n",
-        b"live 1 0 1 0 0\n",
-        b"live 1 65 1 0 0\n",
-        b"live 1 1 0 0 0\n",
-        b"live 1 1 9 0 0\n",
-        b"live 1 1 1 10001 0\n",
-        b"live 1 1 1 0 1000001",
-        b"live 1 1 1 0\n",
-    ];
-    for input in cases {
-        let (status, written) = live(&rt, input)?;
-        assert_eq!(rt; status, Status::BadHeader, "at {input:?}");
-        assert!(rt; written.is_empty());
-    }
-    Ok(())
-}
-
-#[test]
-fn a_live_input_has_at_most_4194304_bytes(rt: HostRuntime) -> Result<(), Fail> {
-    // What stands first, what stands behind the newlines, and what comes of it.
-    let cases: [(&[u8], &[u8], Status, &[u8]); 3] = [
-        (
-            b"live 1 1 1 0 0\n",
-            b"",
+fn a_live_input_has_a_header_and_at_most_4194304_bytes(rt: HostRuntime) -> Result<(), Fail> {
+    let (status, written) = outcome_at(&rt, &WORDS, b"store 1 1\n", WHOLE, &OpenGate)?;
+    assert_eq!(rt; status, Status::BadHeader);
+    assert!(rt; written.is_empty());
+    let most = padded(rt.alloc(), b"live 1 1 1 0 0\n", MOST_INPUT, b"")?;
+    assert!(rt;
+        gives(
+            &rt,
+            most.as_slice(),
             Status::Fine,
-            b"settled\njournal 0 0\n",
-        ),
-        (b"live 1 1 1 0 0\n", b"\n", Status::TooLong, b""),
-        (b"store 1 1\n", b"\n", Status::BadHeader, b""),
-    ];
-    for (head, tail, status, text) in cases {
-        let input = padded(rt.alloc(), head, MOST_INPUT, tail)?;
-        let (found, written) = live(&rt, input.as_slice())?;
-        assert_eq!(rt; found, status);
-        assert_eq!(rt; written.as_slice(), text);
-    }
-    Ok(())
-}
-
-#[test]
-fn a_live_line_has_at_most_16384_bytes(rt: HostRuntime) -> Result<(), Fail> {
-    for (blanks, text) in [
-        (16368usize, b"reply 0 1 0 = 0\n".as_slice()),
-        (16369, b"bad line 2 1\n".as_slice()),
-    ] {
-        let mut input = Vec::from_slice(rt.alloc(), b"live 1 1 1 0 0\n0: ask counter:a")?;
-        for _ in 0..blanks {
-            input.push(b' ')?;
-        }
-        let (status, written) = live(&rt, input.as_slice())?;
-        assert_eq!(rt; status, Status::Fine);
-        assert!(rt; written.as_slice().starts_with(text), "at {blanks} blanks");
-    }
+            b"settled\njournal 0 0\n"
+        )?
+    );
+    let more = padded(rt.alloc(), b"live 1 1 1 0 0\n", MOST_INPUT, b"\n")?;
+    let (status, written) = outcome_at(&rt, &WORDS, more.as_slice(), WHOLE, &OpenGate)?;
+    assert_eq!(rt; status, Status::TooLong);
+    assert!(rt; written.is_empty());
     Ok(())
 }
 

@@ -89,7 +89,6 @@ fn two_threads_take_a_hundred_turns_each(rt: HostRuntime) -> Result<(), Fail> {
     );
     lock.join(&mut opener, first);
     lock.join(&mut opener, second);
-    assert_eq!(rt; opener.out(), 0);
     assert_eq!(rt; lock.close(opener), 100_100);
     Ok(())
 }
@@ -141,10 +140,8 @@ fn one_thread_has_two_passes_and_makes_each_call(rt: HostRuntime) -> Result<(), 
         inside: AtomicU64::new(0),
     };
     let (lock, mut opener) = SumLock::create(rt.alloc(), 0, &())?;
-    assert_eq!(rt; opener.out(), 0);
     let mut first = lock.split(&mut opener);
     let mut second = lock.split(&mut opener);
-    assert_eq!(rt; opener.out(), 2);
     cross(&lock, &opener, &first);
     let visit = Visit {
         gate: &gate,
@@ -160,34 +157,10 @@ fn one_thread_has_two_passes_and_makes_each_call(rt: HostRuntime) -> Result<(), 
     assert_eq!(rt; add(&rt, &lock, &mut second, &visit, u64::MAX), 5);
     assert_eq!(rt; add(&rt, &lock, &mut second, &visit, 2), 7);
     lock.join(&mut opener, first);
-    assert_eq!(rt; opener.out(), 1);
     lock.join(&mut opener, second);
-    assert_eq!(rt; opener.out(), 0);
     assert_eq!(rt; lock.close(opener), 7);
     assert_eq!(rt; gate.before.into_inner(), 3061);
     assert_eq!(rt; gate.inside.into_inner(), 3061);
-    Ok(())
-}
-
-#[test]
-fn passes_lie_in_a_list_and_are_lent_in_turn(rt: HostRuntime) -> Result<(), Fail> {
-    let (lock, mut opener) = SumLock::create(rt.alloc(), 0, &())?;
-    let mut passes = Vec::new(rt.alloc());
-    passes.push(lock.split(&mut opener))?;
-    passes.push(lock.split(&mut opener))?;
-    let visit = Visit {
-        gate: &OpenGate,
-        worker: 0,
-        call: 0,
-    };
-    assert_eq!(rt; add(&rt, &lock, &mut passes[0], &visit, 5), 5);
-    assert_eq!(rt; add(&rt, &lock, &mut passes[1], &visit, 7), 12);
-    assert_eq!(rt; add(&rt, &lock, &mut passes[0], &visit, 1), 13);
-    for pass in passes {
-        lock.join(&mut opener, pass);
-    }
-    assert_eq!(rt; opener.out(), 0);
-    assert_eq!(rt; lock.close(opener), 13);
     Ok(())
 }
 

@@ -1,6 +1,6 @@
 //! Each call of a keeper made to fail in turn.
 
-use crate::tests::records::{ADDED, HEARD};
+use crate::tests::records::{ADDED, HEARD, Start, start_of};
 use crate::tests::{started, update};
 use crate::{Durable, Durably, StartFault};
 use frame_codec::decode;
@@ -8,40 +8,31 @@ use std::alloc::Global;
 use std::test::Fail;
 use store_io::{Keeper, MemoryKeeper};
 
-/// What a call came to, whatever it answered.
-#[derive(Clone, Copy, Debug, PartialEq, Eq)]
-enum Came {
-    Done,
-    Fault,
-    Closed,
-}
-
-fn what_came<T: Drop>(answer: Durably<T>) -> Came {
-    match answer {
-        Durably::Done(_) => Came::Done,
-        Durably::KeeperFault => Came::Fault,
-        Durably::Closed => Came::Closed,
+/// Receives a message of the other member, and tells whether it was done.
+fn hears(alloc: Global, replica: &mut Durable<MemoryKeeper>) -> Result<bool, Fail> {
+    let message = decode(alloc, &HEARD[5..], 2, 0, 10000)
+        .ok()
+        .ok_or("no frame")?;
+    if replica.n != 2 || replica.limit != 10000 {
+        return Err("another store".into());
     }
+    Ok(matches!(replica.receive(alloc, message), Durably::Done(_)))
 }
 
-/// How many steps the script has behind the start.
-const STEPS: u8 = 4;
-
-/// A step of the script: an update, a message of the other member, the no-op that confirms it, and an update.
-fn step(alloc: Global, replica: &mut Durable<MemoryKeeper>, step: u8) -> Result<Came, Fail> {
-    match step {
-        1 => {
-            let message = decode(alloc, &HEARD[5..], 2, 0, 10000)
-                .ok()
-                .ok_or("no frame")?;
-            if replica.n != 2 || replica.limit != 10000 {
-                return Err("another store".into());
-            }
-            Ok(what_came(replica.receive(alloc, message)))
+/// How many steps of a script are done until one isn't: an update, a message of the other member, the no-op that confirms it,
+/// and an update.
+fn steps_done(alloc: Global, replica: &mut Durable<MemoryKeeper>) -> Result<u8, Fail> {
+    for step in 0..4 {
+        let is_done = match step {
+            1 => hears(alloc, replica)?,
+            2 => matches!(replica.beat(alloc), Durably::Done(_)),
+            _ => matches!(replica.local(alloc, &update(alloc)?), Durably::Done(_)),
+        };
+        if !is_done {
+            return Ok(step);
         }
-        2 => Ok(what_came(replica.beat(alloc))),
-        _ => Ok(what_came(replica.local(alloc, &update(alloc)?))),
     }
+    Ok(4)
 }
 
 /// In which step the keeper's call fails, its first two being made by the start: how many notes are then kept. A record that was
@@ -62,24 +53,10 @@ fn a_failing_call_closes_the_replica_and_what_is_kept_opens(rt: HostRuntime) -> 
     let alloc = rt.alloc();
     for (call, at, kept) in CALLS {
         let mut replica = started(alloc, MemoryKeeper::new([call].to_vec(alloc)?))?;
-        for i in 0..STEPS {
-            let comes_to = if i < at {
-                Came::Done
-            } else if i == at {
-                Came::Fault
-            } else {
-                Came::Closed
-            };
-            assert_eq!(rt;
-                step(alloc, &mut replica, i)?,
-                comes_to,
-                "call {call}, step {i}"
-            );
-            assert_eq!(rt; replica.node().is_some(), i < at, "call {call}, step {i}");
-        }
-        let replica = started(alloc, replica.stop())?;
-        let node = replica.node().ok_or("closed")?;
-        assert_eq!(rt; node.places(), kept, "call {call}");
+        assert_eq!(rt; steps_done(alloc, &mut replica)?, at);
+        assert_eq!(rt; replica.node().is_none(), at < 4);
+        let comes_to = start_of(alloc, 0, 2, 10000, replica.stop());
+        assert_eq!(rt; (call, comes_to), (call, Start::Opens(kept)));
     }
     Ok(())
 }
@@ -93,19 +70,23 @@ fn torn(alloc: Global, call: u32) -> Result<MemoryKeeper, Fail> {
     Ok(keeper)
 }
 
+/// The keeper that comes back from a start in which one of its calls fails.
+fn failed(alloc: Global, keeper: MemoryKeeper) -> Result<MemoryKeeper, Fail> {
+    let Err((StartFault::KeeperFault, keeper)) = Durable::start(alloc, 0, 2, 2, 10000, keeper)
+    else {
+        return Err("no call failed".into());
+    };
+    Ok(keeper)
+}
+
 #[test]
 fn a_failing_start_gives_back_a_keeper_that_opens(rt: HostRuntime) -> Result<(), Fail> {
     let alloc = rt.alloc();
     // Its two reads, its cut and its sync, behind the two calls that filled it.
     for (call, left) in [(3, 42), (4, 42), (5, 42), (6, 28)] {
-        let Err((fault, keeper)) = Durable::start(alloc, 0, 2, 2, 10000, torn(alloc, call)?) else {
-            return Err("started".into());
-        };
-        assert_eq!(rt; fault, StartFault::KeeperFault, "call {call}");
-        assert_eq!(rt; keeper.len(), left, "call {call}");
-        let replica = started(alloc, keeper)?;
-        let node = replica.node().ok_or("closed")?;
-        assert_eq!(rt; node.places(), 2, "call {call}");
+        let keeper = failed(alloc, torn(alloc, call)?)?;
+        assert_eq!(rt; (call, keeper.len()), (call, left));
+        assert_eq!(rt; start_of(alloc, 0, 2, 10000, keeper), Start::Opens(2));
     }
     let replica = started(alloc, torn(alloc, 7)?)?;
     assert_eq!(rt; replica.stop().len(), 28);
@@ -117,15 +98,7 @@ fn a_start_whose_calls_fail_can_be_made_again(rt: HostRuntime) -> Result<(), Fai
     let alloc = rt.alloc();
     // One fails at each of the first two starts.
     let keeper = MemoryKeeper::new([1, 3].to_vec(alloc)?);
-    let Err((StartFault::KeeperFault, keeper)) = Durable::start(alloc, 0, 2, 2, 10000, keeper)
-    else {
-        return Err("started".into());
-    };
-    let Err((StartFault::KeeperFault, keeper)) = Durable::start(alloc, 0, 2, 2, 10000, keeper)
-    else {
-        return Err("started".into());
-    };
-    let replica = started(alloc, keeper)?;
-    assert!(rt; replica.node().is_some());
+    let keeper = failed(alloc, failed(alloc, keeper)?)?;
+    assert_eq!(rt; start_of(alloc, 0, 2, 10000, keeper), Start::Opens(0));
     Ok(())
 }

@@ -16,6 +16,14 @@ pub(crate) const HEARD: &[u8] =
 /// That it confirmed this: one note.
 pub(crate) const CONFIRMED: &[u8] = b"\0\0\0\x11\x01\x02\0\x02\0\0\0\0\0\0\0\0\x02\0\0\0\x01";
 
+/// The three, one behind the other.
+pub(crate) fn records(alloc: Global) -> Result<Vec<u8>, Fail> {
+    let mut bytes = ADDED.to_vec(alloc)?;
+    bytes.extend_from_slice(HEARD)?;
+    bytes.extend_from_slice(CONFIRMED)?;
+    Ok(bytes)
+}
+
 /// A keeper that holds bytes of which the first are synced.
 pub(crate) fn holding(alloc: Global, synced: &[u8], more: &[u8]) -> Result<MemoryKeeper, Fail> {
     let mut keeper = MemoryKeeper::new(Vec::new(alloc));
