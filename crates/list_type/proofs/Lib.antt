@@ -19,3 +19,4 @@ pub mod Inserted
 pub mod Asked
 pub mod TakenOut
 pub mod OneHidden
+pub mod NamedIds

@@ -13,3 +13,4 @@ pub mod Heads
 pub mod Putting
 pub mod Taking
 pub mod Removals
+pub mod Named

@@ -13,9 +13,11 @@ ghost use Rattle.list_type.specs.Chained.{row_at};
 ghost use Rattle.list_type.specs.Heads.{takes_by};
 ghost use Rattle.list_type.specs.Listed.{AreListsOf};
 ghost use Rattle.list_type.specs.ListFields.{element_in, elements_in};
+ghost use Rattle.list_type.specs.Named.{AreNamed};
 ghost use Rattle.list_type.specs.Removals.{is_hidden, AreJoined, AreTold};
 
 use crate::lists::{Content, Lists};
+use crate::named::Named;
 use crate::removals::{Clears, Removals, deletion, is_deleted};
 use crate::tree::Node;
 use op_base::{ElementIdList, Entry, NoMemory, ObjectId, ValueList};
@@ -122,13 +124,11 @@ impl Lists {
             return 0;
         };
         let clears = Clears::of(epoch, entries);
-        let mut count = self.hidden_by_clears(row, &clears, epoch, entries);
-        for k in 0..entries.len() {
-            if self.hides_one(object, &clears, epoch, entries, k) {
-                count += 1;
-            }
+        let count = self.hidden_by_clears(row, &clears, epoch, entries);
+        if entries.is_empty() {
+            return count;
         }
-        count
+        count + self.hidden_by_deletions(object, &clears, epoch, entries)
     }
 
     /// How many of a row are gone, or taken out by a clear.
@@ -153,27 +153,55 @@ impl Lists {
         count
     }
 
+    /// How many more of a list are hidden for what the entries delete.
+    fn hidden_by_deletions(
+        &self,
+        object: &ObjectId,
+        clears: &Clears,
+        epoch: u32,
+        entries: &[Entry],
+    ) -> usize
+        requires joined { AreJoined clears.now epoch entries.now }
+        ensures { length (filter (is_hidden epoch entries.now entries.now) ((shown self.now).kept object.now))
+            ≡ length (filter (is_hidden epoch entries.now []) ((shown self.now).kept object.now)) + result }
+    {
+        let mut named = Named::none();
+        let mut count = 0;
+        for k in 0..entries.len() {
+            if self.hides_one(object, clears, &mut named, epoch, entries, k) {
+                count += 1;
+            }
+        }
+        count
+    }
+
     /// Whether an entry deletes an element that neither a clear nor a deletion before that entry takes out, and that isn't gone.
+    /// The entries before it are looked at only where one of them may have named its id, and then that is named too.
     fn hides_one(
         &self,
         object: &ObjectId,
         clears: &Clears,
+        named: &mut Named,
         epoch: u32,
         entries: &[Entry],
         k: usize,
     ) -> bool
         requires k { k < length entries.now }
         requires joined { AreJoined clears.now epoch entries.now }
-        ensures { length (filter (is_hidden epoch entries.now (take (k + 1) entries.now)) ((shown self.now).kept object.now))
+        requires named { AreNamed named.old epoch (take k entries.now) }
+        ensures named { AreNamed named.new epoch (take (k + 1) entries.now) }
+        ensures hidden { length (filter (is_hidden epoch entries.now (take (k + 1) entries.now)) ((shown self.now).kept object.now))
             ≡ length (filter (is_hidden epoch entries.now (take k entries.now)) ((shown self.now).kept object.now)) + (if result then 1 else 0) }
     {
         let Some(id) = deletion(epoch, &entries[k]) else {
             return false;
         };
+        let looked_at = if named.may_have(id) { k } else { 0 };
+        named.add(id);
         let Some(slot) = self.slot_of(object, id) else {
             return false;
         };
-        let before = &entries[..k];
+        let before = &entries[..looked_at];
         !is_hidden(self.chains.get(slot), clears, epoch, entries, before)
     }
 }

@@ -6,6 +6,7 @@ mod chain;
 mod head;
 mod laws;
 mod lists;
+mod named;
 mod putting;
 mod removals;
 mod taking;

@@ -143,14 +143,22 @@ pub(crate) fn deletion(epoch: u32, entry: &Entry) -> Option<ElementId>
     }
 }
 
+/// Whether an act is the deletion of an element.
+fn is_deletion(act: &Act, id: ElementId) -> bool
+    ensures { result ≡ is_deletion id act.now }
+{
+    match act {
+        Act::Del(other) => *other == id,
+        Act::Add(_) | Act::Rmv(_) | Act::Write(_) | Act::Enable | Act::Disable => false,
+        Act::Inc(_) | Act::Dec(_) | Act::Ins(_, _) | Act::Clear => false,
+    }
+}
+
 /// Whether an entry of an epoch deletes an element.
 fn does_delete(epoch: u32, entry: &Entry, id: ElementId) -> bool
     ensures { result ≡ deletes_by epoch entry.now id }
 {
-    match deletion(epoch, entry) {
-        Some(other) => other == id,
-        None => false,
-    }
+    is_deletion(entry.update.act(), id) && Head::of(epoch, entry).had_seen(id)
 }
 
 /// Whether one of the entries deletes an element.
