@@ -7,26 +7,18 @@ usage: bench/keep_wrong.py [--scripts N] [--size LINES]
 It runs no program. The status is 0 where each wrong reading is told by some of the scripts.
 """
 
-import argparse
 import sys
 
 sys.dont_write_bytecode = True
 from keep_made import drawn_script
-from keep_rules import Replica, Store, record_of, transcript_of
+from keep_rules import Replica, Store, record_of
 from live_rules import NO_OP, State
+from wrong import Readings
 
-# How many scripts are drawn, and how many lines each has at most. How many have to tell a wrong reading.
-SCRIPTS, SIZE, OFTEN = 60, 250, 3
-# The wrong readings by what they get wrong, each what makes a store.
-READINGS = {}
-
-
-def reading(why):
-    """Notes a wrong reading: a wrong replica, or a wrong store."""
-    def note(of):
-        READINGS[why] = of if issubclass(of, Store) else type(of.__name__, (Store,), {"make": of})
-        return of
-    return note
+# How many scripts are drawn, and how many lines each has at most.
+SCRIPTS, SIZE = 60, 250
+READINGS = Readings(Store, "make")
+reading = READINGS.reading
 
 
 class WrongStop(Replica):
@@ -216,29 +208,5 @@ class SentIsTakenBack(Store):
         return said
 
 
-def is_told(script, store, transcript):
-    """Whether a wrong reading has another transcript of a script, or breaks down at it."""
-    try:
-        return transcript_of(script, store) != transcript
-    except (KeyError, IndexError):
-        return True
-
-
-def main():
-    parser = argparse.ArgumentParser()
-    parser.add_argument("--scripts", type=int, default=SCRIPTS)
-    parser.add_argument("--size", type=int, default=SIZE)
-    words = parser.parse_args()
-    scripts = [drawn_script(seed, words.size) for seed in range(words.scripts)]
-    right = list(map(transcript_of, scripts))
-    missed = 0
-    for why, store in READINGS.items():
-        told = sum(is_told(script, store, transcript) for script, transcript in zip(scripts, right))
-        missed += told < OFTEN
-        print(f"{told:>5} of {words.scripts} scripts tell that {why}{'' if told >= OFTEN else ': TOO FEW'}")
-    print(f"{len(READINGS)} wrong readings, {missed} of them told by too few scripts")
-    sys.exit(1 if missed else 0)
-
-
 if __name__ == "__main__":
-    main()
+    READINGS.run(drawn_script, SCRIPTS, SIZE)

@@ -7,27 +7,19 @@ usage: bench/list_wrong.py [--scripts N] [--size LINES]
 It runs no program. The status is 0 where each wrong reading is told by some of the scripts.
 """
 
-import argparse
 import sys
 
 sys.dont_write_bytecode = True
 from elements import Elements
-from keep_rules import log_of, transcript_of
+from keep_rules import log_of
 from list_made import drawn_script
 from list_rules import Store
+from wrong import Readings
 
-# How many scripts are drawn, and how many lines each has at most. How many have to tell a wrong reading.
-SCRIPTS, SIZE, OFTEN = 100, 200, 3
-# The wrong readings by what they get wrong, each what makes a store.
-READINGS = {}
-
-
-def reading(why):
-    """Notes a wrong reading: wrong elements, or a wrong store."""
-    def note(of):
-        READINGS[why] = of if issubclass(of, Store) else type(of.__name__, (Store,), {"elements": of})
-        return of
-    return note
+# How many scripts are drawn, and how many lines each has at most.
+SCRIPTS, SIZE = 100, 200
+READINGS = Readings(Store, "elements")
+reading = READINGS.reading
 
 
 # ---------------------------------------------------------------- ranks and order
@@ -434,32 +426,5 @@ class NoPastForNew(Store):
         return super().heir(me, n, epoch, [m for m in past if not (is_new and (m.operation.object or b"").startswith(b"list:"))])
 
 
-def is_told(script, store, transcript):
-    """Whether a wrong reading has another transcript of a script, or breaks down at it."""
-    try:
-        return transcript_of(script, store) != transcript
-    except (KeyError, IndexError):
-        return True
-
-
-def main():
-    parser = argparse.ArgumentParser()
-    parser.add_argument("--scripts", type=int, default=SCRIPTS)
-    parser.add_argument("--size", type=int, default=SIZE)
-    words = parser.parse_args()
-    scripts = [drawn_script(seed, words.size) for seed in range(words.scripts)]
-    right = [transcript_of(script, Store) for script in scripts]
-    missed = 0
-    for why, store in READINGS.items():
-        told = tried = 0
-        while told < OFTEN and tried < len(scripts):
-            told += is_told(scripts[tried], store, right[tried])
-            tried += 1
-        missed += told < OFTEN
-        print(f"{told:>5} of {tried:>3} scripts tell that {why}{'' if told >= OFTEN else ': TOO FEW'}", flush=True)
-    print(f"{len(READINGS)} wrong readings, {missed} of them told by too few scripts")
-    sys.exit(1 if missed else 0)
-
-
 if __name__ == "__main__":
-    main()
+    READINGS.run(drawn_script, SCRIPTS, SIZE)
