@@ -1,5 +1,5 @@
 -- Log, items and lists, while a history's next message is put into them.
-use Rattle.std.proofs.Common.{◌≡◌, ℕ, ◌+◌, ◌*◌, ◌^◌, ◌<◌, ◌≤◌, Bool, true, false, not, ◌&&◌, inl, inr, IsTrue, All, Option, Some, None, is_some, List, [], ◌∷◌, ◌++◌, length, if◌then◌else◌, refl, sym, ap, subst, ◌∙◌, length-append, append-nil, mul-le-mul, arith}
+use Rattle.std.proofs.Common.{◌≡◌, ℕ, ◌+◌, ◌*◌, ◌^◌, ◌<◌, ◌≤◌, Bool, true, false, not, ◌&&◌, inl, inr, IsTrue, All, Some, None, List, [], ◌∷◌, ◌++◌, length, if◌then◌else◌, refl, sym, ap, subst, ◌∙◌, length-append, append-nil, mul-le-mul, arith}
 use Rattle.std.specs.List.{filter}
 use denote.Struct.Props.{props}
 use Rattle.std.proofs.Math.Dec.{T_prop}
@@ -25,7 +25,7 @@ use Rattle.causal_model.specs.Elements.{same_element, element_of, puts_at}
 use Rattle.causal_model.specs.KeptElements.{kept_elements}
 use Rattle.causal_model.specs.Laws.Events.{present_event}
 use Rattle.causal_model.specs.ListSteps.{insertion_of, insertion_in, kept_put}
-use Rattle.causal_model.specs.Log.{log_of, stripped_of, is_kept, is_covered_by, kept_log, message_of}
+use Rattle.causal_model.specs.Log.{log_of, stripped_of, is_kept, is_covered_by, kept_log}
 use Rattle.causal_model.specs.Chapter.{is_chapter}
 use Rattle.causal_model.specs.Covering.{store_keeps, store_covers}
 use Rattle.causal_model.specs.History.{History, with_message, epoch_of}
@@ -46,6 +46,7 @@ use Rattle.stable_state.specs.Standing.{AreSettledOf, AreAbsorbed, AreMoved}
 use Rattle.stable_state.proofs.Moves.{covered_is_absorbed, all_are_moved, not_applied, moved_at_once, sum_fits}
 use Rattle.list_type.specs.Listed.{Listed, AreListsOf, AreListsMoved, AreWithin}
 use Rattle.list_type.specs.Putting.{IsFresh}
+use Rattle.replica_core.proofs.Insertions.{insertion_is_not_kept, insertion_is_of_list}
 use Rattle.replica_core.specs.Insertions.{is_insertion, element_room, entry_put, CanBePut}
 use Rattle.replica_core.specs.Settling.{AreReady, AreLogged, with_logged, applied_of, room_of, CanBeApplied}
 use Rattle.replica_core.proofs.Steps.{last_fits}
@@ -107,56 +108,41 @@ can_be_put epoch origin tag (op.Update u) lists fresh deep = by (is_insertion (o
   by true room = (room, fresh u, deep)
   by false room = tt
 
+-- so its entry can, where it is an insertion
+pub entry_is_put : (epoch origin : ℕ) (tag : List ℕ) (o : Op) (u : Update) (lists : Listed) → o ≡ op.Update u → is_insertion o ≡ true → CanBePut epoch (entry_put origin tag o) lists
+    → CanBePut epoch (Some (record { origin = origin; tag = tag; update = u })) lists
+entry_is_put epoch origin tag o u lists is puts =
+    subst (λ e. CanBePut epoch e lists) (ap (entry_put origin tag) is ∙ cond-true (is_insertion (op.Update u)) (Some (record { origin = origin; tag = tag; update = u })) None (ap is_insertion (sym is) ∙ puts))
+
 -- it is a proposition that it is new
 pub fresh_is_prop : (epoch : ℕ) (entry : Entry) (lists : Listed) → IsProp (IsFresh epoch entry lists)
 fresh_is_prop epoch entry lists = hlevel props
-
--- the room that its entry asks for is that of its operation
-abbrev pub room_of_entry : Option Entry → ℕ
-room_of_entry e = if is_some e then 1 else 0
-
-pub entry_is_room : (origin : ℕ) (tag : List ℕ) (o : Op) → room_of_entry (entry_put origin tag o) ≡ element_room o
-entry_is_room origin tag op.NoOp = refl
-entry_is_room origin tag (op.Update u) = by (is_insertion (op.Update u)) where
-  by : (puts : Bool) → room_of_entry (if puts then Some (record { origin = origin; tag = tag; update = u }) else None) ≡ (if puts then 1 else 0)
-  by true = refl
-  by false = refl
-
--- what an entry says of the message that puts its element in
-pub record IsPutBy (m : Message) (entry : Entry) : Type 0 where
-  pub is : m ≡ message_of entry
-  pub puts : puts_at (λ place. true) entry.update.act ≡ true
-
-pub put_by : (m : Message) (entry : Entry) → entry_put m.origin m.tag m.op ≡ Some entry → IsPutBy m entry
-put_by m entry = of m.op refl where
-  of : (o : Op) → m.op ≡ o → entry_put m.origin m.tag o ≡ Some entry → IsPutBy m entry
-  of op.NoOp is put = cc
-  of (op.Update u) is put = by (puts_at (λ place. true) u.act) refl put where
-    by : (puts : Bool) → puts_at (λ place. true) u.act ≡ puts → (if puts then Some (record { origin = m.origin; tag = m.tag; update = u }) else None) ≡ Some entry → IsPutBy m entry
-    by true puts some =
-        let same : record { origin = m.origin; tag = m.tag; update = u } ≡ entry = cc in
-        let of_update : m ≡ record { origin = m.origin; tag = m.tag; op = op.Update u } = ap (λ o. record { origin = m.origin; tag = m.tag; op = o }) is in
-        record {
-          is = of_update ∙ ap message_of same;
-          puts = subst (λ (e : Entry). puts_at (λ place. true) e.update.act ≡ true) same puts;
-        }
-    by false puts none = cc
 
 either_way : {X : Type 0} (b : Bool) (x : X) → (if b then x else x) ≡ x
 either_way true x = refl
 either_way false x = refl
 
--- where no entry puts one in, no list gets one
-puts_in_none : (object : ObjectId) (origin : ℕ) (tag : List ℕ) (o : Op) → ((e : Entry) → entry_put origin tag o ≡ Some e → ⊥) → insertion_in object o ≡ None
-puts_in_none object origin tag op.NoOp none = refl
-puts_in_none object origin tag (op.Update u) none = by u.act refl where
+-- no other operation puts an element in
+puts_in_none : (object : ObjectId) (o : Op) → is_insertion o ≡ false → insertion_in object o ≡ None
+puts_in_none object op.NoOp other = refl
+puts_in_none object (op.Update u) other = by u.act refl where
   by : (act : Act) → u.act ≡ act → (if same_object u.object object then insertion_of act else None) ≡ None
-  by (Ins v place) is = absurd (none (record { origin = origin; tag = tag; update = u }) (cond-true (puts_at (λ place. true) u.act) (Some (record { origin = origin; tag = tag; update = u })) None (ap (puts_at (λ place. true)) is)))
+  by (Ins v place) is = let no : true ≡ false = ap (puts_at (λ place. true)) (sym is) ∙ other in absurd (cc)
   by act is = either_way (same_object u.object object) None
 
-pub none_is_put : (h : History) (m : Message) (lists : Listed) → ((e : Entry) → entry_put m.origin m.tag m.op ≡ Some e → ⊥) → AreListsOf h lists → AreListsMoved h m 0 lists
-none_is_put h m lists none of object is_list =
-    of object is_list ∙ ap (kept_put object (epoch_of h) (log_of h) m (kept_elements h object)) (sym (puts_in_none object m.origin m.tag m.op none))
+-- where a message is no insertion, no list gets one
+pub none_is_put : (h : History) (m : Message) (lists : Listed) → is_insertion m.op ≡ false → AreListsOf h lists → AreListsMoved h m 0 lists
+none_is_put h m lists other of object is_list =
+    of object is_list ∙ ap (kept_put object (epoch_of h) (log_of h) m (kept_elements h object)) (sym (puts_in_none object m.op other))
+
+-- an insertion goes to no log, and isn't applied
+pub insertion_is_not_logged : (origin : ℕ) (tag : List ℕ) (o : Op) (log : Log) → is_insertion o ≡ true → with_logged origin tag o log ≡ log
+insertion_is_not_logged origin tag op.NoOp log is = refl
+insertion_is_not_logged origin tag (op.Update u) log is = cond-false (store_keeps u) _ log (insertion_is_not_kept u is)
+
+pub insertion_is_not_applied : (o : Op) → is_insertion o ≡ true → applied_of o ≡ None
+insertion_is_not_applied op.NoOp is = refl
+insertion_is_not_applied (op.Update u) is = ap (λ kind. if is_counter kind then Some u else None) (insertion_is_of_list u is)
 
 -- ---- how many entries there are
 

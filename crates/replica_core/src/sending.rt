@@ -1,6 +1,6 @@
 //! Sending operations and no-ops: a message is drafted, and then it is committed.
 
-ghost use Rattle.std.specs.Prelude.{◌≡◌, ◌<◌, ◌==◌, All, IsTrue, IfOk, OnErr, true, false};
+ghost use Rattle.std.specs.Prelude.{◌≡◌, ◌<◌, ◌==◌, All, IsTrue, IfOk, OnOk, OnErr, true, false};
 ghost use Rattle.std.specs.Result.{IfErr};
 ghost use Rattle.op_base.specs.Message.{fits};
 ghost use Rattle.causal_model.specs.Counts.{count_of, next_tag, is_carried};
@@ -32,8 +32,11 @@ impl Replica {
             Ok(message) => message,
             Err(answer) => return answer,
         };
+        let Ok(sent) = message.copy(alloc) else {
+            return Local::NoMemory;
+        };
         match self.commit(alloc, message) {
-            Ok(message) => Local::Sent(message),
+            Ok(()) => Local::Sent(sent),
             Err(NoMemory) => Local::NoMemory,
         }
     }
@@ -52,8 +55,11 @@ impl Replica {
             Ok(message) => message,
             Err(answer) => return answer,
         };
+        let Ok(sent) = message.copy(alloc) else {
+            return Beat::NoMemory;
+        };
         match self.commit(alloc, message) {
-            Ok(message) => Beat::Sent(message),
+            Ok(()) => Beat::Sent(sent),
             Err(NoMemory) => Beat::NoMemory,
         }
     }
@@ -99,12 +105,11 @@ impl Replica {
         Ok(self.next_message(Op::NoOp))
     }
 
-    /// Makes a message that was drafted the next of the history, and hands it out. All memory is taken first: `NoMemory` leaves
-    /// the replica as it was.
-    pub fn commit(&mut self, alloc: Global, message: Message) -> Result<Message, NoMemory>
+    /// Makes a message that was drafted the next of the history. All memory is taken first: `NoMemory` leaves the replica as it
+    /// was.
+    pub fn commit(&mut self, alloc: Global, message: Message) -> Result<(), NoMemory>
         requires draft { (s : State) → StandsFor self.old s → IsDraft self.old message s }
-        ensures sent { IfOk result (λ m. m ≡ message) }
-        ensures stands { IfOk result (λ m. (s : State) → StandsFor self.old s → StandsFor self.new (with_own s message)) }
+        ensures stands { OnOk result ((s : State) → StandsFor self.old s → StandsFor self.new (with_own s message)) }
         ensures settings { SameSettings self.old self.new }
         ensures refused { OnErr result (Unchanged self.old self.new) }
         ensures fits { IsTrue (fits self.old.n message) }
@@ -112,11 +117,10 @@ impl Replica {
         ensures bounded { IsBounded self.new }
     {
         let sent = message.copy(alloc)?;
-        let answer = message.copy(alloc)?;
         self.items.reserve(self.log.len() + self.buffer.len() + 1)?;
         self.reserve_element(&message)?;
         self.step(message, Sender::Own(sent));
-        Ok(answer)
+        Ok(())
     }
 
     /// Whether as many own operations are unstable as the window has.

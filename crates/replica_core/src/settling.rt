@@ -1,6 +1,6 @@
 //! Log, items and lists, when a message has come.
 
-ghost use Rattle.std.specs.Prelude.{◌≡◌, ◌+◌, ◌≤◌, ◌<◌, ◌^◌, ℕ, suc, [], length, slice_get, is_some, Some, IsTrue, if◌then◌else◌};
+ghost use Rattle.std.specs.Prelude.{◌≡◌, ◌+◌, ◌≤◌, ◌<◌, ◌^◌, ℕ, suc, [], length, slice_get, Some, IsTrue, true};
 ghost use Rattle.op_base.specs.Message.{fits};
 ghost use Rattle.op_base.specs.declared.message.Message.{Message as AMessage};
 ghost use Rattle.op_base.specs.declared.name.Kind.TheVariants as kinds;
@@ -52,8 +52,7 @@ pub fn settle(
     log.prune(&message, &StoreRule);
     cover(items, &message.op);
     let id = message.id();
-    let (applied, inserted) = log_or_hand_back(log, message);
-    insert(lists, epoch, inserted, log);
+    let applied = put(log, lists, epoch, message);
     move_stable(log, items, lists, epoch, id, before, stable);
     apply(items, applied);
     items.settle_marks(log.grouped());
@@ -79,21 +78,41 @@ pub(crate) fn is_insertion(op: &Op) -> bool
     }
 }
 
-/// Puts a message into the log where its kind keeps it. What no log keeps comes back: the update that is applied at once, of a
-/// counter which can't be cleared, and the entry by which an element is put into a list.
-fn log_or_hand_back(log: &mut Polog, message: Message) -> (Option<Update>, Option<Entry>)
+/// Puts a message where its kind keeps it until it is stable: into the log, or its element into a list. The update of a counter
+/// that can't be cleared is kept in neither, and comes back to be applied at once.
+fn put(log: &mut Polog, lists: &mut Lists, epoch: u32, message: Message) -> Option<Update>
+    requires fits { IsTrue (fits log.old.n message) }
+    requires room { IsTrue (is_kept store_keeps message.op) → length log.old.entries < log.old.room }
+    requires numbers { log.old.pushed + 1 < 2 ^ 64 }
+    requires can { CanBePut epoch (entry_put message.origin message.tag message.op) (lists_shown lists.old) }
+    ensures log { log.new ≡ with_logged message.origin message.tag message.op log.old }
+    ensures room { log.new.room ≡ log.old.room }
+    ensures applied { result ≡ applied_of message.op }
+    ensures of { (w : ℕ) (h : History) → IsTrue (is_history w (with_message h message)) → epoch ≡ epoch_of h
+        → IsLogged store_keeps store_covers h.present.n h.present.me h.present.messages message log.new
+        → AreListsOf h (lists_shown lists.old) → AreListsMoved h message 0 (lists_shown lists.new) }
+    ensures spare { (lists_shown lists.old).spare ≤ (lists_shown lists.new).spare + element_room message.op }
+    ensures deep { (most : ℕ) → AreWithin most (lists_shown lists.old) → AreWithin (most + 1) (lists_shown lists.new) }
+{
+    if is_insertion(&message.op) {
+        insert(lists, epoch, message, log);
+        return None;
+    }
+    log_or_hand_back(log, message)
+}
+
+/// Puts a message into the log where its kind keeps it, or hands back the update of a counter that can't be cleared.
+fn log_or_hand_back(log: &mut Polog, message: Message) -> Option<Update>
     requires fits { IsTrue (fits log.old.n message) }
     requires room { IsTrue (is_kept store_keeps message.op) → length log.old.entries < log.old.room }
     requires numbers { log.old.pushed + 1 < 2 ^ 64 }
     ensures log { log.new ≡ with_logged message.origin message.tag message.op log.old }
     ensures room { log.new.room ≡ log.old.room }
-    ensures applied { result.0 ≡ applied_of message.op }
-    ensures inserted { result.1 ≡ entry_put message.origin message.tag message.op }
+    ensures applied { result ≡ applied_of message.op }
 {
-    let inserts = is_insertion(&message.op);
     let Message { origin, tag, op } = message;
     let Op::Update(update) = op else {
-        return (None, None);
+        return None;
     };
     if StoreRule.keeps(&update) {
         log.push(Entry {
@@ -101,33 +120,35 @@ fn log_or_hand_back(log: &mut Polog, message: Message) -> (Option<Update>, Optio
             tag,
             update,
         });
-        return (None, None);
+        return None;
     }
-    if inserts {
+    if update.object().kind == Kind::Counter {
+        Some(update)
+    } else {
+        None
+    }
+}
+
+/// Puts the element of an insertion into its list. The log has what it had before the message.
+///
+/// A function of its own, so that other messages don't pay for its entry's place.
+#[inline(never)]
+fn insert(lists: &mut Lists, epoch: u32, message: Message, log: &Polog)
+    requires insertion { is_insertion message.op ≡ true }
+    requires can { CanBePut epoch (entry_put message.origin message.tag message.op) (lists_shown lists.old) }
+    ensures of { (w : ℕ) (h : History) → IsTrue (is_history w (with_message h message)) → epoch ≡ epoch_of h
+        → IsLogged store_keeps store_covers h.present.n h.present.me h.present.messages message log.now
+        → AreListsOf h (lists_shown lists.old) → AreListsMoved h message 0 (lists_shown lists.new) }
+    ensures spare { (lists_shown lists.old).spare ≤ (lists_shown lists.new).spare + 1 }
+    ensures deep { (most : ℕ) → AreWithin most (lists_shown lists.old) → AreWithin (most + 1) (lists_shown lists.new) }
+{
+    let Message { origin, tag, op } = message;
+    if let Op::Update(update) = op {
         let entry = Entry {
             origin,
             tag,
             update,
         };
-        return (None, Some(entry));
-    }
-    if update.object().kind == Kind::Counter {
-        (Some(update), None)
-    } else {
-        (None, None)
-    }
-}
-
-/// Puts an element into its list, where there is one to be put in. The log has what it had before the message.
-fn insert(lists: &mut Lists, epoch: u32, inserted: Option<Entry>, log: &Polog)
-    requires can { CanBePut epoch inserted (lists_shown lists.old) }
-    ensures of { (w : ℕ) (h : History) (m : AMessage) → IsTrue (is_history w (with_message h m)) → epoch ≡ epoch_of h → inserted ≡ entry_put m.origin m.tag m.op
-        → IsLogged store_keeps store_covers h.present.n h.present.me h.present.messages m log.now
-        → AreListsOf h (lists_shown lists.old) → AreListsMoved h m 0 (lists_shown lists.new) }
-    ensures spare { (lists_shown lists.old).spare ≤ (lists_shown lists.new).spare + (if is_some inserted then 1 else 0) }
-    ensures deep { (most : ℕ) → AreWithin most (lists_shown lists.old) → AreWithin (most + 1) (lists_shown lists.new) }
-{
-    if let Some(entry) = inserted {
         let entries = log.of_object(entry.update.object());
         lists.insert(epoch, entry, entries);
     }

@@ -92,8 +92,11 @@ impl<R: Recorder> Node<R> {
             Ok(message) => message,
             Err(answer) => return answer,
         };
+        let Ok(sent) = message.copy(alloc) else {
+            return Local::NoMemory;
+        };
         match self.commit(alloc, message) {
-            Ok(message) => Local::Sent(message),
+            Ok(()) => Local::Sent(sent),
             Err(NoMemory) => Local::NoMemory,
         }
     }
@@ -115,18 +118,20 @@ impl<R: Recorder> Node<R> {
             Ok(message) => message,
             Err(answer) => return answer,
         };
+        let Ok(sent) = message.copy(alloc) else {
+            return Beat::NoMemory;
+        };
         match self.commit(alloc, message) {
-            Ok(message) => Beat::Sent(message),
+            Ok(()) => Beat::Sent(sent),
             Err(NoMemory) => Beat::NoMemory,
         }
     }
 
     /// Sends a message that the replica drafted, and notes it: as the replica's call. `NoMemory` leaves the node as it was, and
     /// its journal with no less room. It asks the journal for room once at most.
-    pub fn commit(&mut self, alloc: Global, message: Message) -> Result<Message, NoMemory>
+    pub fn commit(&mut self, alloc: Global, message: Message) -> Result<(), NoMemory>
         requires draft { (s : State) → StandsFor self.old.inner s → IsDraft self.old.inner message s }
-        ensures sent { IfOk result (λ m. m ≡ message) }
-        ensures noted { IfOk result (λ m. R.notes self.new.journal ≡ R.notes self.old.journal ++ notes.Sent message ∷ []) }
+        ensures noted { OnOk result (R.notes self.new.journal ≡ R.notes self.old.journal ++ notes.Sent message ∷ []) }
         ensures kept { OnErr result (R.notes self.new.journal ≡ R.notes self.old.journal) }
         ensures settings { SameSettings self.old.inner self.new.inner }
         ensures first { self.new.first ≡ self.old.first }
@@ -138,9 +143,9 @@ impl<R: Recorder> Node<R> {
     {
         let note = message.copy(alloc)?;
         self.journal.reserve(alloc, 1)?;
-        let message = self.inner.commit(alloc, message)?;
+        self.inner.commit(alloc, message)?;
         put(&mut self.journal, &mut self.length, Note::Sent(note));
-        Ok(message)
+        Ok(())
     }
 
     /// Receives a message of the store, none of whose entries is above the limit and whose operation is valid: as the

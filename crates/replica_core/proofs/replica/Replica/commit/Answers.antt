@@ -61,15 +61,6 @@ returns-in_err-sent-clause-carried c = draft_is_carried c.args.self.now c.args.m
 pub returns-in_err-sent-clause-bounded : goal.returns-in_err-sent-clause-bounded
 returns-in_err-sent-clause-bounded c = is_bounded _
 
-pub returns-in_err-answer-clause-fits : goal.returns-in_err-answer-clause-fits
-returns-in_err-answer-clause-fits c = draft_fits c.args.self.now c.args.message c.requires.draft
-
-pub returns-in_err-answer-clause-carried : goal.returns-in_err-answer-clause-carried
-returns-in_err-answer-clause-carried c = draft_is_carried c.args.self.now c.args.message c.requires.draft
-
-pub returns-in_err-answer-clause-bounded : goal.returns-in_err-answer-clause-bounded
-returns-in_err-answer-clause-bounded c = is_bounded _
-
 pub returns-in_err-reserve-clause-fits : goal.returns-in_err-reserve-clause-fits
 returns-in_err-reserve-clause-fits c = draft_fits c.args.self.now c.args.message c.requires.draft
 

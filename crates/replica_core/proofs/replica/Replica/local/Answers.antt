@@ -8,6 +8,9 @@ use Rattle.replica_core.proofs.replica.Replica.local.Goals as goal
 pub returns-in-Err-clause-bounded : goal.returns-in-Err-clause-bounded
 returns-in-Err-clause-bounded c = is_bounded _
 
+pub returns-in_default-clause-bounded : goal.returns-in_default-clause-bounded
+returns-in_default-clause-bounded c = is_bounded _
+
 pub returns-in-Err-commit-clause-answer : goal.returns-in-Err-commit-clause-answer
 returns-in-Err-commit-clause-answer c = λ s stands. elim (c.in-Ok.ensures.answer s stands) [
   | inl told ↦ inr (refl, subst (λ a. IsTrue (is_sent a)) told.0 refl, unchanged_stands c.args.self.now c.commit.new.self s c.in-Err-commit.ensures.refused stands)

@@ -29,7 +29,7 @@ pub invariant_of-self-in-Break-branch-3 : goal.invariant_of-self-in-Break-branch
 invariant_of-self-in-Break-branch-3 g c =
     let node = c.args.self.now in
     let kept = c.reserve.ensures.kept in
-    let goes = nothing_goes_on node.inner c.commit.new.self node.first (g.R.Recorder.notes node.journal) (g.R.Recorder.notes c.reserve.new.self) c.in_err-message.ensures.refused kept node.legal node.stands in
+    let goes = nothing_goes_on node.inner c.commit.new.self node.first (g.R.Recorder.notes node.journal) (g.R.Recorder.notes c.reserve.new.self) c.in_err-commit.ensures.refused kept node.legal node.stands in
     record { counted = subst (IsCount node.length) (sym kept) node.counted; legal = goes.legal; stands = goes.stands }
 
 pub invariant_of-self-2 : goal.invariant_of-self-2
@@ -40,5 +40,5 @@ invariant_of-self-2 g c =
     let m = c.args.message in
     let noted = c.put.ensures.noted ∙ ap (λ (notes : _). notes ++ Sent c.in_ok-note.note ∷ []) c.reserve.ensures.kept ∙ ap (λ (x : _). before ++ Sent x ∷ []) c.in_ok-note.ensures in
     let goes = goes_on node.inner.w node.inner.limit c.commit.new.self node.first before (g.R.Recorder.notes c.put.new.journal) (Sent m ∷ []) c.commit.ensures.settings.w c.commit.ensures.settings.limit node.legal noted
-    (draft_is_group node.inner s m node.stands (c.requires.draft s node.stands)) (c.in_ok-message.ensures.stands s node.stands) in
+    (draft_is_group node.inner s m node.stands (c.requires.draft s node.stands)) (c.in_ok-commit.ensures.stands s node.stands) in
     record { counted = c.put.ensures.counted; legal = goes.legal; stands = goes.stands }
