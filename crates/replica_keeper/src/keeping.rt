@@ -71,10 +71,11 @@ pub(crate) fn send<K: Keeper>(
         (IsFrontOf (settings_by node.old) (groups_of node.old.journal.notes ++ (notes.Sent message ∷ []) ∷ []) (K.synced keeper.old)) }
 {
     let bytes = record(alloc, SENT, &message, node.inner.n)?;
+    let sent = message.copy(alloc)?;
     keeper.reserve(bytes.len())?;
-    let message = node.commit(alloc, message)?;
+    node.commit(alloc, message)?;
     append_synced(keeper, bytes.as_slice())?;
-    Ok(message)
+    Ok(sent)
 }
 
 /// Takes in a message that the replica's `refusal` doesn't refuse, with each step that follows, notes them, and keeps their

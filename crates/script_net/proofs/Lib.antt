@@ -1,4 +1,5 @@
 pub mod Shown
+pub mod Briefs
 pub mod KeepShown
 pub mod AnyWorlds
 pub mod Told

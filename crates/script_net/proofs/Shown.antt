@@ -13,7 +13,7 @@ use Rattle.op_base.specs.declared.operation.Op.TheVariants as op
 use Rattle.causal_model.proofs.Counts.{length-counts, length-next_tag}
 use Rattle.causal_model.specs.State.{start}
 use Rattle.causal_model.specs.Follows.{Follows}
-use Rattle.causal_model.specs.Sending.{own_message, is_sent, is_beat, local_messages, beat_messages}
+use Rattle.causal_model.specs.Sending.{own_message, is_beat, local_messages, beat_messages}
 use Rattle.causal_model.specs.Stability.{stable_count}
 use Rattle.causal_model.specs.declared.outcome.Local.{Local}
 use Rattle.causal_model.specs.declared.outcome.Local.TheVariants as local
@@ -96,15 +96,7 @@ module _ (world : World) (r : ℕ) (l : r < length world.nodes.items) where
   inside : (plain : PlainWorld) → ShowsPlain world plain → r < size_of plain
   inside plain shows = subst (λ n. r < n) (as_many_nodes world plain shows) l
 
-  -- a message that a world sends has a number of its origin
-  pub local_has_number : (update : Update) (answer : Local) (new : World) → Follows ShowsPlain local.NoMemory is_sent (local_at r update) world answer new → HaveNumbers (local_messages answer)
-  local_has_number update answer new follows =
-      local_numbers answer (λ m sent. ∥∥₁_elim world.shows (search props) (λ shown.
-      elim (follows shown.0 shown.1) [
-        | inl a ↦ local_numbered shown.0 r shown.1.is_world (inside shown.0 shown.1) update m (sym sent ∙ a.0)
-        | inr a ↦ cc (a.0, sent)
-      ]))
-
+  -- a no-op that a world sends has a number of its origin
   pub beat_has_number : (answer : Beat) (new : World) → Follows ShowsPlain beat.NoMemory is_beat (beat_at r) world answer new → HaveNumbers (beat_messages answer)
   beat_has_number answer new follows =
       beat_numbers answer (λ m sent. ∥∥₁_elim world.shows (search props) (λ shown.

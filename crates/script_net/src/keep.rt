@@ -15,6 +15,7 @@ use op_base::{NoMemory, ObjectId, Update};
 use replica_keeper::KeepWorld;
 use script_lang::{Command, Reply};
 use std::alloc::Global;
+use world::brief_of;
 
 /// Runs a command. On `NoMemory` nothing is replied, and the world has ended.
 ///
@@ -58,7 +59,7 @@ fn send(alloc: Global, world: &mut KeepWorld, r: u8, update: &Update) -> Result<
     ensures told { (keep : PlainKeep) → Shown world.old keep → KeepTold keep (Command.Do r update.now) result world.new }
     ensures entries { IfOk result HasItsEntries }
 {
-    local_reply(&world.local(alloc, r, update))
+    local_reply(brief_of(&world.local(alloc, r, update)))
 }
 
 /// Replica `r` answers what an object is.

@@ -6,15 +6,16 @@ ghost use Rattle.script_lang.specs.Replies.{HasItsEntries};
 ghost use Rattle.script_lang.specs.Ranges.{IsWithin};
 ghost use Rattle.world_model.specs.World.{PlainWorld, size_of};
 ghost use Rattle.world.specs.Answers.{ShowsPlain};
+ghost use Rattle.world.specs.Brief.{brief};
 ghost use Rattle.script_net.specs.Commands.{command_at, local_reply, beat_reply, receive_reply, given_reply, resent_reply, raw_reply, settle_reply, regroup_reply};
 ghost use Rattle.script_net.specs.Replied.{Told, IsReply, HaveNumbers};
-ghost use Rattle.causal_model.specs.Sending.{local_messages, beat_messages};
+ghost use Rattle.causal_model.specs.Sending.{beat_messages};
 
 use op_base::{ByteList, NoMemory, ObjectId, Update};
 use replica_core::{Beat, Local, Receive};
 use script_lang::{Command, Reply};
 use std::alloc::Global;
-use world::{Given, RawGot, Regroup, Resent, Settle, World};
+use world::{Brief, Given, RawGot, Regroup, Resent, Settle, World};
 
 /// The reply to a command that scripts of a header don't have. No line is read as one.
 pub const NO_COMMAND: Reply = Reply::Bad(2);
@@ -55,7 +56,7 @@ fn send(alloc: Global, world: &mut World, r: u8, update: &Update) -> Result<Repl
     ensures told { (plain : PlainWorld) → ShowsPlain world.old plain → Told plain (Command.Do r update.now) result world.new }
     ensures entries { IfOk result HasItsEntries }
 {
-    local_reply(&world.local(alloc, r, update))
+    local_reply(world.send(alloc, r, update))
 }
 
 /// Replica `r` answers what an object is.
@@ -193,17 +194,16 @@ pub fn members(world: &World) -> u8
     world.nodes.len() as u8
 }
 
-/// The reply to what was sent.
-pub fn local_reply(answer: &Local) -> Result<Reply, NoMemory>
-    requires { HaveNumbers (local_messages answer.now) }
-    ensures told { IsReply (local_reply answer.now) result }
+/// The reply to what came of sending, which is told by the message's id.
+pub fn local_reply(answer: Brief) -> Result<Reply, NoMemory>
+    ensures told { (made : Local) → answer ≡ brief made → IsReply (local_reply made) result }
     ensures entries { IfOk result HasItsEntries }
 {
     match answer {
-        Local::Sent(message) => Ok(Reply::Sent(message.id().seq)),
-        Local::Busy => Ok(Reply::Busy),
-        Local::End => Ok(Reply::End),
-        Local::NoMemory => Err(NoMemory),
+        Brief::Sent(id) => Ok(Reply::Sent(id.seq)),
+        Brief::Busy => Ok(Reply::Busy),
+        Brief::End => Ok(Reply::End),
+        Brief::NoMemory => Err(NoMemory),
     }
 }
 

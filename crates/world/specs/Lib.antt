@@ -3,6 +3,7 @@ pub mod Growing
 pub mod Apart
 pub mod Midst
 pub mod Asking
+pub mod Brief
 pub mod Answers
 pub mod Steps
 pub mod Entrants

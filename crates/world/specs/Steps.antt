@@ -1,19 +1,25 @@
 -- What the nodes of a world are left with by the parts of its calls.
-use Rattle.std.specs.Prelude.{◌≡◌, ℕ, ◌<◌, List, [], map, take, slice_get, slice_set, IsTrue, Some, Result, Ok, Err, All}
+use Rattle.std.specs.Prelude.{◌≡◌, ◌≢◌, ℕ, ◌<◌, false, List, [], ◌++◌, map, take, slice_get, slice_set, IsTrue, Some, Result, Ok, Err, All}
 use Rattle.op_base.specs.Message.{id_of, fits}
 use Rattle.op_base.specs.declared.memory.NoMemory.{NoMemory}
 use Rattle.op_base.specs.declared.message.Message.{Message}
+use Rattle.op_base.specs.declared.operation.Update.{Update}
 use Rattle.op_base.specs.declared.tag.MessageId.{MessageId}
 use Rattle.causal_model.specs.Counts.{members, is_carried}
+use Rattle.causal_model.specs.Follows.{Follows}
 use Rattle.causal_model.specs.State.{State}
-use Rattle.causal_model.specs.Journal.{receive_notes}
+use Rattle.causal_model.specs.Journal.{local_notes, receive_notes}
 use Rattle.causal_model.specs.Receiving.{receive_rule}
+use Rattle.causal_model.specs.Sending.{is_sent, local_messages, local_rule}
 use Rattle.causal_model.specs.declared.note.Note.{Note}
+use Rattle.causal_model.specs.declared.outcome.Local.{Local}
+use Rattle.causal_model.specs.declared.outcome.Local.TheVariants as local
 use Rattle.causal_model.specs.declared.outcome.Receive.{Receive}
 use Rattle.causal_model.specs.declared.outcome.Receive.TheVariants as receive
-use Rattle.frame_codec.specs.Grammar.{IsFrame}
+use Rattle.frame_codec.specs.Grammar.{IsFrame, frame_of}
 use Rattle.frame_codec.specs.Message.{frame_read}
 use Rattle.frame_codec.specs.declared.fault.FrameFault.{FrameFault}
+use Rattle.frame_codec.specs.declared.version.Version.TheVariants.{Two}
 use Rattle.replica_node.specs.Rules.{noting}
 use Rattle.world_model.specs.Offering.{Offered, offered}
 use Rattle.world_model.specs.declared.outcome.RawGot.{RawGot}
@@ -39,6 +45,12 @@ pub record SameNode (before new : NotedNode) : Type 0 where
   pub w : new.inner.w ≡ before.inner.w
   pub limit : new.inner.limit ≡ before.inner.limit
   pub epoch : new.inner.epoch ≡ before.inner.epoch
+
+-- what sending an update at a node leaves of its notes and of the frames that it sent, where this is the answer
+pub record SendsUpdate (update : Update) (before : NotedNode) (frames : List (List ℕ)) (answer : Local) (new : NotedNode) (left : List (List ℕ)) : Type 0 where
+  pub answers : Follows (λ (there ns : List Note). there ≡ ns) local.NoMemory is_sent (noting before.first local_notes (local_rule before.inner.w before.inner.limit update)) before.journal.notes answer new.journal.notes
+  pub framed : left ≡ frames ++ map (frame_of Two before.inner.n before.inner.epoch) (local_messages answer)
+  pub untouched : is_sent answer ≡ false → answer ≢ local.NoMemory → new.journal ≡ before.journal
 
 -- a message of a store that is sent as a frame in an epoch, and its id
 pub record IsFrameOf (n epoch limit : ℕ) (given : MessageId) (frame : List ℕ) (m : Message) : Type 0 where

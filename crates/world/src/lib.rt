@@ -4,6 +4,7 @@
 //! What calls there are, and settling by rounds, is this project's own profile.
 #![tactic(auto)]
 
+mod brief;
 mod closed;
 mod giving;
 mod lagging;
@@ -15,5 +16,6 @@ mod settling;
 mod tests;
 mod world;
 
+pub use brief::{Brief, brief_of};
 pub use world::{FrameTable, NodeList, World, empty_rows};
 pub use world_model::{Given, RawGot, Regroup, Resent, Settle};

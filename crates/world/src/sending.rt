@@ -1,10 +1,10 @@
 //! Sending at a replica of the world.
 
-ghost use Rattle.std.specs.Prelude.{◌≡◌, ◌≢◌, ◌<◌, ◌++◌, ◌∷◌, [], List, map, length, IsTrue, IfOk, OnErr, false};
+ghost use Rattle.std.specs.Prelude.{◌≡◌, ◌≢◌, ◌<◌, ◌++◌, ◌∷◌, [], List, map, length, IsTrue, OnOk, OnErr, false};
 ghost use Rattle.op_base.specs.Message.{fits};
 ghost use Rattle.causal_model.specs.Follows.{Follows};
-ghost use Rattle.causal_model.specs.Journal.{local_notes, beat_notes};
-ghost use Rattle.causal_model.specs.Sending.{is_sent, is_beat, local_messages, beat_messages, local_rule, beat_rule};
+ghost use Rattle.causal_model.specs.Journal.{beat_notes};
+ghost use Rattle.causal_model.specs.Sending.{is_sent, is_beat, beat_messages, beat_rule};
 ghost use Rattle.causal_model.specs.State.{State};
 ghost use Rattle.causal_model.specs.declared.note.Note.{Note};
 ghost use Rattle.causal_model.specs.declared.note.Note.TheVariants as notes;
@@ -12,9 +12,11 @@ ghost use Rattle.frame_codec.specs.Grammar.{frame_of};
 ghost use Rattle.replica_core.specs.Rules.{StandsFor, IsDraft};
 ghost use Rattle.replica_node.specs.Rules.{noting, AsksOnceAtMost};
 ghost use Rattle.world_model.specs.World.{local_at, beat_at};
-ghost use Rattle.world.specs.Steps.{SameNode};
+ghost use Rattle.world.specs.Brief.{brief, is_sent_briefly};
+ghost use Rattle.world.specs.Steps.{SameNode, SendsUpdate};
 ghost use Rattle.world.specs.Asking.{recorders_of, asked_of};
 
+use crate::brief::{Brief, brief_of};
 use crate::world::World;
 use causal_model::{Beat, Local};
 use frame_codec::{Version, encode};
@@ -43,6 +45,21 @@ impl World {
         send(alloc, node, frames, update)
     }
 
+    /// Sends an update at replica `r` as `local` does, and tells the message by its id: so it isn't copied once more.
+    pub fn send(&mut self, alloc: Global, r: u8, update: &Update) -> Brief
+        requires { r < length self.old.nodes.items }
+        ensures answer { (answer : Local) × (result ≡ brief answer) × Follows ShowsPlain Local.NoMemory is_sent (local_at r update.now) self.old answer self.new }
+        ensures honest { ShowsHonest self.old → ShowsHonest self.new }
+        ensures members { length self.new.nodes.items ≡ length self.old.nodes.items }
+        ensures untouched { is_sent_briefly result ≡ false → result ≢ Brief.NoMemory → recorders_of self.new.nodes.items ≡ recorders_of self.old.nodes.items }
+        ensures once { AsksOnceAtMost (asked_of self.old.nodes.items) (asked_of self.new.nodes.items) }
+    {
+        let node = &mut self.nodes[r as usize];
+        let frames = &mut self.sent[r as usize];
+        updates_are_valid(update);
+        send_briefly(alloc, node, frames, update)
+    }
+
     /// Sends a no-op at replica `r`, where one is due, and keeps its frame. Every refusal leaves the world as it was, and
     /// memory is wanted only where it would send. Room is asked of the journals as in `local`.
     pub fn beat(&mut self, alloc: Global, r: u8) -> Beat
@@ -68,19 +85,42 @@ fn send(
     frames: &mut Vec<ByteList>,
     update: &Update,
 ) -> Local
-    ensures answer { Follows (λ (there ns : List Note). there ≡ ns) Local.NoMemory is_sent (noting node.old.first local_notes (local_rule node.old.inner.w node.old.inner.limit update.now)) node.old.journal.notes result node.new.journal.notes }
+    ensures sends { SendsUpdate update.now node.old frames.old.items result node.new frames.new.items }
     ensures same { SameNode node.old node.new }
-    ensures frames { frames.new.items ≡ frames.old.items ++ map (frame_of Version.Two node.old.inner.n node.old.inner.epoch) (local_messages result) }
-    ensures untouched { is_sent result ≡ false → result ≢ Local.NoMemory → node.new.journal ≡ node.old.journal }
     ensures once { AsksOnceAtMost node.old.journal.asked node.new.journal.asked }
 {
     let message = match node.inner.draft(alloc, update) {
         Ok(message) => message,
         Err(answer) => return answer,
     };
+    let Ok(sent) = message.copy(alloc) else {
+        return Local::NoMemory;
+    };
     match commit(alloc, node, frames, message) {
-        Ok(message) => Local::Sent(message),
+        Ok(()) => Local::Sent(sent),
         Err(NoMemory) => Local::NoMemory,
+    }
+}
+
+/// Sends an update at a node as `send` does, and tells the message by its id.
+fn send_briefly(
+    alloc: Global,
+    node: &mut Node<Journal>,
+    frames: &mut Vec<ByteList>,
+    update: &Update,
+) -> Brief
+    ensures sends { (answer : Local) × (result ≡ brief answer) × SendsUpdate update.now node.old frames.old.items answer node.new frames.new.items }
+    ensures same { SameNode node.old node.new }
+    ensures once { AsksOnceAtMost node.old.journal.asked node.new.journal.asked }
+{
+    let drafted = match node.inner.draft(alloc, update) {
+        Ok(message) => message,
+        Err(answer) => return brief_of(&answer),
+    };
+    let id = drafted.id();
+    match commit(alloc, node, frames, drafted) {
+        Ok(()) => Brief::Sent(id),
+        Err(NoMemory) => Brief::NoMemory,
     }
 }
 
@@ -96,8 +136,11 @@ fn send_noop(alloc: Global, node: &mut Node<Journal>, frames: &mut Vec<ByteList>
         Ok(message) => message,
         Err(answer) => return answer,
     };
+    let Ok(sent) = message.copy(alloc) else {
+        return Beat::NoMemory;
+    };
     match commit(alloc, node, frames, message) {
-        Ok(message) => Beat::Sent(message),
+        Ok(()) => Beat::Sent(sent),
         Err(NoMemory) => Beat::NoMemory,
     }
 }
@@ -109,21 +152,20 @@ fn commit(
     node: &mut Node<Journal>,
     frames: &mut Vec<ByteList>,
     message: Message,
-) -> Result<Message, NoMemory>
+) -> Result<(), NoMemory>
     requires draft { (s : State) → StandsFor node.old.inner s → IsDraft node.old.inner message s }
     requires fits { IsTrue (fits node.old.inner.n message) }
-    ensures sent { IfOk result (λ m. m ≡ message) }
-    ensures noted { IfOk result (λ m. node.new.journal.notes ≡ node.old.journal.notes ++ notes.Sent message ∷ []) }
+    ensures noted { OnOk result (node.new.journal.notes ≡ node.old.journal.notes ++ notes.Sent message ∷ []) }
     ensures kept { OnErr result (node.new.journal.notes ≡ node.old.journal.notes) }
     ensures same { SameNode node.old node.new }
-    ensures frames { IfOk result (λ m. frames.new.items ≡ frames.old.items ++ frame_of Version.Two node.old.inner.n node.old.inner.epoch message ∷ []) }
+    ensures frames { OnOk result (frames.new.items ≡ frames.old.items ++ frame_of Version.Two node.old.inner.n node.old.inner.epoch message ∷ []) }
     ensures no_frame { OnErr result (frames.new.items ≡ frames.old.items) }
     ensures once { AsksOnceAtMost node.old.journal.asked node.new.journal.asked }
 {
     let frame = encode(alloc, &message, node.inner.n, node.inner.epoch)?;
     // It grows by a factor, so that many single reserves take constant time each.
     frames.reserve(1)?;
-    let message = node.commit(alloc, message)?;
+    node.commit(alloc, message)?;
     frames.push_reserved(ByteList::from_vec(frame));
-    Ok(message)
+    Ok(())
 }

@@ -3,7 +3,7 @@
 
 ghost use Rattle.std.specs.Prelude.{◌≡◌, length, IfOk};
 
-use crate::{Given, RawGot, Regroup, Resent, Settle, World};
+use crate::{Brief, Given, RawGot, Regroup, Resent, Settle, World};
 use op_base::{Act, Answer, ObjectId, Update};
 use replica_core::{Beat, Local, Receive};
 use std::alloc::Global;
@@ -32,6 +32,7 @@ fn what_was_sent_is_given_and_offered(rt: HostRuntime) -> Result<(), Fail> {
     assert!(rt; matches!(world.give(alloc, 1, 0, 1), Given::Got(Receive::Took(_))));
     assert!(rt; matches!(world.resend(alloc, 2, 0), Resent::Took(_)));
     assert!(rt; matches!(world.beat(alloc, 1), Beat::Sent(_)));
+    assert!(rt; matches!(world.send(alloc, 2, &update), Brief::Sent(_)));
     Ok(())
 }
 

@@ -7,8 +7,8 @@ use Rattle.script_net.specs.Commands.{local_reply}
 use Rattle.script_net.proofs.Told.{ends_told}
 use Rattle.script_net.proofs.keep.send.Goals as goal
 
-pub local_reply-requires : goal.local_reply-requires
-local_reply-requires c = keep_local_has_number c.args.world.now c.requires.goes_on c.args.r c.requires.of c.args.update.now c.local.result c.local.new.self c.local.ensures.answer
+pub brief_of-requires : goal.brief_of-requires
+brief_of-requires c = keep_local_has_number c.args.world.now c.requires.goes_on c.args.r c.requires.of c.args.update.now c.local.result c.local.new.self c.local.ensures.answer
 
 pub returns-clause-told : goal.returns-clause-told
-returns-clause-told c keep shown = ends_told local_reply local.NoMemory refl (keep_local_at c.args.r c.args.update.now) keep c.local.result c.local.new.self c.local_reply.result c.local_reply.ensures.told c.args.world.now shown is_sent c.local.ensures.answer
+returns-clause-told c keep shown = ends_told local_reply local.NoMemory refl (keep_local_at c.args.r c.args.update.now) keep c.local.result c.local.new.self c.local_reply.result (c.local_reply.ensures.told c.local.result c.brief_of.ensures) c.args.world.now shown is_sent c.local.ensures.answer

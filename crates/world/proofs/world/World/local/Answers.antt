@@ -24,13 +24,13 @@ pub invariant_of-self : goal.invariant_of-self
 invariant_of-self c = record {
   shows = ∥∥₁_map c.args.self.now.shows (λ x. some_is_left local.NoMemory is_sent (local_at c.args.r c.args.update.now x.0) x.0 c.send.result _
       (replies_local (λ row. row.items) c.args.self.now.nodes.items c.args.self.now.sent.items x.0 x.1 c.args.r c.index_mut-node.result.now c.send.new.node c.index_mut-frames.result.now c.send.new.frames
-      (record { low = c.requires; at = c.index_mut-node.ensures.value }) c.send.ensures.same c.index_mut-frames.ensures.value c.args.update.now c.send.result c.updates_are_valid.ensures c.send.ensures.frames c.send.ensures.answer));
+      (record { low = c.requires; at = c.index_mut-node.ensures.value }) c.send.ensures.same c.index_mut-frames.ensures.value c.args.update.now c.send.result c.updates_are_valid.ensures c.send.ensures.sends.framed c.send.ensures.sends.answers));
 }
 
 pub returns-clause-answer : goal.returns-clause-answer
 returns-clause-answer c plain shows =
     replies_local (λ row. row.items) c.args.self.now.nodes.items c.args.self.now.sent.items plain shows c.args.r c.index_mut-node.result.now c.send.new.node c.index_mut-frames.result.now c.send.new.frames
-    (record { low = c.requires; at = c.index_mut-node.ensures.value }) c.send.ensures.same c.index_mut-frames.ensures.value c.args.update.now c.send.result c.updates_are_valid.ensures c.send.ensures.frames c.send.ensures.answer
+    (record { low = c.requires; at = c.index_mut-node.ensures.value }) c.send.ensures.same c.index_mut-frames.ensures.value c.args.update.now c.send.result c.updates_are_valid.ensures c.send.ensures.sends.framed c.send.ensures.sends.answers
 
 pub returns-clause-honest : goal.returns-clause-honest
 returns-clause-honest c =
@@ -40,7 +40,7 @@ returns-clause-honest c =
 
 pub returns-clause-untouched : goal.returns-clause-untouched
 returns-clause-untouched c unsent other =
-    recorders_stay c.args.self.now.nodes.items c.args.r c.index_mut-node.result.now c.send.new.node (record { low = c.requires; at = c.index_mut-node.ensures.value }) (c.send.ensures.untouched unsent other)
+    recorders_stay c.args.self.now.nodes.items c.args.r c.index_mut-node.result.now c.send.new.node (record { low = c.requires; at = c.index_mut-node.ensures.value }) (c.send.ensures.sends.untouched unsent other)
 
 pub returns-clause-once : goal.returns-clause-once
 returns-clause-once c =
