@@ -38,3 +38,15 @@ LinesAreRead = IsRepliedTo
 -- a store has at most 16 members
 abbrev pub NoStoreOf17 : Type 0
 NoStoreOf17 = IsRepliedTo (codes "store 17 1" ∷ codes "beat 0" ∷ []) []
+
+-- an element that is taken out is kept while another stands behind it, and isn't shown
+abbrev pub ElementIsTakenOut : Type 0
+ElementIsTakenOut = IsRepliedTo
+    (codes "store 1 2" ∷ codes "do 0 list:d ins a head" ∷ codes "do 0 list:d ins b 0.0.1" ∷ codes "do 0 list:d del 0.0.1" ∷ codes "ids 0 list:d" ∷ codes "tombs 0 list:d" ∷ [])
+    (codes "ok 1" ∷ codes "ok 2" ∷ codes "ok 3" ∷ codes "ids 0.0.2" ∷ codes "tombs 1" ∷ [])
+
+-- of two elements at the head whose members hadn't heard of each other, that of the higher member stands first
+abbrev pub HigherMemberIsFirst : Type 0
+HigherMemberIsFirst = IsRepliedTo
+    (codes "store 2 2" ∷ codes "do 0 list:d ins a head" ∷ codes "do 1 list:d ins b head" ∷ codes "resend 0 1" ∷ codes "ask 0 list:d" ∷ [])
+    (codes "ok 1" ∷ codes "ok 1" ∷ codes "took 1:1" ∷ codes "= b a" ∷ [])
