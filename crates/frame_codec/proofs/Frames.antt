@@ -24,7 +24,7 @@ use Rattle.frame_codec.specs.declared.fault.FrameFault.TheVariants.{Short, Versi
 use Rattle.frame_codec.specs.declared.version.Version.{Version}
 use Rattle.frame_codec.specs.declared.version.Version.TheVariants.{One, Two}
 use Rattle.frame_codec.specs.Grammar.{version_byte, last_code, IsReadIn, epoch_field, number_field, text_field, argument_field, operation_fields, frame_of, IsOperation, IsSpelling, IsFrame}
-use Rattle.frame_codec.specs.InPlace.{IsInPlace}
+use Rattle.op_base.specs.InPlace.{IsInPlace}
 use Rattle.frame_codec.specs.Laws.{SomeSpelling, OneSpelling, OneMessage, NoFrameBegins, FramesHaveNoFault, WithoutFaultIsAFrame}
 use Rattle.frame_codec.specs.Fault.{byte_at, code_byte, version_at, head_len, is_read_in, is_bad_epoch, numbers, timestamp_of, behind_timestamp, text_of, behind_text, is_text_field, is_bad_number, frame_fault, Gives}
 use Rattle.frame_codec.specs.Reading.{row_of, act_at, is_argument, behind_act, operation_fault, behind_operation, SaysOperation, head_fault, IsWhy, Says}

@@ -81,8 +81,3 @@ key_field_named version text bytes r whole is valid refused none = read_is_named
 pub value_field_named : {T : Type 0} (version : Version) (text bytes : List ℕ) (r : Result T NameFault) → true ≡ is_text_field version (λ _. true) bytes → text ≡ text_of version bytes → is_carried version (length text) ≡ true → OnOk r (IsTrue (is_value text)) → Refuses (value_fault text) r → is_name r ≡ is_text_field version (is_sent version) bytes
 value_field_named version text bytes r whole is carried valid refused =
     value_named text r valid refused ∙ sym (ap (λ c. c && is_value text) carried) ∙ ap (is_sent version) is ∙ sym (field_passes version (is_sent version) bytes (sym whole))
-
--- and none where it has not
-pub value_field_none : (version : Version) (text bytes : List ℕ) → true ≡ is_text_field version (λ _. true) bytes → text ≡ text_of version bytes → is_carried version (length text) ≡ false → false ≡ is_text_field version (is_sent version) bytes
-value_field_none version text bytes whole is carried =
-    sym (ap (λ c. c && is_value text) carried) ∙ ap (is_sent version) is ∙ sym (field_passes version (is_sent version) bytes (sym whole))

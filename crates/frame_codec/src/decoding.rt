@@ -3,7 +3,7 @@
 ghost use Rattle.std.specs.Prelude.{◌≡◌, ◌≢◌, ◌≤◌, length, IfOk, IfErr, IsOk, MatchResult, Ok, Some, None};
 ghost use Rattle.op_base.specs.declared.message.Message.{Message};
 ghost use Rattle.frame_codec.specs.Grammar.{IsFrame};
-ghost use Rattle.frame_codec.specs.InPlace.{IsInPlace};
+ghost use Rattle.op_base.specs.InPlace.{IsInPlace};
 ghost use Rattle.frame_codec.specs.Fault.{byte_at, code_byte, version_at, head_len, is_bad_epoch, frame_fault, Gives, Refuses};
 ghost use Rattle.frame_codec.specs.Reading.{head_fault, IsWhy, Says};
 

@@ -10,7 +10,7 @@ ghost use Rattle.std.specs.Int.{w32, from_be_bytes};
 ghost use Rattle.op_base.specs.Name.{is_key};
 ghost use Rattle.op_base.specs.declared.name.TheConstants.{VALUE_BYTES_IN_PLACE};
 ghost use Rattle.op_base.specs.declared.operation.Op.{Op as AnOp};
-ghost use Rattle.frame_codec.specs.InPlace.{IsActInPlace, IsInPlace};
+ghost use Rattle.op_base.specs.InPlace.{IsActInPlace, IsInPlace};
 ghost use Rattle.frame_codec.specs.Grammar.{is_sent};
 ghost use Rattle.frame_codec.specs.Fault.{numbers, length_len, length_at, text_of, behind_text, is_text_field, id_at, is_id_field, is_place_field, behind_place};
 ghost use Rattle.frame_codec.specs.Reading.{is_name, place_at, act_at, row_of, rest_fault, value_fault, amount_fault, insertion_fault, id_fault, act_fault, fields_fault, IsWhy, SaysOperation};

@@ -17,6 +17,7 @@ mod fault;
 mod fields;
 mod laws;
 mod version;
+mod worked;
 
 pub use decoding::decode;
 pub use encoding::encode;
@@ -26,6 +27,7 @@ pub use laws::{
     what_is_read_is_a_frame, without_fault_is_a_frame,
 };
 pub use version::Version;
+pub use worked::faults_are_told_in_order;
 
 #[cfg(test)]
 mod tests;

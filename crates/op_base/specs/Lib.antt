@@ -1,6 +1,7 @@
 pub mod Name
 pub mod Object
 pub mod Operation
+pub mod InPlace
 pub mod Code
 pub mod Valid
 pub mod TagFields

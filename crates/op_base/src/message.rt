@@ -3,7 +3,8 @@
 //! A message is an operation with the tag of a causal broadcast layer, as Baquero, Almeida and Shoker have it
 //! (arXiv 1710.04469); the tag here is a textbook vector timestamp.
 
-ghost use Rattle.std.specs.Prelude.{◌≡◌, ◌<◌, length, IfOk};
+ghost use Rattle.std.specs.Prelude.{◌≡◌, ◌<◌, length, IfOk, IsOk};
+ghost use Rattle.op_base.specs.InPlace.{IsActInPlace, IsInPlace};
 ghost use Rattle.op_base.specs.Timestamp.{id_at};
 
 use crate::memory::NoMemory;
@@ -45,9 +46,10 @@ impl Message {
         }
     }
 
-    /// An equal message. `NoMemory` leaves nothing behind.
+    /// An equal message. One whose value, if it has one, stands in place takes no memory; `NoMemory` leaves nothing behind.
     pub fn copy(&self, alloc: Global) -> Result<Message, NoMemory>
-        ensures { IfOk result (λ copy. copy ≡ self.now) }
+        ensures copy { IfOk result (λ copy. copy ≡ self.now) }
+        ensures in_place { IsInPlace self.now.op → IsOk result }
     {
         Ok(Message {
             origin: self.origin,
@@ -69,9 +71,10 @@ impl Entry {
         }
     }
 
-    /// An equal entry. `NoMemory` leaves nothing behind.
+    /// An equal entry. One whose value, if it has one, stands in place takes no memory; `NoMemory` leaves nothing behind.
     pub fn copy(&self, alloc: Global) -> Result<Entry, NoMemory>
-        ensures { IfOk result (λ copy. copy ≡ self.now) }
+        ensures copy { IfOk result (λ copy. copy ≡ self.now) }
+        ensures in_place { IsActInPlace self.now.update.act → IsOk result }
     {
         Ok(Entry {
             origin: self.origin,

@@ -3,7 +3,7 @@
 //! That an operation is sent as itself, computed from no state, is the idea of Baquero, Almeida and Shoker
 //! (arXiv 1710.04469). The kinds' acts and their codes are this project's own profile.
 
-ghost use Rattle.std.specs.Prelude.{◌≡◌, IsTrue, Some, is_ok, IfOk, IfErr};
+ghost use Rattle.std.specs.Prelude.{◌≡◌, IsTrue, Some, is_ok, IfOk, IfErr, IsOk};
 ghost use Rattle.op_base.specs.Operation.{act_code, has_act, is_place};
 
 use crate::memory::NoMemory;
@@ -100,9 +100,12 @@ fn act_code(kind: Kind, act: &Act) -> Option<u8>
 }
 
 impl Act {
-    /// An equal act. `NoMemory` leaves nothing behind.
+    ghost use Rattle.op_base.specs.InPlace.{IsActInPlace};
+
+    /// An equal act. One whose value, if it has one, stands in place takes no memory; `NoMemory` leaves nothing behind.
     pub fn copy(&self, alloc: Global) -> Result<Act, NoMemory>
-        ensures { IfOk result (λ copy. copy ≡ self.now) }
+        ensures copy { IfOk result (λ copy. copy ≡ self.now) }
+        ensures in_place { IsActInPlace self.now → IsOk result }
     {
         match self {
             Act::Add(value) => Ok(Act::Add(value.copy(alloc)?)),
@@ -120,6 +123,7 @@ impl Act {
 }
 
 impl Update {
+    ghost use Rattle.op_base.specs.InPlace.{IsActInPlace};
     ghost use Rattle.op_base.specs.Reading.{update_of};
 
     /// An update of an object. The pair comes back exactly where the object's kind has no such act.
@@ -152,9 +156,10 @@ impl Update {
         &self.act
     }
 
-    /// An equal update. `NoMemory` leaves nothing behind.
+    /// An equal update. One whose value, if it has one, stands in place takes no memory; `NoMemory` leaves nothing behind.
     pub fn copy(&self, alloc: Global) -> Result<Update, NoMemory>
-        ensures { IfOk result (λ copy. copy ≡ self.now) }
+        ensures copy { IfOk result (λ copy. copy ≡ self.now) }
+        ensures in_place { IsActInPlace self.now.act → IsOk result }
     {
         Ok(Update {
             object: self.object.copy(alloc)?,
@@ -165,6 +170,7 @@ impl Update {
 
 impl Op {
     ghost use Rattle.op_base.specs.Code.{op_code};
+    ghost use Rattle.op_base.specs.InPlace.{IsInPlace};
 
     /// The code of the operation, 0 to 22.
     pub fn code(&self) -> u8
@@ -176,9 +182,10 @@ impl Op {
         }
     }
 
-    /// An equal operation. `NoMemory` leaves nothing behind.
+    /// An equal operation. One whose value, if it has one, stands in place takes no memory; `NoMemory` leaves nothing behind.
     pub fn copy(&self, alloc: Global) -> Result<Op, NoMemory>
-        ensures { IfOk result (λ copy. copy ≡ self.now) }
+        ensures copy { IfOk result (λ copy. copy ≡ self.now) }
+        ensures in_place { IsInPlace self.now → IsOk result }
     {
         match self {
             Op::NoOp => Ok(Op::NoOp),

@@ -7,6 +7,7 @@ pub mod Counts
 pub mod Values
 pub mod Ids
 pub mod Memories
+pub mod Fits
 pub mod Ample
 mod Parted
 mod Decimals

@@ -2,7 +2,7 @@
 
 ghost use Rattle.std.specs.Prelude.{◌≡◌, map};
 ghost use Rattle.script_lang.specs.Acts.{operation_word, operation_in, set_act, flag_act, register_act, counter_act, clearable_act, list_act, kind_act, are_few, update_in};
-ghost use Rattle.script_lang.specs.Memory.{Reads};
+ghost use Rattle.script_lang.specs.Memory.{Reads, IsAmple, has_long_value};
 
 use crate::fault::Fault;
 use crate::name::{read_amount, read_element, read_object, read_place, read_value};
@@ -65,7 +65,8 @@ fn read_operation(word: &[u8]) -> Result<Operation, Fault>
 
 /// The act of a set.
 fn read_set_act(alloc: Global, operation: Operation, arguments: &[&[u8]]) -> Result<Act, Fault>
-    ensures { Reads (set_act operation (map (λ word. word.now) arguments.now)) result }
+    ensures act { Reads (set_act operation (map (λ word. word.now) arguments.now)) result }
+    ensures ample { IsAmple has_long_value (set_act operation (map (λ word. word.now) arguments.now)) result }
 {
     match (operation, arguments) {
         (Operation::Add, [argument]) => Ok(Act::Add(read_value(alloc, argument)?)),
@@ -89,7 +90,8 @@ fn read_flag_act(operation: Operation, arguments: &[&[u8]]) -> Result<Act, Fault
 
 /// The act of a register.
 fn read_register_act(alloc: Global, operation: Operation, arguments: &[&[u8]]) -> Result<Act, Fault>
-    ensures { Reads (register_act operation (map (λ word. word.now) arguments.now)) result }
+    ensures act { Reads (register_act operation (map (λ word. word.now) arguments.now)) result }
+    ensures ample { IsAmple has_long_value (register_act operation (map (λ word. word.now) arguments.now)) result }
 {
     match (operation, arguments) {
         (Operation::Write, [argument]) => Ok(Act::Write(read_value(alloc, argument)?)),
@@ -123,7 +125,8 @@ fn read_clearable_act(operation: Operation, arguments: &[&[u8]]) -> Result<Act, 
 
 /// The act of a list.
 fn read_list_act(alloc: Global, operation: Operation, arguments: &[&[u8]]) -> Result<Act, Fault>
-    ensures { Reads (list_act operation (map (λ word. word.now) arguments.now)) result }
+    ensures act { Reads (list_act operation (map (λ word. word.now) arguments.now)) result }
+    ensures ample { IsAmple has_long_value (list_act operation (map (λ word. word.now) arguments.now)) result }
 {
     match (operation, arguments) {
         (Operation::Ins, [value, place]) => {
@@ -143,7 +146,8 @@ fn read_act(
     operation: Operation,
     arguments: &[&[u8]],
 ) -> Result<Act, Fault>
-    ensures { Reads (kind_act kind operation (map (λ word. word.now) arguments.now)) result }
+    ensures act { Reads (kind_act kind operation (map (λ word. word.now) arguments.now)) result }
+    ensures ample { IsAmple has_long_value (kind_act kind operation (map (λ word. word.now) arguments.now)) result }
 {
     match kind {
         Kind::AwSet | Kind::RwSet => read_set_act(alloc, operation, arguments),
@@ -169,7 +173,8 @@ pub fn read_update(
     operation: &[u8],
     arguments: &[&[u8]],
 ) -> Result<Update, Fault>
-    ensures { Reads (update_in object.now operation.now (map (λ word. word.now) arguments.now)) result }
+    ensures update { Reads (update_in object.now operation.now (map (λ word. word.now) arguments.now)) result }
+    ensures ample { IsAmple (λ update. has_long_value update.act) (update_in object.now operation.now (map (λ word. word.now) arguments.now)) result }
 {
     let object = read_object(alloc, object)?;
     let operation = read_operation(operation)?;

@@ -324,8 +324,7 @@ fn do_command(
 
 /// The words behind `ask`.
 fn read_ask(alloc: Global, n: u8, words: &[&[u8]]) -> Result<Command, Fault>
-    ensures command { Reads (ask_words n (map (λ word. word.now) words.now)) result }
-    ensures ample { IsAmple keeps (ask_words n (map (λ word. word.now) words.now)) result }
+    ensures command { result ≡ ask_words n (map (λ word. word.now) words.now) }
     ensures within { IfOk result (IsWithin n) }
 {
     match words {
@@ -335,8 +334,7 @@ fn read_ask(alloc: Global, n: u8, words: &[&[u8]]) -> Result<Command, Fault>
 }
 
 fn ask_command(alloc: Global, n: u8, r: &[u8], object: &[u8]) -> Result<Command, Fault>
-    ensures command { Reads (ask_command n r.now object.now) result }
-    ensures ample { IsAmple keeps (ask_command n r.now object.now) result }
+    ensures command { result ≡ ask_command n r.now object.now }
     ensures within { IfOk result (IsWithin n) }
 {
     let r = read_member(n, r)?;
@@ -347,8 +345,7 @@ fn ask_command(alloc: Global, n: u8, r: &[u8], object: &[u8]) -> Result<Command,
 /// The words behind `ids`.
 #[inline(never)]
 fn read_ids(alloc: Global, n: u8, words: &[&[u8]]) -> Result<Command, Fault>
-    ensures command { Reads (verb_words n Verb.Ids (map (λ word. word.now) words.now)) result }
-    ensures ample { IsAmple keeps (verb_words n Verb.Ids (map (λ word. word.now) words.now)) result }
+    ensures command { result ≡ verb_words n Verb.Ids (map (λ word. word.now) words.now) }
     ensures within { IfOk result (IsWithin n) }
 {
     let (r, object) = read_lone_list(alloc, n, words)?;
@@ -358,8 +355,7 @@ fn read_ids(alloc: Global, n: u8, words: &[&[u8]]) -> Result<Command, Fault>
 /// The words behind `tombs`.
 #[inline(never)]
 fn read_tombs(alloc: Global, n: u8, words: &[&[u8]]) -> Result<Command, Fault>
-    ensures command { Reads (verb_words n Verb.Tombs (map (λ word. word.now) words.now)) result }
-    ensures ample { IsAmple keeps (verb_words n Verb.Tombs (map (λ word. word.now) words.now)) result }
+    ensures command { result ≡ verb_words n Verb.Tombs (map (λ word. word.now) words.now) }
     ensures within { IfOk result (IsWithin n) }
 {
     let (r, object) = read_lone_list(alloc, n, words)?;
@@ -368,8 +364,7 @@ fn read_tombs(alloc: Global, n: u8, words: &[&[u8]]) -> Result<Command, Fault>
 
 /// The member and the list of it that words are, where they are these two.
 fn read_lone_list(alloc: Global, n: u8, words: &[&[u8]]) -> Result<(u8, ObjectId), Fault>
-    ensures asked { Reads (lone_list n (map (λ word. word.now) words.now)) result }
-    ensures ample { IsAmple (λ _. true) (lone_list n (map (λ word. word.now) words.now)) result }
+    ensures asked { result ≡ lone_list n (map (λ word. word.now) words.now) }
     ensures within { IfOk result (λ asked. (asked.0 < n) × (asked.1.kind ≡ kinds.List)) }
 {
     match words {
@@ -380,8 +375,7 @@ fn read_lone_list(alloc: Global, n: u8, words: &[&[u8]]) -> Result<(u8, ObjectId
 
 /// A member, and a list that it is asked of.
 fn asked_list(alloc: Global, n: u8, r: &[u8], list: &[u8]) -> Result<(u8, ObjectId), Fault>
-    ensures asked { Reads (asked_list n r.now list.now) result }
-    ensures ample { IsAmple (λ _. true) (asked_list n r.now list.now) result }
+    ensures asked { result ≡ asked_list n r.now list.now }
     ensures within { IfOk result (λ asked. (asked.0 < n) × (asked.1.kind ≡ kinds.List)) }
 {
     let r = read_member(n, r)?;

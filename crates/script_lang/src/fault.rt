@@ -28,7 +28,8 @@ pub enum Fault {
     /// The amount, or the number of a message, is no number, that of members is none from 1 to 16, or the id or the place is
     /// none.
     Number,
-    /// There is no memory for what the command keeps. The line is a command, or its fault is `Object` or a later one.
+    /// There is no memory for what the command keeps. The line sends an update with a value of more than 24 bytes, or has bytes, or
+    /// its fault is `Value` or `Number`.
     NoMemory,
 }
 

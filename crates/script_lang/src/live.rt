@@ -172,8 +172,7 @@ fn read_client_ask(
     c: &[u8],
     words: &[&[u8]],
 ) -> Result<LiveCommand, Fault>
-    ensures command { Reads (client_ask_words clients c.now (map (λ word. word.now) words.now)) result }
-    ensures ample { IsAmple live_keeps (client_ask_words clients c.now (map (λ word. word.now) words.now)) result }
+    ensures command { result ≡ client_ask_words clients c.now (map (λ word. word.now) words.now) }
     ensures within { (n : ℕ) → IfOk result (IsLiveWithin n clients) }
 {
     match words {
@@ -183,8 +182,7 @@ fn read_client_ask(
 }
 
 fn client_ask(alloc: Global, clients: u8, c: &[u8], object: &[u8]) -> Result<LiveCommand, Fault>
-    ensures command { Reads (client_ask clients c.now object.now) result }
-    ensures ample { IsAmple live_keeps (client_ask clients c.now object.now) result }
+    ensures command { result ≡ client_ask clients c.now object.now }
     ensures within { (n : ℕ) → IfOk result (IsLiveWithin n clients) }
 {
     let c = read_member(clients, c)?;

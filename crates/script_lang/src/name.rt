@@ -3,7 +3,7 @@
 ghost use Rattle.std.specs.Prelude.{◌≡◌, ◌<◌, ◌≤◌, [], ◌∷◌, IfOk, MatchOption, option_copied};
 ghost use Rattle.std.specs.List.{position, slice_split};
 ghost use Rattle.script_lang.specs.Names.{member_of, object_in, list_in, value_in, bytes_in, amount_in, size_in, is_point, element_where, element_in, place_in, client_digits};
-ghost use Rattle.script_lang.specs.Memory.{Reads};
+ghost use Rattle.script_lang.specs.Memory.{Reads, IsAmple, is_long};
 
 use crate::fault::Fault;
 use crate::header::is_from_to;
@@ -24,16 +24,16 @@ pub fn read_member(n: u8, word: &[u8]) -> Result<u8, Fault>
     }
 }
 
-/// The object that a word names.
+/// The object that a word names. It takes no memory.
 pub fn read_object(alloc: Global, word: &[u8]) -> Result<ObjectId, Fault>
-    ensures { Reads (object_in word.now) result }
+    ensures { result ≡ object_in word.now }
 {
-    ObjectId::read(alloc, word).map_err(|why| Fault::Object.of_name(why))
+    ObjectId::read(alloc, word).map_err(|_| Fault::Object)
 }
 
-/// The list that a word names.
+/// The list that a word names. It takes no memory.
 pub fn read_list(alloc: Global, word: &[u8]) -> Result<ObjectId, Fault>
-    ensures list { Reads (list_in word.now) result }
+    ensures list { result ≡ list_in word.now }
     ensures of_kind { IfOk result (λ object. object.kind ≡ Kind.List) }
 {
     let object = read_object(alloc, word)?;
@@ -43,9 +43,10 @@ pub fn read_list(alloc: Global, word: &[u8]) -> Result<ObjectId, Fault>
     }
 }
 
-/// The value that a word is.
+/// The value that a word is. One of at most 24 bytes takes no memory.
 pub fn read_value(alloc: Global, word: &[u8]) -> Result<Value, Fault>
-    ensures { Reads (value_in word.now) result }
+    ensures value { Reads (value_in word.now) result }
+    ensures ample { IsAmple is_long (value_in word.now) result }
 {
     Value::read(alloc, word).map_err(|why| Fault::Value.of_name(why))
 }

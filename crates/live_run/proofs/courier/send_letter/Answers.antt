@@ -16,4 +16,4 @@ pub returns-clause-done : goal.returns-clause-done
 returns-clause-done g c =
     let notes = notes_in c.args.round.now.done.pass.seen in
     slice_done c.args.node.now c.args.mailboxes.now c.args.round.now.done c.requires.done c.as_mut_slice-mails.result.now c.as_mut_slice-mails.ensures.value c.post_at.new.mails
-    (c.post_at.ensures.kept (c.args.node.now.key.me + 1) notes (subst (λ m. Contains notes (note.Sent m)) (sym c.in_ok-copy.ensures) c.requires.to_post.was_sent)) c.post_at.ensures.grow
+    (c.post_at.ensures.kept (c.args.node.now.key.me + 1) notes (subst (λ m. Contains notes (note.Sent m)) (sym c.in_ok-copy.ensures.copy) c.requires.to_post.was_sent)) c.post_at.ensures.grow
