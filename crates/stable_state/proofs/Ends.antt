@@ -66,10 +66,10 @@ start_le parts zero = omega arith
 start_le [] (suc k) = omega arith
 start_le (part ∷ parts) (suc k) = omega (arith, start_le parts k, length-append part (concat (take k parts)), length-append part (concat parts))
 
-pub slots_le : (parts : List (List ℕ)) → All (λ part. length part ≤ 512) parts → length (concat parts) ≤ 512 * length parts
+pub slots_le : (parts : List (List ℕ)) → All (λ part. length part ≤ 256) parts → length (concat parts) ≤ 256 * length parts
 slots_le [] short = omega arith
 slots_le (part ∷ parts) short =
-    omega (arith, All-head (λ p. length p ≤ 512) part parts short, slots_le parts (All-tail (λ p. length p ≤ 512) part parts short), length-append part (concat parts))
+    omega (arith, All-head (λ p. length p ≤ 256) part parts short, slots_le parts (All-tail (λ p. length p ≤ 256) part parts short), length-append part (concat parts))
 
 -- chunks begin no earlier than those before them
 pub starts_rise : (parts : List (List ℕ)) (i j : ℕ) → i ≤ j → length (concat (take i parts)) ≤ length (concat (take j parts))
@@ -172,9 +172,9 @@ two_for_one lists k lower upper l =
 pub part_is : (lists : List (Vec ℕ Global)) (k : ℕ) (list : Vec ℕ Global) → k < length lists → list ≡ get_or lists k list → list.items ≡ get_or (parts_of lists) k []
 part_is lists k list l is = ap (λ v. v.items) is ∙ sym (get_or-map (λ v. v.items) lists k list [] l)
 
-pub slots_few : (lists : List (Vec ℕ Global)) → All IsChunk lists → length (concat (parts_of lists)) ≤ 512 * length lists
+pub slots_few : (lists : List (Vec ℕ Global)) → All IsChunk lists → length (concat (parts_of lists)) ≤ 256 * length lists
 slots_few lists chunks =
-    omega (arith, slots_le (parts_of lists) (All-map (λ part. length part ≤ 512) (λ v. v.items) lists (All-weaker IsChunk (λ v. length v.items ≤ 512) (λ v chunk. chunk.short) lists chunks)), length-map lists (λ v. v.items))
+    omega (arith, slots_le (parts_of lists) (All-map (λ part. length part ≤ 256) (λ v. v.items) lists (All-weaker IsChunk (λ v. length v.items ≤ 256) (λ v chunk. chunk.short) lists chunks)), length-map lists (λ v. v.items))
 
 pub ends_fit : (lists : List (Vec ℕ Global)) → All IsChunk lists → length lists ≤ 2 ^ 40 → All (λ end. end + 1 < 2 ^ 64) (ends_from 0 (parts_of lists))
 ends_fit lists chunks few k d l =

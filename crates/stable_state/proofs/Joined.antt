@@ -38,8 +38,8 @@ behind_open [] zero all = All-nil IsOpen
 behind_open [] (suc k) all = All-nil IsOpen
 behind_open (part ∷ parts) k all = All-drop IsOpen (suc k) (part ∷ parts) all
 
-pub short_opened : (parts : List (List ℕ)) → All IsOpen parts → All (λ part. length part < 512) (opened parts)
-short_opened [] all = All-cons (λ part. length part < 512) [] [] (omega arith) (All-nil (λ part. length part < 512))
+pub short_opened : (parts : List (List ℕ)) → All IsOpen parts → All (λ part. length part < 256) (opened parts)
+short_opened [] all = All-cons (λ part. length part < 256) [] [] (omega arith) (All-nil (λ part. length part < 256))
 short_opened (part ∷ parts) all = λ k d l. (all k d l).short
 
 -- ---- one chunk becomes another
@@ -54,13 +54,13 @@ module _ (parts : List (List ℕ)) (k : ℕ) (l : k < length parts) where
   pub concat_is : concat parts ≡ concat (take k parts) ++ (get_or parts k [] ++ concat (drop (suc k) parts))
   concat_is = ap concat (sym (set-get_or parts k [])) ∙ concat_set (get_or parts k [])
 
-  excess_with : (part : List ℕ) → excess_of (set parts k part) ≡ excess_of (take k parts) + ((length part - 256) + excess_of (drop (suc k) parts))
+  excess_with : (part : List ℕ) → excess_of (set parts k part) ≡ excess_of (take k parts) + ((length part - 128) + excess_of (drop (suc k) parts))
   excess_with part = ap excess_of (set_parts part) ∙ excess_append (take k parts) (part ∷ drop (suc k) parts)
 
-  excess_is : excess_of parts ≡ excess_of (take k parts) + ((length (get_or parts k []) - 256) + excess_of (drop (suc k) parts))
+  excess_is : excess_of parts ≡ excess_of (take k parts) + ((length (get_or parts k []) - 128) + excess_of (drop (suc k) parts))
   excess_is = ap excess_of (sym (set-get_or parts k [])) ∙ excess_with (get_or parts k [])
 
-  pub excess_set : (part : List ℕ) → excess_of (set parts k part) + (length (get_or parts k []) - 256) ≡ excess_of parts + (length part - 256)
+  pub excess_set : (part : List ℕ) → excess_of (set parts k part) + (length (get_or parts k []) - 128) ≡ excess_of parts + (length part - 128)
   excess_set part = omega (arith, excess_with part, excess_is)
 
   pub slots_put : (place slot : ℕ) → length (concat (take k parts)) ≤ place → place ≤ length (concat (take k parts)) + length (get_or parts k [])
@@ -120,8 +120,8 @@ module _ (parts : List (List ℕ)) (k : ℕ) (l : k < length parts) where
       ∙ ap (λ xs. before ++ xs) (sym (append_assoc (take n part) (drop n part) behind) ∙ ap (λ xs. xs ++ behind) (take-append-drop n part))
       ∙ sym concat_is
 
-  pub excess_split : (n : ℕ) → excess_of (take k parts ++ take n (get_or parts k []) ∷ drop n (get_or parts k []) ∷ drop (k + 1) parts) + (length (get_or parts k []) - 256)
-      ≡ excess_of parts + ((length (take n (get_or parts k [])) - 256) + (length (drop n (get_or parts k [])) - 256))
+  pub excess_split : (n : ℕ) → excess_of (take k parts ++ take n (get_or parts k []) ∷ drop n (get_or parts k []) ∷ drop (k + 1) parts) + (length (get_or parts k []) - 128)
+      ≡ excess_of parts + ((length (take n (get_or parts k [])) - 128) + (length (drop n (get_or parts k [])) - 128))
   excess_split n =
       let part = get_or parts k [] in
       omega (arith, ap (λ j. excess_of (take k parts ++ take n part ∷ drop n part ∷ drop j parts)) (add-one k), excess_append (take k parts) (take n part ∷ drop n part ∷ drop (suc k) parts), excess_is)
@@ -158,9 +158,9 @@ pub record WasPut (parts : List (List ℕ)) (place slot k : ℕ) (new : List (Li
   pub within : k < length (opened parts)
   pub part : new ≡ set (opened parts) k (get_or new k [])
   pub some : 0 < length (get_or new k [])
-  pub short : length (get_or new k []) ≤ 512
+  pub short : length (get_or new k []) ≤ 256
   pub slots : concat new ≡ insert (concat parts) place slot
-  pub excess : excess_of new + (length (get_or new k []) - 257) ≡ excess_of parts + (length (get_or new k []) - 256)
+  pub excess : excess_of new + (length (get_or new k []) - 129) ≡ excess_of parts + (length (get_or new k []) - 128)
   pub count : length new ≡ length parts + (1 - length parts)
 
 pub was_put : (parts : List (List ℕ)) (place slot k : ℕ) (new : List (List ℕ)) → IsHome (opened parts) place k → All IsOpen parts
@@ -181,9 +181,9 @@ was_put parts place slot k new home all is =
     }
 
 -- and once the chunk that is full then is parted
-pub split_excess : (parts : List (List ℕ)) (place slot k : ℕ) (new : List (List ℕ)) → WasPut parts place slot k new → length (get_or new k []) ≡ 512
-    → excess_of (take k new ++ take 256 (get_or new k []) ∷ drop 256 (get_or new k []) ∷ drop (k + 1) new) + 255 ≡ excess_of parts
+pub split_excess : (parts : List (List ℕ)) (place slot k : ℕ) (new : List (List ℕ)) → WasPut parts place slot k new → length (get_or new k []) ≡ 256
+    → excess_of (take k new ++ take 128 (get_or new k []) ∷ drop 128 (get_or new k []) ∷ drop (k + 1) new) + 127 ≡ excess_of parts
 split_excess parts place slot k new put long =
     let part = get_or new k [] in
     let l : k < length new = omega (arith, put.within, ap length put.part, length-set (opened parts) k part) in
-    omega (arith, put.excess, long, excess_split new k l 256, length-drop 256 part, length-take-le 256 part (omega (arith, long)))
+    omega (arith, put.excess, long, excess_split new k l 128, length-drop 128 part, length-take-le 128 part (omega (arith, long)))

@@ -5,7 +5,7 @@ use Rattle.std.specs.List.{insert, remove_range}
 use Rattle.std.proofs.lemmas.Bool.{both_ways, cases_eq, cases_lt}
 use Rattle.std.proofs.lemmas.List.{length-map, get_or_default, get_or-take, get_or-drop, take-map, drop-map, map-append, set_split, length-set, take-append-drop, get_or-set_same, get_or-set_other, get_or_past}
 use Rattle.std.proofs.lemmas.List.Edits.{length-insert, length-between, get_or-between}
-use Rattle.std.proofs.lemmas.List.Elements.{All-append, All-cons, All-nil, All-push, All-take, All-drop, All-set}
+use Rattle.std.proofs.lemmas.List.Elements.{All-append, All-cons, All-push, All-take, All-drop, All-set}
 use Rattle.std.proofs.lemmas.List.Sums.{sum_by-set}
 use Rattle.op_base.specs.Order.{item_cmp}
 use Rattle.op_base.specs.declared.name.ObjectId.{ObjectId}
@@ -28,9 +28,6 @@ more_room old new order order' more is order_is ordered =
 
 -- ---- items are copied into other slots
 
-pub none_copied : (from into : Slab Item) → slab_len into ≡ 0 → AreCopied from [] into []
-none_copied from into none = record { items = refl; held = All-nil (ContainsKey into); counted = none }
-
 pub one_more_copied : (from into new : Slab Item) (order copied : List ℕ) (slot key : ℕ) (item : Item) → get from slot ≡ Some item → get into key ≡ None → Updates into new key (Some item) → slab_len new ≡ slab_len into + 1
     → AreCopied from order into copied → AreCopied from (order ++ slot ∷ []) new (copied ++ key ∷ [])
 one_more_copied from into new order copied slot key item at vacant changes len are = record {
@@ -40,18 +37,6 @@ one_more_copied from into new order copied slot key item at vacant changes len a
 } where
   kept : All (IsKept into new) copied
   kept k d l = changes.others (get_or copied k d) (λ same. both_ways (is_some (get into (get_or copied k d))) (ap is_some (ap (get into) same ∙ vacant)) (are.held k d l))
-
--- copies of rising items rise
-pub copy_is_ordered : (from into : Slab Item) (order copied : List ℕ) → IsOrdered from order → AreCopied from order into copied → length order ≤ into.capacity → IsOrdered into copied
-copy_is_ordered from into order copied ordered are room =
-    let same : length copied ≡ length order = sym (length-map copied (item_in into)) ∙ ap length are.items ∙ length-map order (item_in from) in
-    record {
-      held = are.held;
-      counted = are.counted;
-      fits = omega (arith, are.counted, same, room);
-      rise = subst Rise (sym are.items) ordered.rise;
-      filled = subst (All (λ (item : Item). IsTrue (is_filled item.cell))) (sym are.items) ordered.filled;
-    }
 
 -- ---- an item is put into a slot that had none
 

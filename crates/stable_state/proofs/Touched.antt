@@ -1,9 +1,8 @@
 -- What stands in touched slots, while slots change; and what was touched last.
-use Rattle.std.proofs.Common.{◌≡◌, ◌⊎◌, ℕ, ◌+◌, ◌-◌, ◌<◌, ◌≤◌, true, false, Contains, List, [], ◌∷◌, ◌++◌, ◌||◌, map, length, take, get_or, refl, sym, ap, subst, ◌∙◌, inl, inr, Option, Some, None, Result, Ok, Err, length-append, arith}
+use Rattle.std.proofs.Common.{◌≡◌, ◌⊎◌, ℕ, ◌+◌, ◌-◌, ◌<◌, ◌≤◌, true, false, Contains, List, [], ◌∷◌, ◌++◌, ◌||◌, map, length, take, get_or, refl, sym, ap, ◌∙◌, inl, inr, Option, Some, None, length-append, arith}
 use Rattle.std.specs.Prelude.{slice_range}
 use Rattle.std.specs.List.{HoldsAt, list_any}
 use Rattle.std.specs.Option.{IfSome}
-use Rattle.std.specs.Result.{IfOk, IfErr, result_ok}
 use Rattle.std.proofs.lemmas.Bool.{false≢true, or_cases, or_left, or_right}
 use Rattle.std.proofs.lemmas.List.{length-map, take_all, take_more}
 use Rattle.std.proofs.lemmas.List.Edits.{length-between, get_or-between}
@@ -115,10 +114,6 @@ module _ (s : Shelved) (some : 0 < length s.touched) where
       ];
     }
 
-  -- the slot has no item any more
-  pub gone_is_last : get_or s.touched (length s.touched - 1) None ≡ None → IsLast s before None
-  gone_is_last is = is_last None is None tt (λ object value t. absurd (false≢true t))
-
   module _ (item : Item) (is : get_or s.touched (length s.touched - 1) None ≡ Some item) where
     -- its item stands nowhere
     pub absent_is_last : (place : ℕ) → IsGapFor item.object item.value s.items place → IsLast s before None
@@ -139,12 +134,6 @@ module _ (s : Shelved) (some : 0 < length s.touched) where
         }) (λ object value t d.
         let same = same_place item.object object item.value value t in
         (λ i. is_at (sym same.0 i) (sym same.1 i) (get_or s.items place d)) ∙ found d)
-
-    -- as a search answers
-    pub searched_is_last : (result : Result ℕ ℕ) (place : Option ℕ) → place ≡ result_ok result → IfOk result (λ p. p < length s.items) → IfOk result (HoldsAt (λ x. is_at item.object item.value x ≡ true) s.items) → IfErr result (IsGapFor item.object item.value s.items)
-        → IsLast s before place
-    searched_is_last (Ok p) place is within found gap = subst (IsLast s before) (sym is) (found_is_last p within found)
-    searched_is_last (Err p) place is within found gap = subst (IsLast s before) (sym is) (absent_is_last p gap)
 
 -- what is at a place where something was touched is touched
 pub touched_at_found : (touched : List (Option Item)) (items : List Item) (place : ℕ) (object : ObjectId) (value : Option (List ℕ)) → HoldsAt (λ x. is_at object value x ≡ true) items place

@@ -12,14 +12,14 @@ parts_of lists = map (λ list. list.items) lists
 abbrev pub chunked : Inside → Chunked
 chunked s = record { parts = parts_of s.lists.items; free = length s.free.items }
 
--- a chunk has room for 512 slots, and no more slots
+-- a chunk has room for 256 slots, and no more slots
 pub record IsChunk (list : Vec ℕ Global) : Type 0 where
-  pub room : 512 ≤ vec_capacity list
-  pub short : length list.items ≤ 512
+  pub room : 256 ≤ vec_capacity list
+  pub short : length list.items ≤ 256
 
 -- a free chunk has that room, and no slots
 pub record IsFree (list : Vec ℕ Global) : Type 0 where
-  pub room : 512 ≤ vec_capacity list
+  pub room : 256 ≤ vec_capacity list
   pub empty : list.items ≡ []
 
 -- each chunk has its room, the ends are those of the chunks, and there is room to take each chunk into use and to free it

@@ -1,6 +1,6 @@
 //! Slots in chunks of bounded length, with the place at which each chunk ends.
 
-ghost use Rattle.std.specs.Prelude.{◌≡◌, ℕ, ◌+◌, ◌-◌, ◌*◌, ◌^◌, ◌<◌, ◌≤◌, [], ◌∷◌, ◌++◌, length, take, drop, map, slice_set, slice_index_or, Bool, true, false, OnOk, OnErr, All, vec_len, vec_capacity};
+ghost use Rattle.std.specs.Prelude.{◌≡◌, ℕ, ◌+◌, ◌-◌, ◌*◌, ◌^◌, ◌<◌, ◌≤◌, [], ◌∷◌, ◌++◌, length, take, drop, map, slice_set, slice_index_or, Bool, true, false, OnOk, OnErr, All, IfSome, vec_len, vec_capacity};
 ghost use Rattle.std.specs.List.{concat, insert, remove, remove_range};
 ghost use Rattle.std.specs.List.Sorted.{IsPartitionPoint, IsPartitionedBy};
 ghost use Rattle.std.specs.Fn.{ComputesKey};
@@ -11,13 +11,46 @@ use std::alloc::Global;
 use std::marker::Model;
 
 /// How many slots a chunk has room for.
-pub const CHUNK: usize = 512;
+pub const CHUNK: usize = 256;
 
 /// How many slots are in each half of a chunk that is parted.
-pub const HALF: usize = 256;
+pub const HALF: usize = 128;
 
 /// More chunks than there is memory for.
 const MOST: usize = 1 << 40;
+
+/// A place, and the chunk in which it is looked for first, which may be any.
+#[derive(Clone, Copy, Drop)]
+pub struct Spot {
+    /// The place, counted from 0.
+    pub place: usize,
+    /// The chunk.
+    pub chunk: usize,
+}
+
+impl Spot {
+    /// The next place, looked for in the same chunk.
+    pub fn next(self) -> Spot
+        requires { self.place + 1 < 2 ^ 64 }
+        ensures { result.place ≡ self.place + 1 }
+    {
+        Spot {
+            place: self.place + 1,
+            chunk: self.chunk,
+        }
+    }
+
+    /// The place ahead, looked for in the same chunk.
+    pub fn previous(self) -> Spot
+        requires { 0 < self.place }
+        ensures { result.place ≡ self.place - 1 }
+    {
+        Spot {
+            place: self.place - 1,
+            chunk: self.chunk,
+        }
+    }
+}
 
 /// Chunks of slots, each with room for `CHUNK`, and empty ones that are free. `add` alone takes memory.
 #[derive(Drop)]
@@ -79,7 +112,7 @@ impl Chunks {
     pub fn count(&self) -> usize
         ensures value { result ≡ length self.now.parts }
         ensures few { length self.now.parts + self.now.free ≤ 2 ^ 40 }
-        ensures slots { length (concat self.now.parts) ≤ 512 * length self.now.parts }
+        ensures slots { length (concat self.now.parts) ≤ 256 * length self.now.parts }
     {
         self.lists.len()
     }
@@ -126,6 +159,33 @@ impl Chunks {
         self.ends.partition_point(|end| *end < place)
     }
 
+    /// The same, where the spot's chunk is looked at first.
+    pub fn chunk_of(&self, spot: Spot) -> usize
+        requires some { 0 < length self.now.parts }
+        requires within { spot.place ≤ length (concat self.now.parts) }
+        ensures { IsHome self.now.parts spot.place result }
+    {
+        if self.is_home(spot) {
+            spot.chunk
+        } else {
+            self.chunk_to(spot.place)
+        }
+    }
+
+    /// Whether a spot's chunk is the first that doesn't end before its place.
+    fn is_home(&self, spot: Spot) -> bool
+        ensures { result ≡ true → IsHome self.now.parts spot.place spot.chunk }
+    {
+        if spot.chunk >= self.lists.len() {
+            return false;
+        }
+        let start = self.start(spot.chunk);
+        if start > spot.place || start == spot.place && spot.chunk > 0 {
+            return false;
+        }
+        spot.place - start <= self.part(spot.chunk).len()
+    }
+
     /// The slot at a place.
     pub fn slot(&self, place: usize) -> usize
         requires { place < length (concat self.now.parts) }
@@ -136,13 +196,39 @@ impl Chunks {
         lists[chunk][place - self.start(chunk)]
     }
 
+    /// The slot at a spot's place.
+    pub fn slot_near(&self, spot: Spot) -> usize
+        requires { spot.place < length (concat self.now.parts) }
+        ensures { result ≡ slice_index_or (concat self.now.parts) spot.place result }
+    {
+        match self.slot_at(spot) {
+            Some(slot) => slot,
+            None => self.slot(spot.place),
+        }
+    }
+
+    /// The slot at a spot's place, where its chunk has it.
+    fn slot_at(&self, spot: Spot) -> Option<usize>
+        ensures { IfSome result (λ slot. slot ≡ slice_index_or (concat self.now.parts) spot.place slot) }
+    {
+        if spot.chunk >= self.count() {
+            return None;
+        }
+        let part = self.part(spot.chunk);
+        let start = self.start(spot.chunk);
+        if spot.place < start || spot.place - start >= part.len() {
+            return None;
+        }
+        Some(part[spot.place - start])
+    }
+
     /// How many of the slots pass a test, where those that pass stand before the others. No chunk is empty.
-    pub fn partition_point<P: Fn(&usize) -> bool>(&self, test: P) -> usize
+    pub fn partition_point<P: Fn(&usize) -> bool>(&self, test: P) -> Spot
         requires callable { P.IsAlwaysCallable test }
         requires some { All (λ part. 0 < length part) self.now.parts }
-        ensures bound { result ≤ length (concat self.now.parts) }
+        ensures bound { result.place ≤ length (concat self.now.parts) }
         ensures partitioned { (p : ℕ → Bool) → ComputesKey P.FnMut p test → IsPartitionedBy p (concat self.now.parts)
-            → IsPartitionPoint (λ slot. p slot ≡ true) (λ slot. p slot ≡ false) (concat self.now.parts) result }
+            → IsPartitionPoint (λ slot. p slot ≡ true) (λ slot. p slot ≡ false) (concat self.now.parts) result.place }
     {
         let behind = self.lists.partition_point(
             |list: &Vec<usize>| -> bool
@@ -156,16 +242,18 @@ impl Chunks {
             },
         );
         if behind == 0 {
-            return 0;
+            return Spot { place: 0, chunk: 0 };
         }
-        self.start(behind - 1) + self.lists[behind - 1].partition_point(test)
+        let chunk = behind - 1;
+        let place = self.start(chunk) + self.lists[chunk].partition_point(test);
+        Spot { place, chunk }
     }
 
     /// Puts a slot into a chunk that has room for it.
     pub fn put(&mut self, chunk: usize, at: usize, slot: usize)
         requires chunk { chunk < length self.old.parts }
         requires at { at ≤ length (slice_index_or self.old.parts chunk []) }
-        requires room { length (slice_index_or self.old.parts chunk []) < 512 }
+        requires room { length (slice_index_or self.old.parts chunk []) < 256 }
         ensures few { length self.new.parts + self.new.free ≤ 2 ^ 40 }
         ensures value { self.new ≡ record self.old { parts = slice_set self.old.parts chunk (insert (slice_index_or self.old.parts chunk []) at slot) } }
     {
@@ -188,9 +276,9 @@ impl Chunks {
     pub fn split(&mut self, chunk: usize)
         requires chunk { chunk < length self.old.parts }
         requires free { 1 ≤ self.old.free }
-        requires long { 256 ≤ length (slice_index_or self.old.parts chunk []) }
+        requires long { 128 ≤ length (slice_index_or self.old.parts chunk []) }
         ensures parts { self.new.parts ≡ take chunk self.old.parts
-            ++ take 256 (slice_index_or self.old.parts chunk []) ∷ drop 256 (slice_index_or self.old.parts chunk []) ∷ drop (chunk + 1) self.old.parts }
+            ++ take 128 (slice_index_or self.old.parts chunk []) ∷ drop 128 (slice_index_or self.old.parts chunk []) ∷ drop (chunk + 1) self.old.parts }
         ensures free { self.new.free + 1 ≡ self.old.free }
     {
         let mut upper = self.free.take_last();
@@ -203,7 +291,7 @@ impl Chunks {
     /// Takes a free chunk into use behind the others, with these slots.
     pub fn append(&mut self, slots: &[usize])
         requires free { 1 ≤ self.old.free }
-        requires short { length slots.now ≤ 512 }
+        requires short { length slots.now ≤ 256 }
         ensures parts { self.new.parts ≡ self.old.parts ++ slots.now ∷ [] }
         ensures free { self.new.free + 1 ≡ self.old.free }
         ensures few { length self.new.parts + self.new.free ≤ 2 ^ 40 }
@@ -252,14 +340,14 @@ fn cut_out(list: &mut Vec<usize>, from: usize, to: usize)
 
 /// Moves the slots of a list from `HALF` on into an empty one, and says how many these are.
 fn halve(list: &mut Vec<usize>, upper: &mut Vec<usize>) -> usize
-    requires long { 256 ≤ vec_len list.old }
+    requires long { 128 ≤ vec_len list.old }
     requires empty { vec_len upper.old ≡ 0 }
-    requires room { vec_len list.old ≤ 256 + vec_capacity upper.old }
-    ensures lower { list.new.items ≡ take 256 list.old.items }
-    ensures upper { upper.new.items ≡ drop 256 list.old.items }
+    requires room { vec_len list.old ≤ 128 + vec_capacity upper.old }
+    ensures lower { list.new.items ≡ take 128 list.old.items }
+    ensures upper { upper.new.items ≡ drop 128 list.old.items }
     ensures capacity { vec_capacity list.old ≤ vec_capacity list.new }
     ensures upper_capacity { vec_capacity upper.old ≤ vec_capacity upper.new }
-    ensures moved { result + 256 ≡ vec_len list.old }
+    ensures moved { result + 128 ≡ vec_len list.old }
 {
     let moved = list.len() - HALF;
     let Ok(()) = upper.extend_from_slice(&list[HALF..]) else {

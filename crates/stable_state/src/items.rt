@@ -17,6 +17,7 @@ ghost use Rattle.causal_model.specs.Items.{cell_in, is_filled, Rise, AreFilled};
 ghost use Rattle.stable_state.specs.Laws.{HasRange};
 ghost use Rattle.stable_state.specs.Picked.{ArePicked, is_set, is_place, replaced};
 ghost use Rattle.stable_state.specs.Places.{IsSpan};
+ghost use Rattle.stable_state.specs.Ranks.{rank_of, IsNamed};
 ghost use Rattle.stable_state.specs.Settling.{put_in_by, remove_wins, can_lose_mark, waits, IsSettledAt, AreSettled};
 ghost use Rattle.stable_state.specs.Shelf.{put_at};
 ghost use Rattle.stable_state.specs.Standing.{AreSettledOf, AreAbsorbed, AreMoved};
@@ -25,7 +26,8 @@ ghost use Rattle.stable_state.specs.Touched.{is_touched, IsMarkTouched, StayTouc
 use crate::cell::{
     NO_CELL, into_value, is_filled, is_in_range, puts_in, value_of, with_act, without_pending,
 };
-use crate::shelf::Shelf;
+use crate::chunks::Spot;
+use crate::shelf::{FIRST, Gap, Shelf};
 use crate::view::ItemSpan;
 use causal_model::ItemView;
 use op_base::{Act, Cell, Entry, Item, Kind, NoMemory, ObjectId, Update, Value};
@@ -94,25 +96,33 @@ impl Items {
     }
 
     /// The places of the items that an update covers.
-    fn covered_span(&self, update: &Update) -> (usize, usize)
-        ensures { ArePicked (covers_place (op.Update update.now)) (shown self.now).items result.0 result.1 }
+    fn covered_span(&self, update: &Update) -> (Spot, usize)
+        ensures { ArePicked (covers_place (op.Update update.now)) (shown self.now).items result.0.place result.1 }
     {
         match (update.object.kind, value_of(&update.act)) {
             (kind, Some(value)) if is_set(kind) => self.place_span(&update.object, Some(value)),
-            (Kind::Counter | Kind::List, _) => (0, 0),
-            (Kind::RCounter, _) if !matches!(update.act, Act::Clear) => (0, 0),
-            _ => self.span(&update.object),
+            (Kind::Counter | Kind::List, _) => (FIRST, 0),
+            (Kind::RCounter, _) if !matches!(update.act, Act::Clear) => (FIRST, 0),
+            _ => self.object_span(&update.object),
         }
     }
 
     /// The place of the item of an object and a value, as the span of one item or of none.
-    fn place_span(&self, object: &ObjectId, value: Option<&Value>) -> (usize, usize)
-        ensures { ArePicked (is_place object.now (option_copied value.entry)) (shown self.now).items result.0 result.1 }
+    fn place_span(&self, object: &ObjectId, value: Option<&Value>) -> (Spot, usize)
+        ensures { ArePicked (is_place object.now (option_copied value.entry)) (shown self.now).items result.0.place result.1 }
     {
-        match self.shelf.find(object, value) {
-            Ok(place) => (place, place + 1),
-            Err(place) => (place, place),
+        match self.shelf.find(self.shelf.hint(), object, value) {
+            Ok(spot) => (spot, spot.place + 1),
+            Err(gap) => (gap.spot, gap.spot.place),
         }
+    }
+
+    /// The places of an object's items: where the first is, and the one behind the last.
+    fn object_span(&self, object: &ObjectId) -> (Spot, usize)
+        ensures picked { ArePicked (λ other value. same_object object.now other) (shown self.now).items result.0.place result.1 }
+        ensures span { IsSpan object.now (shown self.now).items result.0.place result.1 }
+    {
+        self.shelf.span(object)
     }
 
     /// The places of an object's items: the first, and the one behind the last.
@@ -120,7 +130,8 @@ impl Items {
         ensures picked { ArePicked (λ other value. same_object object.now other) (shown self.now).items result.0 result.1 }
         ensures span { IsSpan object.now (shown self.now).items result.0 result.1 }
     {
-        self.shelf.span(object)
+        let (from, to) = self.object_span(object);
+        (from.place, to)
     }
 
     /// An object's items. They have its cells.
@@ -188,16 +199,16 @@ impl Items {
         ensures spare { (shown self.old).spare ≤ (shown self.new).spare + 1 }
     {
         let Update { object, act } = update;
-        match self.shelf.find(&object, value_of(&act)) {
-            Ok(place) => {
-                let cell = with_act(&act, self.shelf.at(place).cell);
-                self.replace(place, cell);
+        match self.shelf.find(self.shelf.hint(), &object, value_of(&act)) {
+            Ok(spot) => {
+                let cell = with_act(&act, self.shelf.at_near(spot).cell);
+                self.replace(spot, cell);
             }
-            Err(place) => {
+            Err(gap) => {
                 let cell = with_act(&act, NO_CELL);
                 let value = into_value(act);
                 self.put(
-                    place,
+                    gap,
                     Item {
                         object,
                         value,
@@ -208,38 +219,40 @@ impl Items {
         }
     }
 
-    /// Gives the item at a place another cell, or lets the item go where the cell has no mark and no sum.
-    fn replace(&mut self, place: usize, cell: Cell)
-        requires within { place < length (shown self.old).items }
+    /// Gives the item at a spot's place another cell, or lets the item go where the cell has no mark and no sum.
+    fn replace(&mut self, spot: Spot, cell: Cell)
+        requires within { spot.place < length (shown self.old).items }
         requires few { length (shown self.old).items < 2 ^ 64 }
         requires spare { IsTrue cell.off → 1 ≤ (shown self.old).spare }
-        ensures items { (shown self.new).items ≡ replaced place cell (shown self.old).items }
+        ensures items { (shown self.new).items ≡ replaced spot.place cell (shown self.old).items }
         ensures stay { StayTouched (shown self.old) (shown self.new) }
-        ensures marked { cell.off ≡ true → HoldsAt (λ item. is_touched (shown self.new).touched item.object item.value ≡ true) (shown self.old).items place }
+        ensures marked { cell.off ≡ true → HoldsAt (λ item. is_touched (shown self.new).touched item.object item.value ≡ true) (shown self.old).items spot.place }
         ensures unmarked { cell.off ≡ false → KeepTouched (shown self.old) (shown self.new) }
         ensures spare { (shown self.old).spare ≤ (shown self.new).spare + 1 }
         ensures kept { cell.off ≡ false → (shown self.old).spare ≤ (shown self.new).spare }
     {
         if is_filled(&cell) {
-            self.shelf.set_cell(place, cell);
+            self.shelf.set_cell(spot, cell);
         } else {
-            self.shelf.remove_span(place, place + 1);
+            self.shelf.remove_span(spot, spot.place + 1);
         }
     }
 
-    /// Puts an item at its place, where its cell has a mark or a sum.
-    fn put(&mut self, place: usize, item: Item)
+    /// Puts an item into its gap, where its cell has a mark or a sum.
+    fn put(&mut self, gap: Gap, item: Item)
         requires spare { 1 ≤ (shown self.old).spare }
-        requires within { place ≤ length (shown self.old).items }
-        requires rise { Rise (put_at place item (shown self.old).items) }
+        requires within { gap.spot.place ≤ length (shown self.old).items }
+        requires rise { Rise (put_at gap.spot.place item (shown self.old).items) }
+        requires rank { gap.rank ≡ rank_of item.object item.value }
+        requires named { IsNamed item.object item.value }
         ensures items { (shown self.new).items
-            ≡ (if is_filled item.cell then put_at place item (shown self.old).items else (shown self.old).items) }
+            ≡ (if is_filled item.cell then put_at gap.spot.place item (shown self.old).items else (shown self.old).items) }
         ensures stay { StayTouched (shown self.old) (shown self.new) }
         ensures marked { item.cell.off ≡ true → is_touched (shown self.new).touched item.object item.value ≡ true }
         ensures spare { (shown self.old).spare ≤ (shown self.new).spare + 1 }
     {
         if is_filled(&item.cell) {
-            self.shelf.insert(place, item);
+            self.shelf.insert(gap, item);
         }
     }
 
@@ -285,10 +298,11 @@ impl Items {
         ensures touched { KeepTouched (shown self.old) (shown self.new) }
         ensures spare { (shown self.old).spare ≤ (shown self.new).spare }
     {
-        let item = self.shelf.at(place);
+        let spot = self.shelf.spot_at(place);
+        let item = self.shelf.at_near(spot);
         if !does_wait(item, entries) {
             let cell = without_pending(item.cell);
-            self.replace(place, cell);
+            self.replace(spot, cell);
         }
     }
 }
@@ -297,8 +311,8 @@ impl ItemView for Items {
     ghost items = { λ all. all.shelf.items };
 
     fn cell(&self, object: &ObjectId, value: Option<&Value>) -> Cell {
-        match self.shelf.find(object, value) {
-            Ok(place) => self.shelf.at(place).cell,
+        match self.shelf.find(self.shelf.hint(), object, value) {
+            Ok(spot) => self.shelf.at_near(spot).cell,
             Err(_) => NO_CELL,
         }
     }

@@ -6,7 +6,7 @@ ghost use Rattle.std.specs.List.Sorted.{IsPartitionPoint, IsPartitionedBy};
 ghost use Rattle.std.specs.Fn.{ComputesKey};
 ghost use Rattle.stable_state.specs.Chunks.{IsHome, opened};
 
-use crate::chunks::{CHUNK, Chunks, HALF};
+use crate::chunks::{CHUNK, Chunks, HALF, Spot};
 use op_base::NoMemory;
 use std::alloc::Global;
 use std::marker::Model;
@@ -91,41 +91,62 @@ impl Order {
         self.chunks.slot(place)
     }
 
+    /// A place, with its chunk.
+    pub fn spot(&self, place: usize) -> Spot
+        requires { place < length self.now.items }
+        ensures { result.place ≡ place }
+    {
+        prove!(place < self.len());
+        Spot {
+            place,
+            chunk: self.chunks.chunk_to(place + 1),
+        }
+    }
+
+    /// The slot at a spot's place.
+    pub fn at_near(&self, spot: Spot) -> usize
+        requires { spot.place < length self.now.items }
+        ensures { result ≡ slice_index_or self.now.items spot.place result }
+    {
+        self.chunks.slot_near(spot)
+    }
+
     /// How many of the slots pass a test, where those that pass stand before the others.
-    pub fn partition_point<P: Fn(&usize) -> bool>(&self, test: P) -> usize
+    pub fn partition_point<P: Fn(&usize) -> bool>(&self, test: P) -> Spot
         requires { P.IsAlwaysCallable test }
-        ensures bound { result ≤ length self.now.items }
+        ensures bound { result.place ≤ length self.now.items }
         ensures partitioned { (p : ℕ → Bool) → ComputesKey P.FnMut p test → IsPartitionedBy p self.now.items
-            → IsPartitionPoint (λ slot. p slot ≡ true) (λ slot. p slot ≡ false) self.now.items result }
+            → IsPartitionPoint (λ slot. p slot ≡ true) (λ slot. p slot ≡ false) self.now.items result.place }
     {
         self.chunks.partition_point(test)
     }
 
-    /// Puts a slot at a place. It takes no memory.
-    pub fn insert(&mut self, place: usize, slot: usize)
+    /// Puts a slot at a spot's place, and says in which chunk it is to be looked for. It takes no memory.
+    pub fn insert(&mut self, spot: Spot, slot: usize) -> usize
         requires spare { 1 ≤ self.old.spare }
-        requires within { place ≤ length self.old.items }
-        ensures items { self.new.items ≡ insert self.old.items place slot }
+        requires within { spot.place ≤ length self.old.items }
+        ensures items { self.new.items ≡ insert self.old.items spot.place slot }
         ensures spare { self.old.spare ≤ self.new.spare + 1 }
     {
         open_first(&mut self.chunks);
-        let chunk = put(&mut self.chunks, place, slot);
+        let chunk = put(&mut self.chunks, spot, slot);
         let len = self.chunks.part(chunk).len();
         if len == CHUNK {
             self.chunks.split(chunk);
             self.excess -= HALF - 1;
-            return;
+            return chunk + 1;
         }
         if len > HALF {
             self.excess += 1;
         }
+        chunk
     }
 
     /// The slots from a place to the end of its chunk.
     pub fn run(&self, place: usize) -> &[usize]
         requires { place < length self.now.items }
         ensures some { 0 < length result.now }
-        ensures short { length result.now < 512 }
+        ensures short { length result.now < 256 }
         ensures within { place + length result.now ≤ length self.now.items }
         ensures run { take (place + length result.now) self.now.items ≡ take place self.now.items ++ result.now }
     {
@@ -137,9 +158,9 @@ impl Order {
 
     /// Puts slots behind the others, in a chunk of their own. It takes no memory.
     pub fn append(&mut self, slots: &[usize])
-        requires spare { 512 ≤ self.old.spare }
+        requires spare { 256 ≤ self.old.spare }
         requires some { 0 < length slots.now }
-        requires short { length slots.now < 512 }
+        requires short { length slots.now < 256 }
         ensures { self.new.items ≡ self.old.items ++ slots.now }
     {
         self.chunks.append(slots);
@@ -193,19 +214,19 @@ fn open_first(chunks: &mut Chunks)
     }
 }
 
-/// Puts a slot into the chunk of a place, and says which that is.
-fn put(chunks: &mut Chunks, place: usize, slot: usize) -> usize
+/// Puts a slot into the chunk of a spot's place, and says which that is.
+fn put(chunks: &mut Chunks, spot: Spot, slot: usize) -> usize
     requires some { 0 < length chunks.old.parts }
-    requires short { All (λ part. length part < 512) chunks.old.parts }
-    requires within { place ≤ length (concat chunks.old.parts) }
-    ensures home { IsHome chunks.old.parts place result }
+    requires short { All (λ part. length part < 256) chunks.old.parts }
+    requires within { spot.place ≤ length (concat chunks.old.parts) }
+    ensures home { IsHome chunks.old.parts spot.place result }
     ensures parts { let part = slice_index_or chunks.old.parts result [] in let start = length (concat (take result chunks.old.parts)) in
-        chunks.new.parts ≡ slice_set chunks.old.parts result (insert part (place - start) slot) }
+        chunks.new.parts ≡ slice_set chunks.old.parts result (insert part (spot.place - start) slot) }
     ensures free { chunks.new.free ≡ chunks.old.free }
-    ensures few { chunks.new.free ≤ 2 ^ 40 }
+    ensures few { length chunks.new.parts + chunks.new.free ≤ 2 ^ 40 }
 {
-    let chunk = chunks.chunk_to(place);
-    let at = place - chunks.start(chunk);
+    let chunk = chunks.chunk_of(spot);
+    let at = spot.place - chunks.start(chunk);
     chunks.put(chunk, at, slot);
     chunk
 }

@@ -3,7 +3,8 @@
 //! That the first bytes of a name are kept as a number beside it, so that most steps of a search compare two numbers, is a
 //! textbook rule.
 
-ghost use Rattle.std.specs.Prelude.{◌≡◌, ℕ, ◌≤◌, ◌<◌, IfOk, IsTrue, option_copied, slice_index, length, take, drop, ◌+◌, ◌++◌, ◌∷◌, []};
+ghost use Rattle.std.specs.Prelude.{◌≡◌, ℕ, ◌/◌, ◌%◌, ◌^◌, ◌≤◌, ◌<◌, IfOk, IsTrue, option_copied, slice_index, length, take, drop, ◌+◌, ◌++◌, ◌∷◌, []};
+ghost use Rattle.std.specs.Ordering.{nat_cmp};
 ghost use Rattle.op_base.specs.Name.{is_key};
 ghost use Rattle.op_base.specs.Object.{kind_place};
 ghost use Rattle.op_base.specs.Order.{item_cmp};
@@ -72,14 +73,23 @@ impl<'a> Sought<'a> {
             rank: rank_of(object, value),
         }
     }
+
+    /// The rank of the item.
+    pub fn rank(&self) -> Rank
+        ensures rank { result ≡ rank_of self.now.object.now (option_copied self.now.value) }
+        ensures named { IsNamed self.now.object.now (option_copied self.now.value) }
+    {
+        self.rank
+    }
 }
 
 impl Ranked {
     /// An item, with its rank.
-    pub fn new(item: Item) -> Ranked
+    pub fn new(rank: Rank, item: Item) -> Ranked
+        requires rank { rank ≡ rank_of item.object item.value }
+        requires named { IsNamed item.object item.value }
         ensures { result ≡ item }
     {
-        let rank = rank_of(&item.object, item.value.as_ref());
         Ranked { rank, item }
     }
 
@@ -142,13 +152,41 @@ impl Ranked {
 }
 
 /// How a rank stands to another.
+#[inline(always)]
 fn rank_order(rank: Rank, other: Rank) -> Ordering
     ensures { result ≡ rank_cmp rank other }
 {
-    match rank.first.cmp(&other.first) {
-        Ordering::Equal => rank.second.cmp(&other.second),
+    match number_order(rank.first, other.first) {
+        Ordering::Equal => number_order(rank.second, other.second),
         unequal => unequal,
     }
+}
+
+/// How a number stands to another, by the halves that a machine compares.
+#[inline(always)]
+fn number_order(number: u128, other: u128) -> Ordering
+    ensures { result ≡ nat_cmp number other }
+{
+    match upper(number).cmp(&upper(other)) {
+        Ordering::Equal => lower(number).cmp(&lower(other)),
+        unequal => unequal,
+    }
+}
+
+/// The upper half of a number.
+#[inline(always)]
+fn upper(number: u128) -> u64
+    ensures { result ≡ number / 2 ^ 64 }
+{
+    (number >> 64) as u64
+}
+
+/// The lower half of a number.
+#[inline(always)]
+fn lower(number: u128) -> u64
+    ensures { result ≡ number % 2 ^ 64 }
+{
+    (number % (1 << 64)) as u64
 }
 
 /// The rank of the item of an object and a value.

@@ -3,24 +3,37 @@
 //! An index in order over records that stay where they are is a textbook rule.
 
 ghost use Rattle.std.specs.Prelude.{◌≡◌, ◌≢◌, ◌⊎◌, ℕ, ◌+◌, ◌-◌, ◌^◌, ◌<◌, ◌≤◌, true, false, [], ◌∷◌, ◌++◌, List, length, take, insert, slice_get};
-ghost use Rattle.std.specs.Prelude.{Some, IsTrue, IfOk, OnOk, OnSome, IfErr, None, IsOk, All, AllPairs, Contains, HoldsAt, option_copied};
+ghost use Rattle.std.specs.Prelude.{Some, IsTrue, IfOk, OnOk, OnSome, IfSome, IfErr, None, IsOk, All, AllPairs, Contains, HoldsAt, option_copied};
 ghost use Rattle.std.specs.Prelude.{vec_len, vec_capacity};
 ghost use Rattle.std.specs.List.{between};
 ghost use Rattle.causal_model.specs.Items.{is_at, is_filled, Rise};
 ghost use Rattle.op_base.specs.declared.outcome.Item.{Item};
 ghost use Rattle.slab.specs.Slab.{get, ContainsKey, HasRoomFor, slab_len, with_value};
 ghost use Rattle.stable_state.specs.Places.{is_before, is_up_to, with_cell, RisesWithOneAt, IsGapFor, IsSpan, IsParted};
+ghost use Rattle.stable_state.specs.Ranks.{rank_of, IsNamed};
 ghost use Rattle.stable_state.specs.Shelf.{put_at, without_span};
 ghost use Rattle.stable_state.specs.Slots.{items_in, AreCopied};
 ghost use Rattle.stable_state.specs.Touched.{is_touched, StayTouched, KeepTouched, IsLast};
 
-use crate::chunks::CHUNK;
+use crate::chunks::{CHUNK, Spot};
 use crate::order::Order;
-use crate::rank::{Ranked, Sought};
+use crate::rank::{Rank, Ranked, Sought};
 use op_base::{Cell, Item, NoMemory, ObjectId, Value};
 use slab::Slab;
 use std::alloc::Global;
 use std::marker::Model;
+
+/// Where an item would stand that isn't there, and its rank.
+#[derive(Clone, Copy, Drop)]
+pub struct Gap {
+    /// Where it would stand.
+    pub spot: Spot,
+    /// The rank of what is looked for.
+    pub rank: Rank,
+}
+
+/// The first place.
+pub const FIRST: Spot = Spot { place: 0, chunk: 0 };
 
 /// Settled items in their one order. Each stands in a slot that doesn't move, and a list of slots has the order.
 /// Contracts see the items, which of them were touched, and how many more can be put among them without memory. `reserve`
@@ -33,8 +46,8 @@ pub struct Shelf {
     // The slots that were given a cell with an off mark, one entry each time, until they are taken from here. An item that
     // is let go stays in it by its slot.
     touched: Vec<usize>,
-    // The place where an item came, changed or went last, which is looked at first for the next.
-    hint: usize,
+    // Where an item came, changed or went last, which is looked at first for the next.
+    hint: Spot,
 }
 
 impl Model for Shelf {
@@ -58,7 +71,7 @@ impl Shelf {
             slots: Slab::new(alloc),
             order: Order::new(alloc),
             touched: Vec::new(alloc),
-            hint: 0,
+            hint: FIRST,
         }
     }
 
@@ -95,7 +108,7 @@ impl Shelf {
             slots,
             order,
             touched: Vec::new(alloc),
-            hint: 0,
+            hint: FIRST,
         })
     }
 
@@ -124,83 +137,119 @@ impl Shelf {
         &self.slots[self.order.at(place)]
     }
 
-    /// The place of the item of an object and a value, or `Err` with the place where it would stand.
-    pub fn find(&self, object: &ObjectId, value: Option<&Value>) -> Result<usize, usize>
-        ensures within { IfOk result (λ place. place < length self.now.items) }
-        ensures few { length self.now.items < 2 ^ 64 }
-        ensures found { IfOk result
-            (HoldsAt (λ item. is_at object.now (option_copied value.entry) item ≡ true) self.now.items) }
-        ensures absent { IfErr result (IsGapFor object.now (option_copied value.entry) self.now.items) }
-        ensures rises { IfErr result (RisesWithOneAt object.now (option_copied value.entry) self.now.items) }
+    /// The item at a spot's place.
+    pub fn at_near(&self, spot: Spot) -> &Item
+        requires { spot.place < length self.now.items }
+        ensures { slice_get self.now.items spot.place ≡ Some result.now }
     {
-        self.find_near(self.hint, object, value)
+        self.ranked_near(spot).item()
     }
 
-    /// The same, where another place is looked at first than that where an item came, changed or went last.
-    pub fn find_near(
-        &self,
-        near: usize,
-        object: &ObjectId,
-        value: Option<&Value>,
-    ) -> Result<usize, usize>
-        ensures within { IfOk result (λ place. place < length self.now.items) }
+    /// The item at a spot's place with its rank.
+    fn ranked_near(&self, spot: Spot) -> &Ranked
+        requires { spot.place < length self.now.items }
+        ensures { slice_get self.now.items spot.place ≡ Some result.now }
+    {
+        &self.slots[self.order.at_near(spot)]
+    }
+
+    /// Where an item came, changed or went last, which is a good place to look at first. Any spot would do.
+    pub fn hint(&self) -> Spot {
+        self.hint
+    }
+
+    /// A place, with its chunk where an item stands there.
+    pub fn spot_at(&self, place: usize) -> Spot
+        ensures { result.place ≡ place }
+    {
+        if place < self.len() {
+            self.order.spot(place)
+        } else {
+            Spot {
+                place,
+                chunk: self.hint.chunk,
+            }
+        }
+    }
+
+    /// The place of the item of an object and a value, or `Err` with where it would stand. A spot is looked at first.
+    pub fn find(&self, near: Spot, object: &ObjectId, value: Option<&Value>) -> Result<Spot, Gap>
+        ensures within { IfOk result (λ spot. spot.place < length self.now.items) }
         ensures few { length self.now.items < 2 ^ 64 }
         ensures found { IfOk result
-            (HoldsAt (λ item. is_at object.now (option_copied value.entry) item ≡ true) self.now.items) }
-        ensures absent { IfErr result (IsGapFor object.now (option_copied value.entry) self.now.items) }
-        ensures rises { IfErr result (RisesWithOneAt object.now (option_copied value.entry) self.now.items) }
+            (λ spot. HoldsAt (λ item. is_at object.now (option_copied value.entry) item ≡ true) self.now.items spot.place) }
+        ensures absent { IfErr result (λ gap. IsGapFor object.now (option_copied value.entry) self.now.items gap.spot.place) }
+        ensures rises { IfErr result (λ gap. RisesWithOneAt object.now (option_copied value.entry) self.now.items gap.spot.place) }
+        ensures rank { IfErr result (λ gap. gap.rank ≡ rank_of object.now (option_copied value.entry)) }
+        ensures named { IfErr result (λ gap. IsNamed object.now (option_copied value.entry)) }
     {
         let sought = Sought::new(object, value);
-        let place = self.place(near, &sought);
-        if place < self.len() && is_of(self.ranked(place), &sought) {
-            Ok(place)
+        let spot = self.spot(near, &sought);
+        if spot.place < self.len() && is_of(self.ranked_near(spot), &sought) {
+            Ok(spot)
         } else {
-            Err(place)
+            Err(Gap {
+                spot,
+                rank: sought.rank(),
+            })
         }
     }
 
     /// How many of the items are before what is looked for. A place is looked at first.
-    fn place(&self, near: usize, sought: &Sought<'_>) -> usize
-        ensures within { result ≤ length self.now.items }
-        ensures place { IsParted (is_before sought.now.object.now (option_copied sought.now.value)) self.now.items result }
+    fn spot(&self, near: Spot, sought: &Sought<'_>) -> Spot
+        ensures within { result.place ≤ length self.now.items }
+        ensures place { IsParted (is_before sought.now.object.now (option_copied sought.now.value)) self.now.items result.place }
     {
-        if self.is_place(near, sought) {
-            return near;
+        if let Some(spot) = self.spot_near(near, sought) {
+            return spot;
         }
         place_of(&self.slots, &self.order, sought)
     }
 
-    /// Whether the item that is looked for stands at a place, or would stand there.
-    fn is_place(&self, place: usize, sought: &Sought<'_>) -> bool
-        ensures within { result ≡ true → place ≤ length self.now.items }
-        ensures place { result ≡ true → IsParted (is_before sought.now.object.now (option_copied sought.now.value)) self.now.items place }
+    /// The same, where it is a place that is looked at first, or the next. Items often come in their order.
+    fn spot_near(&self, near: Spot, sought: &Sought<'_>) -> Option<Spot>
+        ensures within { IfSome result (λ spot. spot.place ≤ length self.now.items) }
+        ensures place { IfSome result (λ spot. IsParted (is_before sought.now.object.now (option_copied sought.now.value)) self.now.items spot.place) }
     {
-        if place > self.len() {
-            return false;
+        if near.place > self.len() || !self.is_behind(near, sought) {
+            return None;
         }
-        self.is_behind(place, sought) && self.is_up_to(place, sought)
+        if self.is_up_to(near, sought) {
+            return Some(near);
+        }
+        let next = near.next();
+        if self.is_up_to(next, sought) {
+            Some(next)
+        } else {
+            None
+        }
     }
 
-    /// Whether the item at a place, if there is one, isn't before what is looked for.
-    fn is_up_to(&self, place: usize, sought: &Sought<'_>) -> bool
-        ensures { result ≡ true → place < length self.now.items
-            → HoldsAt (λ item. is_before sought.now.object.now (option_copied sought.now.value) item ≡ false) self.now.items place }
+    /// Whether the item at a spot's place, if there is one, isn't before what is looked for.
+    fn is_up_to(&self, spot: Spot, sought: &Sought<'_>) -> bool
+        ensures rise { Rise self.now.items }
+        ensures few { length self.now.items < 2 ^ 64 }
+        ensures up_to { result ≡ true → spot.place < length self.now.items
+            → HoldsAt (λ item. is_before sought.now.object.now (option_copied sought.now.value) item ≡ false) self.now.items spot.place }
+        ensures within { result ≡ false → spot.place < length self.now.items }
+        ensures before { result ≡ false
+            → HoldsAt (λ item. is_before sought.now.object.now (option_copied sought.now.value) item ≡ true) self.now.items spot.place }
     {
-        place >= self.len() || !is_before(self.ranked(place), sought)
+        spot.place >= self.len() || !is_before(self.ranked_near(spot), sought)
     }
 
-    /// Whether the item ahead of a place, if there is one, is before what is looked for.
-    fn is_behind(&self, place: usize, sought: &Sought<'_>) -> bool
-        requires { place ≤ length self.now.items }
-        ensures { result ≡ true → 0 < place
-            → HoldsAt (λ item. is_before sought.now.object.now (option_copied sought.now.value) item ≡ true) self.now.items (place - 1) }
+    /// Whether the item ahead of a spot's place, if there is one, is before what is looked for.
+    fn is_behind(&self, spot: Spot, sought: &Sought<'_>) -> bool
+        requires { spot.place ≤ length self.now.items }
+        ensures { result ≡ true → 0 < spot.place
+            → HoldsAt (λ item. is_before sought.now.object.now (option_copied sought.now.value) item ≡ true) self.now.items (spot.place - 1) }
     {
-        place == 0 || is_before(self.ranked(place - 1), sought)
+        spot.place == 0 || is_before(self.ranked_near(spot.previous()), sought)
     }
 
     /// The places of an object's items: the first, and the one behind the last.
-    pub fn span(&self, object: &ObjectId) -> (usize, usize)
-        ensures { IsSpan object.now self.now.items result.0 result.1 }
+    pub fn span(&self, object: &ObjectId) -> (Spot, usize)
+        ensures { IsSpan object.now self.now.items result.0.place result.1 }
     {
         let from = place_of(&self.slots, &self.order, &Sought::new(object, None));
         (from, self.end(from, object))
@@ -208,41 +257,44 @@ impl Shelf {
 
     /// How many of the items are of an object or of one before it, where so many are of one before it. Most objects have
     /// few items, so the next two are looked at first.
-    fn end(&self, from: usize, object: &ObjectId) -> usize
-        requires within { from ≤ length self.now.items }
-        requires before { IsParted (is_before object.now None) self.now.items from }
+    fn end(&self, from: Spot, object: &ObjectId) -> usize
+        requires within { from.place ≤ length self.now.items }
+        requires before { IsParted (is_before object.now None) self.now.items from.place }
         ensures within { result ≤ length self.now.items }
         ensures place { IsParted (is_up_to object.now) self.now.items result }
     {
         if self.is_end(from, object) {
-            return from;
+            return from.place;
         }
-        if self.is_end(from + 1, object) {
-            return from + 1;
+        let next = from.next();
+        if self.is_end(next, object) {
+            return next.place;
         }
         place_behind(&self.slots, &self.order, object)
     }
 
-    /// Whether no item stands at a place, or one of an object behind this.
-    fn is_end(&self, place: usize, object: &ObjectId) -> bool
-        requires { place ≤ length self.now.items }
+    /// Whether no item stands at a spot's place, or one of an object behind this.
+    fn is_end(&self, spot: Spot, object: &ObjectId) -> bool
+        requires { spot.place ≤ length self.now.items }
         ensures rise { Rise self.now.items }
         ensures few { length self.now.items < 2 ^ 64 }
-        ensures end { result ≡ true → place < length self.now.items
-            → HoldsAt (λ item. is_up_to object.now item ≡ false) self.now.items place }
-        ensures within { result ≡ false → place < length self.now.items }
-        ensures inside { result ≡ false → HoldsAt (λ item. is_up_to object.now item ≡ true) self.now.items place }
+        ensures end { result ≡ true → spot.place < length self.now.items
+            → HoldsAt (λ item. is_up_to object.now item ≡ false) self.now.items spot.place }
+        ensures within { result ≡ false → spot.place < length self.now.items }
+        ensures inside { result ≡ false → HoldsAt (λ item. is_up_to object.now item ≡ true) self.now.items spot.place }
     {
-        place >= self.len() || !is_up_to(self.ranked(place), object)
+        spot.place >= self.len() || !is_up_to(self.ranked_near(spot), object)
     }
 
-    /// Puts an item at its place among the others. With an off mark it is touched. It takes no memory.
-    pub fn insert(&mut self, place: usize, item: Item)
+    /// Puts an item into its gap among the others. With an off mark it is touched. It takes no memory.
+    pub fn insert(&mut self, gap: Gap, item: Item)
         requires spare { 1 ≤ self.old.spare }
-        requires within { place ≤ length self.old.items }
+        requires within { gap.spot.place ≤ length self.old.items }
         requires filled { IsTrue (is_filled item.cell) }
-        requires rise { Rise (put_at place item self.old.items) }
-        ensures items { self.new.items ≡ put_at place item self.old.items }
+        requires rise { Rise (put_at gap.spot.place item self.old.items) }
+        requires rank { gap.rank ≡ rank_of item.object item.value }
+        requires named { IsNamed item.object item.value }
+        ensures items { self.new.items ≡ put_at gap.spot.place item self.old.items }
         ensures stay { StayTouched self.old self.new }
         ensures marked { item.cell.off ≡ true → is_touched self.new.touched item.object item.value ≡ true }
         ensures spare { self.old.spare ≤ self.new.spare + 1 }
@@ -251,23 +303,26 @@ impl Shelf {
         if item.cell.off {
             add(&mut self.touched, slot);
         }
-        self.order.insert(place, slot);
-        self.slots.insert_reserved(Ranked::new(item));
-        self.hint = place;
+        let chunk = self.order.insert(gap.spot, slot);
+        self.slots.insert_reserved(Ranked::new(gap.rank, item));
+        self.hint = Spot {
+            place: gap.spot.place,
+            chunk,
+        };
     }
 
     /// Lets the items go that stand at places from the first up to, and not with, the second. The others keep their
     /// order.
-    pub fn remove_span(&mut self, from: usize, to: usize)
-        requires ordered { from ≤ to }
+    pub fn remove_span(&mut self, from: Spot, to: usize)
+        requires ordered { from.place ≤ to }
         requires within { to ≤ length self.old.items }
-        ensures items { self.new.items ≡ without_span from to self.old.items }
+        ensures items { self.new.items ≡ without_span from.place to self.old.items }
         ensures touched { KeepTouched self.old self.new }
         ensures spare { self.old.spare ≤ self.new.spare }
     {
         self.hint = from;
-        if from < to {
-            self.take_out(from, to);
+        if from.place < to {
+            self.take_out(from.place, to);
         }
     }
 
@@ -283,24 +338,24 @@ impl Shelf {
         self.order.remove_range(from, to);
     }
 
-    /// Gives the item at a place another cell. With an off mark it is touched. It takes no memory.
-    pub fn set_cell(&mut self, place: usize, cell: Cell)
-        requires within { place < length self.old.items }
+    /// Gives the item at a spot's place another cell. With an off mark it is touched. It takes no memory.
+    pub fn set_cell(&mut self, spot: Spot, cell: Cell)
+        requires within { spot.place < length self.old.items }
         requires filled { IsTrue (is_filled cell) }
         requires spare { IsTrue cell.off → 1 ≤ self.old.spare }
-        ensures items { self.new.items ≡ with_cell place cell self.old.items }
+        ensures items { self.new.items ≡ with_cell spot.place cell self.old.items }
         ensures stay { StayTouched self.old self.new }
-        ensures marked { cell.off ≡ true → HoldsAt (λ item. is_touched self.new.touched item.object item.value ≡ true) self.old.items place }
+        ensures marked { cell.off ≡ true → HoldsAt (λ item. is_touched self.new.touched item.object item.value ≡ true) self.old.items spot.place }
         ensures unmarked { cell.off ≡ false → KeepTouched self.old self.new }
         ensures spare { self.old.spare ≤ self.new.spare + 1 }
         ensures kept { cell.off ≡ false → self.old.spare ≤ self.new.spare }
     {
-        let slot = self.order.at(place);
+        let slot = self.order.at_near(spot);
         if cell.off {
             add(&mut self.touched, slot);
         }
         write_cell(&mut self.slots, slot, cell);
-        self.hint = place;
+        self.hint = spot;
     }
 
     /// How many times an item was touched.
@@ -331,7 +386,10 @@ impl Shelf {
     {
         let ranked = self.slots.get(self.touched[self.touched.len() - 1])?;
         let item = ranked.item();
-        self.find(&item.object, item.value.as_ref()).ok()
+        match self.find(self.hint, &item.object, item.value.as_ref()) {
+            Ok(spot) => Some(spot.place),
+            Err(_) => None,
+        }
     }
 }
 
@@ -357,11 +415,11 @@ fn is_up_to(item: &Ranked, object: &ObjectId) -> bool
 }
 
 /// How many of the items in slots are before what is looked for. The items rise.
-fn place_of(slots: &Slab<Ranked>, order: &Order, sought: &Sought<'_>) -> usize
+fn place_of(slots: &Slab<Ranked>, order: &Order, sought: &Sought<'_>) -> Spot
     requires held { All (ContainsKey slots.now) order.now.items }
     requires rise { Rise (items_in slots.now order.now.items) }
-    ensures within { result ≤ length order.now.items }
-    ensures place { IsParted (is_before sought.now.object.now (option_copied sought.now.value)) (items_in slots.now order.now.items) result }
+    ensures within { result.place ≤ length order.now.items }
+    ensures place { IsParted (is_before sought.now.object.now (option_copied sought.now.value)) (items_in slots.now order.now.items) result.place }
 {
     order.partition_point(|slot| match slots.get(*slot) {
         Some(item) => is_before(item, sought),
@@ -376,10 +434,11 @@ fn place_behind(slots: &Slab<Ranked>, order: &Order, object: &ObjectId) -> usize
     ensures within { result ≤ length order.now.items }
     ensures place { IsParted (is_up_to object.now) (items_in slots.now order.now.items) result }
 {
-    order.partition_point(|slot| match slots.get(*slot) {
+    let spot = order.partition_point(|slot| match slots.get(*slot) {
         Some(item) => is_up_to(item, object),
         None => false,
-    })
+    });
+    spot.place
 }
 
 /// Copies the items in the slots of an order into slots that have none, and gives the order of these.

@@ -43,11 +43,12 @@ impl ItemView for ItemSpan<'_> {
     ghost items = { λ span. between span.from span.to span.shelf.now.items };
 
     fn cell(&self, object: &ObjectId, value: Option<&Value>) -> Cell {
-        let Ok(place) = self.shelf.find_near(self.from, object, value) else {
+        let near = self.shelf.spot_at(self.from);
+        let Ok(spot) = self.shelf.find(near, object, value) else {
             return NO_CELL;
         };
-        if (self.from..self.to).contains(&place) {
-            self.shelf.at(place).cell
+        if (self.from..self.to).contains(&spot.place) {
+            self.shelf.at_near(spot).cell
         } else {
             NO_CELL
         }

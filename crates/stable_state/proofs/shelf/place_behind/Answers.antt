@@ -11,5 +11,5 @@ returns-clause-place c =
     let order = c.args.order.now.items in
     let p = is_up_to c.args.object.now in
     let parted = slots_parted p slots order c.requires.held (up_to_parts (items_in slots order) c.requires.rise c.args.object.now) in
-    let point = IsPartitionPoint-from_clause (slot_passes p slots order c.requires.held) _ _ c.partition_point.ensures.partitioned parted (λ a r q k. search rules) in
-    items_parted p slots order c.requires.held c.partition_point.result c.partition_point.ensures.bound point
+    let point = IsPartitionPoint-from_clause (slot_passes p slots order c.requires.held) _ _ c.partition_point-spot.ensures.partitioned parted (λ a r q k. search rules) in
+    items_parted p slots order c.requires.held c.partition_point-spot.result.place c.partition_point-spot.ensures.bound point

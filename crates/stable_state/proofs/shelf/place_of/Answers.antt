@@ -13,4 +13,4 @@ returns-clause-place c =
     let p = is_before c.args.sought.now.object.now (option_copied c.args.sought.now.value) in
     let parted = slots_parted p slots order c.requires.held (before_parts (items_in slots order) c.requires.rise c.args.sought.now.object.now (option_copied c.args.sought.now.value)) in
     let point = IsPartitionPoint-from_clause (slot_passes p slots order c.requires.held) _ _ c.partition_point.ensures.partitioned parted (λ a r q k. search rules) in
-    items_parted p slots order c.requires.held c.partition_point.result c.partition_point.ensures.bound point
+    items_parted p slots order c.requires.held c.partition_point.result.place c.partition_point.ensures.bound point

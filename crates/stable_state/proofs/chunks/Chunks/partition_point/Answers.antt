@@ -43,8 +43,8 @@ bound g c =
     let l : k < length parts = omega (arith, within g c, ap (λ v. length v.parts) c.self.view_is, length-map c.self.inside.lists.items (λ v. v.items)) in
     omega (arith, c.start.ensures, c.partition_point.ensures.bound, ap length (part_of g c), start_more parts k l, start_le parts (suc k))
 
-pub overflow_add-result : goal.overflow_add-result
-overflow_add-result g c =
+pub overflow_add-place : goal.overflow_add-place
+overflow_add-place g c =
     let s = c.self.inside in
     omega (arith, bound g c, slots_few s.lists.items c.self.invariant.lists, c.self.invariant.few, ap (λ v. length (concat v.parts)) c.self.view_is)
 

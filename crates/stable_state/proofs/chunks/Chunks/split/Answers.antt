@@ -68,9 +68,9 @@ invariant_of-self c =
     let first : IsFree upper = free.1 in
     let was : IsChunk list = subst IsChunk (sym c.index_mut.ensures.value) (held.lists k list l) in
     let old : list.items ≡ get_or (parts_of lists) k [] = part_is lists k list l c.index_mut.ensures.value in
-    let long : 256 ≤ length list.items = omega (arith, c.requires.long, ap length old, ap (λ v. length (get_or v.parts k [])) c.self.view_is) in
-    let lo_long : length lo.items ≡ 256 = ap length c.halve-moved.ensures.lower ∙ length-take-le 256 list.items long in
-    let up_long : length up.items ≡ length list.items - 256 = ap length c.halve-moved.ensures.upper ∙ length-drop 256 list.items in
+    let long : 128 ≤ length list.items = omega (arith, c.requires.long, ap length old, ap (λ v. length (get_or v.parts k [])) c.self.view_is) in
+    let lo_long : length lo.items ≡ 128 = ap length c.halve-moved.ensures.lower ∙ length-take-le 128 list.items long in
+    let up_long : length up.items ≡ length list.items - 128 = ap length c.halve-moved.ensures.upper ∙ length-drop 128 list.items in
     let lists_are : c.put_in-2.new.list.items ≡ take k lists ++ lo ∷ up ∷ drop (k + 1) lists = c.put_in-2.ensures.items ∙ two_for_one lists k lo up l in
     let more : length c.put_in-2.new.list.items ≡ length lists + 1 = omega (arith, ap length c.put_in-2.ensures.items, length-insert (set lists k lo) (k + 1) up (omega (arith, l, length-set lists k lo)), length-set lists k lo) in
     let fewer : length c.take_last-upper.new.self.items + 1 ≡ length s.free.items = omega (arith, ap length c.take_last-upper.ensures.items, length-append c.take_last-upper.new.self.items (upper ∷ [])) in
@@ -102,6 +102,6 @@ returns-clause-parts c =
     let l = in_lists s c.args.self.now k c.self.view_is c.requires.chunk in
     let old : list.items ≡ get_or (parts_of lists) k [] = part_is lists k list l c.index_mut.ensures.value in
     ap parts_of (c.put_in-2.ensures.items ∙ two_for_one lists k lo up l) ∙ parts_split lists k lo up
-    ∙ ap (λ xs. take k (parts_of lists) ++ xs ∷ up.items ∷ drop (k + 1) (parts_of lists)) (c.halve-moved.ensures.lower ∙ ap (take 256) old)
-    ∙ ap (λ xs. take k (parts_of lists) ++ take 256 (get_or (parts_of lists) k []) ∷ xs ∷ drop (k + 1) (parts_of lists)) (c.halve-moved.ensures.upper ∙ ap (drop 256) old)
-    ∙ ap (λ v. take k v.parts ++ take 256 (get_or v.parts k []) ∷ drop 256 (get_or v.parts k []) ∷ drop (k + 1) v.parts) c.self.view_is
+    ∙ ap (λ xs. take k (parts_of lists) ++ xs ∷ up.items ∷ drop (k + 1) (parts_of lists)) (c.halve-moved.ensures.lower ∙ ap (take 128) old)
+    ∙ ap (λ xs. take k (parts_of lists) ++ take 128 (get_or (parts_of lists) k []) ∷ xs ∷ drop (k + 1) (parts_of lists)) (c.halve-moved.ensures.upper ∙ ap (drop 128) old)
+    ∙ ap (λ v. take k v.parts ++ take 128 (get_or v.parts k []) ∷ drop 128 (get_or v.parts k []) ∷ drop (k + 1) v.parts) c.self.view_is

@@ -23,18 +23,18 @@ pub with_act-cell-requires : goal.with_act-cell-requires
 with_act-cell-requires c =
     let u = c.args.update in
     let items = c.args.self.now.shelf.items in
-    let found = subst (λ v. HoldsAt (λ x. is_at u.object v x ≡ true) items c.in-Ok.place) c.value_of.ensures c.in-Ok.ensures.found in
-    subst (λ (cell : Cell). IsWithin (2 ^ 127) (cell.sum +ℤ amount_of u.act)) (cell_found u.object (value_of u.act) items c.in-Ok.place c.at.result.now c.args.self.now.rise found c.at.ensures) c.requires.range
+    let found = subst (λ v. HoldsAt (λ x. is_at u.object v x ≡ true) items c.in-Ok.spot.place) c.value_of.ensures c.in-Ok.ensures.found in
+    subst (λ (cell : Cell). IsWithin (2 ^ 127) (cell.sum +ℤ amount_of u.act)) (cell_found u.object (value_of u.act) items c.in-Ok.spot.place c.at_near.result.now c.args.self.now.rise found c.at_near.ensures) c.requires.range
 
 pub returns-in-Ok-clause-cells : goal.returns-in-Ok-clause-cells
 returns-in-Ok-clause-cells c =
     let u = c.args.update in
     let items = c.args.self.now.shelf.items in
-    let found = subst (λ v. HoldsAt (λ x. is_at u.object v x ≡ true) items c.in-Ok.place) c.value_of.ensures c.in-Ok.ensures.found in
-    let is = cell_found u.object (value_of u.act) items c.in-Ok.place c.at.result.now c.args.self.now.rise found c.at.ensures in
+    let found = subst (λ v. HoldsAt (λ x. is_at u.object v x ≡ true) items c.in-Ok.spot.place) c.value_of.ensures c.in-Ok.ensures.found in
+    let is = cell_found u.object (value_of u.act) items c.in-Ok.spot.place c.at_near.result.now c.args.self.now.rise found c.at_near.ensures in
     cell_changed items c.replace.new.self.shelf.items u c.with_act-cell.result (c.with_act-cell.ensures ∙ ap (with_act u.act) (sym is)) (λ object value.
     ap (λ xs. cell_in xs object value) c.replace.ensures.items
-    ∙ cell_replaced_at u.object (value_of u.act) items c.in-Ok.place c.at.result.now c.args.self.now.rise found c.at.ensures c.with_act-cell.result object value)
+    ∙ cell_replaced_at u.object (value_of u.act) items c.in-Ok.spot.place c.at_near.result.now c.args.self.now.rise found c.at_near.ensures c.with_act-cell.result object value)
 
 pub returns-in-Err-clause-cells : goal.returns-in-Err-clause-cells
 returns-in-Err-clause-cells c =
@@ -42,11 +42,11 @@ returns-in-Err-clause-cells c =
     let items = c.args.self.now.shelf.items in
     let cell = c.with_act-cell-in-Err.result in
     let item : Item = record { object = u.object; value = c.into_value-value.result; cell = cell } in
-    let gap = subst (λ v. IsGapFor u.object v items c.in-Err.place) c.value_of.ensures c.in-Err.ensures.absent in
-    let gap_of_item = subst (λ v. IsGapFor u.object v items c.in-Err.place) (sym c.into_value-value.ensures) gap in
-    cell_changed items c.put.new.self.shelf.items u cell (c.with_act-cell-in-Err.ensures ∙ ap (with_act u.act) (sym (cell_of_gap u.object (value_of u.act) items c.in-Err.place gap))) (λ object value.
+    let gap = subst (λ v. IsGapFor u.object v items c.in-Err.gap.spot.place) c.value_of.ensures c.in-Err.ensures.absent in
+    let gap_of_item = subst (λ v. IsGapFor u.object v items c.in-Err.gap.spot.place) (sym c.into_value-value.ensures) gap in
+    cell_changed items c.put.new.self.shelf.items u cell (c.with_act-cell-in-Err.ensures ∙ ap (with_act u.act) (sym (cell_of_gap u.object (value_of u.act) items c.in-Err.gap.spot.place gap))) (λ object value.
     ap (λ xs. cell_in xs object value) c.put.ensures.items
-    ∙ cell_put items c.in-Err.place item gap_of_item object value
+    ∙ cell_put items c.in-Err.gap.spot.place item gap_of_item object value
     ∙ ap (λ v. if is_place u.object v object value then cell else cell_in items object value) c.into_value-value.ensures)
 
 -- the cell that was put there has an off mark where the new one has
@@ -63,16 +63,16 @@ pub returns-in-Ok-clause-marked : goal.returns-in-Ok-clause-marked
 returns-in-Ok-clause-marked c = λ off.
     let u = c.args.update in
     let items = c.args.self.now.shelf.items in
-    let found = subst (λ v. HoldsAt (λ x. is_at u.object v x ≡ true) items c.in-Ok.place) c.value_of.ensures c.in-Ok.ensures.found in
-    let is = cell_found u.object (value_of u.act) items c.in-Ok.place c.at.result.now c.args.self.now.rise found c.at.ensures in
-    touched_at_found c.replace.new.self.shelf.touched items c.in-Ok.place u.object (value_of u.act) found
+    let found = subst (λ v. HoldsAt (λ x. is_at u.object v x ≡ true) items c.in-Ok.spot.place) c.value_of.ensures c.in-Ok.ensures.found in
+    let is = cell_found u.object (value_of u.act) items c.in-Ok.spot.place c.at_near.result.now c.args.self.now.rise found c.at_near.ensures in
+    touched_at_found c.replace.new.self.shelf.touched items c.in-Ok.spot.place u.object (value_of u.act) found
     (c.replace.ensures.marked (put_off items c.replace.new.self.shelf.items u c.with_act-cell.result (c.with_act-cell.ensures ∙ ap (with_act u.act) (sym is)) (returns-in-Ok-clause-cells c) off))
 
 pub returns-in-Err-clause-marked : goal.returns-in-Err-clause-marked
 returns-in-Err-clause-marked c = λ off.
     let u = c.args.update in
     let items = c.args.self.now.shelf.items in
-    let gap = subst (λ v. IsGapFor u.object v items c.in-Err.place) c.value_of.ensures c.in-Err.ensures.absent in
-    let is = c.with_act-cell-in-Err.ensures ∙ ap (with_act u.act) (sym (cell_of_gap u.object (value_of u.act) items c.in-Err.place gap)) in
+    let gap = subst (λ v. IsGapFor u.object v items c.in-Err.gap.spot.place) c.value_of.ensures c.in-Err.ensures.absent in
+    let is = c.with_act-cell-in-Err.ensures ∙ ap (with_act u.act) (sym (cell_of_gap u.object (value_of u.act) items c.in-Err.gap.spot.place gap)) in
     ap (is_touched c.put.new.self.shelf.touched u.object) (sym c.into_value-value.ensures)
     ∙ c.put.ensures.marked (put_off items c.put.new.self.shelf.items u c.with_act-cell-in-Err.result is (returns-in-Err-clause-cells c) off)

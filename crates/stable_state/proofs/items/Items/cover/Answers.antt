@@ -11,14 +11,14 @@ invariant_of-self c =
     let old = c.args.self.now in
     let is = sym c.remove_span.ensures.items in
     record {
-      rise = subst Rise is (rise_without (covers_place (op.Update c.args.update.now)) old.shelf.items _ _ c.covered_span-from.ensures old.rise);
-      filled = subst AreFilled is (filled_without (covers_place (op.Update c.args.update.now)) old.shelf.items _ _ c.covered_span-from.ensures old.filled);
+      rise = subst Rise is (rise_without (covers_place (op.Update c.args.update.now)) old.shelf.items _ _ c.covered_span-to.ensures old.rise);
+      filled = subst AreFilled is (filled_without (covers_place (op.Update c.args.update.now)) old.shelf.items _ _ c.covered_span-to.ensures old.filled);
     }
 
 pub returns-clause-cells : goal.returns-clause-cells
 returns-clause-cells c = λ object value.
     ap (λ items. cell_in items object value) c.remove_span.ensures.items
-    ∙ cell_without (covers_place (op.Update c.args.update.now)) c.args.self.now.shelf.items _ _ c.covered_span-from.ensures object value
+    ∙ cell_without (covers_place (op.Update c.args.update.now)) c.args.self.now.shelf.items _ _ c.covered_span-to.ensures object value
 
 pub returns-clause-of : goal.returns-clause-of
 returns-clause-of c = λ h m is of.

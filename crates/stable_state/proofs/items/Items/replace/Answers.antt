@@ -8,17 +8,17 @@ use Rattle.stable_state.proofs.items.Items.replace.Goals as goal
 pub invariant_of-self : goal.invariant_of-self
 invariant_of-self c =
     let old = c.args.self.now in
-    let is : c.set_cell.new.self.items ≡ replaced c.args.place c.args.cell old.shelf.items = c.set_cell.ensures.items ∙ sym (cond-true (is_filled c.args.cell) _ _ (sym c.is_filled.ensures ∙ c.if-is_filled.true)) in
+    let is : c.set_cell.new.self.items ≡ replaced c.args.spot.place c.args.cell old.shelf.items = c.set_cell.ensures.items ∙ sym (cond-true (is_filled c.args.cell) _ _ (sym c.is_filled.ensures ∙ c.if-is_filled.true)) in
     record {
-      rise = subst Rise (sym is) (rise_at old.shelf.items c.args.place old.rise c.requires.within c.args.cell);
-      filled = subst AreFilled (sym is) (filled_at old.shelf.items c.args.place old.rise c.requires.within c.args.cell old.filled);
+      rise = subst Rise (sym is) (rise_at old.shelf.items c.args.spot.place old.rise c.requires.within c.args.cell);
+      filled = subst AreFilled (sym is) (filled_at old.shelf.items c.args.spot.place old.rise c.requires.within c.args.cell old.filled);
     }
 
 pub invariant_of-self-else-is_filled : goal.invariant_of-self-else-is_filled
 invariant_of-self-else-is_filled c =
     let old = c.args.self.now in
-    let is : c.remove_span.new.self.items ≡ replaced c.args.place c.args.cell old.shelf.items = c.remove_span.ensures.items ∙ sym (cond-false (is_filled c.args.cell) _ _ (sym c.is_filled.ensures ∙ c.if-is_filled.false)) in
+    let is : c.remove_span.new.self.items ≡ replaced c.args.spot.place c.args.cell old.shelf.items = c.remove_span.ensures.items ∙ sym (cond-false (is_filled c.args.cell) _ _ (sym c.is_filled.ensures ∙ c.if-is_filled.false)) in
     record {
-      rise = subst Rise (sym is) (rise_at old.shelf.items c.args.place old.rise c.requires.within c.args.cell);
-      filled = subst AreFilled (sym is) (filled_at old.shelf.items c.args.place old.rise c.requires.within c.args.cell old.filled);
+      rise = subst Rise (sym is) (rise_at old.shelf.items c.args.spot.place old.rise c.requires.within c.args.cell);
+      filled = subst AreFilled (sym is) (filled_at old.shelf.items c.args.spot.place old.rise c.requires.within c.args.cell old.filled);
     }

@@ -30,7 +30,7 @@ record IsLeft (parts : List (List ℕ)) (k first removed : ℕ) (new : List (Lis
   is : new ≡ set parts k part
   long : length part + removed ≡ length (get_or parts k [])
   slots : concat new ≡ remove_range (concat parts) (length (concat (take k parts)) + first) (length (concat (take k parts)) + (first + removed))
-  excess : excess_of new + (length (get_or parts k []) - 256) ≡ excess_of parts + (length part - 256)
+  excess : excess_of new + (length (get_or parts k []) - 128) ≡ excess_of parts + (length part - 128)
 
 left : (parts : List (List ℕ)) (from k first removed : ℕ) (new : List (List ℕ)) → IsTaken parts from k first removed
     → new ≡ set parts k (remove_range (get_or parts k []) first (first + removed)) → IsLeft parts k first removed new

@@ -7,16 +7,18 @@ use Rattle.stable_state.proofs.shelf.Shelf.end.Goals as goal
 pub returns-then-is_end-clause-place : goal.returns-then-is_end-clause-place
 returns-then-is_end-clause-place c =
     let items = c.args.self.now.items in
-    let from = c.args.from in
+    let from = c.args.from.place in
     up_to_there items from c.is_end.ensures.rise c.requires.within c.args.object.now
     (λ some d. before_is_up_to c.args.object.now (get_or items (from - 1) d) (c.requires.before.0 (from - 1) d (omega arith) (omega (arith, some)))) (c.is_end.ensures.end c.if-is_end.true)
 
 pub returns-then-is_end-2-clause-place : goal.returns-then-is_end-2-clause-place
 returns-then-is_end-2-clause-place c =
     let items = c.args.self.now.items in
-    let from = c.args.from in
-    let back : from ≡ from + 1 - 1 = omega arith in
-    up_to_there items (from + 1) c.is_end.ensures.rise (omega (arith, c.is_end.ensures.within c.if-is_end.false)) c.args.object.now
+    let from = c.args.from.place in
+    let next = c.next-next.result.place in
+    let is : next ≡ from + 1 = c.next-next.ensures in
+    let back : from ≡ next - 1 = omega (arith, is) in
+    up_to_there items next c.is_end.ensures.rise (omega (arith, is, c.is_end.ensures.within c.if-is_end.false)) c.args.object.now
     (λ _. subst (λ k. HoldsAt (λ item. is_up_to c.args.object.now item ≡ true) items k) back (c.is_end.ensures.inside c.if-is_end.false)) (c.is_end-2.ensures.end c.if-is_end-2.true)
 
 pub returns : goal.returns

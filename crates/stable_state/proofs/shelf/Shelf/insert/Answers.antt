@@ -54,11 +54,11 @@ changes c =
     subst (λ slots. Updates slots new c.vacant_key-slot.result (Some c.args.item)) (noted c).slots
     (subst (λ k. Updates c.if-item.self-inside.slots new k (Some c.args.item)) key (subst (λ item. Updates c.if-item.self-inside.slots new c.insert_reserved.result (Some item)) c.new.ensures c.insert_reserved.ensures.updates))
 
-within : (c : goal.After-self-1) → c.args.place ≤ length c.self.inside.order.items
+within : (c : goal.After-self-1) → c.args.gap.spot.place ≤ length c.self.inside.order.items
 within c = omega (arith, c.requires.within, ap (λ shelved. length shelved.items) c.self.view_is, length-map c.self.inside.order.items (item_in c.self.inside.slots))
 
-order_is : (c : goal.After-self-1) → c.insert.new.self.items ≡ insert c.self.inside.order.items c.args.place c.vacant_key-slot.result
-order_is c = c.insert.ensures.items ∙ ap (λ order. insert order.items c.args.place c.vacant_key-slot.result) (noted c).order
+order_is : (c : goal.After-self-1) → c.insert-chunk.new.self.items ≡ insert c.self.inside.order.items c.args.gap.spot.place c.vacant_key-slot.result
+order_is c = c.insert-chunk.ensures.items ∙ ap (λ order. insert order.items c.args.gap.spot.place c.vacant_key-slot.result) (noted c).order
 
 pub invariant_of-self : goal.invariant_of-self
 invariant_of-self c =
@@ -66,16 +66,16 @@ invariant_of-self c =
     let new = c.insert_reserved.new.self in
     let len = c.insert_reserved.ensures.len ∙ ap (λ slots. slab_len slots + 1) (noted c).slots in
     let room : slab_len s.slots + 1 ≤ new.capacity = omega (arith, ap (λ shelved. shelved.spare) c.self.view_is, c.requires.spare, c.insert_reserved.ensures.capacity, ap (λ slots. slots.capacity) (noted c).slots) in
-    let rise = subst (λ items. Rise (insert items c.args.place c.args.item)) (sym (ap (λ shelved. shelved.items) c.self.view_is)) c.requires.rise in
+    let rise = subst (λ items. Rise (insert items c.args.gap.spot.place c.args.item)) (sym (ap (λ shelved. shelved.items) c.self.view_is)) c.requires.rise in
     subst (IsOrdered new) (sym (order_is c))
-    (ordered-insert s.slots new s.order.items c.args.place c.vacant_key-slot.result c.args.item c.self.invariant (within c) c.vacant_key-slot.ensures.vacant (changes c) len room c.requires.filled rise)
+    (ordered-insert s.slots new s.order.items c.args.gap.spot.place c.vacant_key-slot.result c.args.item c.self.invariant (within c) c.vacant_key-slot.ensures.vacant (changes c) len room c.requires.filled rise)
 
 pub returns-clause-items : goal.returns-clause-items
 returns-clause-items c =
     let s = c.self.inside in
     ap (items_in c.insert_reserved.new.self) (order_is c)
-    ∙ items-insert s.slots c.insert_reserved.new.self s.order.items c.args.place c.vacant_key-slot.result c.args.item c.self.invariant (within c) c.vacant_key-slot.ensures.vacant (changes c)
-    ∙ ap (λ shelved. insert shelved.items c.args.place c.args.item) c.self.view_is
+    ∙ items-insert s.slots c.insert_reserved.new.self s.order.items c.args.gap.spot.place c.vacant_key-slot.result c.args.item c.self.invariant (within c) c.vacant_key-slot.ensures.vacant (changes c)
+    ∙ ap (λ shelved. insert shelved.items c.args.gap.spot.place c.args.item) c.self.view_is
 
 pub returns-clause-stay : goal.returns-clause-stay
 returns-clause-stay c = λ object value t off.
@@ -101,7 +101,7 @@ returns-clause-spare c =
       c.insert_reserved.ensures.capacity,
       ap (λ slots. slab_len slots) n.slots,
       ap (λ slots. slots.capacity) n.slots,
-      c.insert.ensures.spare,
+      c.insert-chunk.ensures.spare,
       ap (λ order. order.spare) n.order,
       n.room,
       n.len,

@@ -15,27 +15,27 @@ use Rattle.stable_state.proofs.Touched.{touched_in, touched_moves, touched-push}
 use Rattle.stable_state.proofs.shelf.Shelf.set_cell.Goals as goal
 use Rattle.stable_state.proofs.shelf.Shelf.set_cell.Goals.{then-cell, else-cell}
 
-within : (c : goal.After-self-1) → c.args.place < length c.self.inside.order.items
+within : (c : goal.After-spot-1) → c.args.spot.place < length c.self.inside.order.items
 within c = omega (arith, c.requires.within, ap (λ shelved. length shelved.items) c.self.view_is, length-map c.self.inside.order.items (item_in c.self.inside.slots))
 
 -- the slots with the item's new cell
-abbrev renewed : goal.After-self-1 → Slab Item
-renewed c = written c.self.inside.slots c.self.inside.order.items c.args.place c.at-slot.result c.args.cell c.self.invariant (within c) (sym c.at-slot.ensures)
+abbrev renewed : goal.After-spot-1 → Slab Item
+renewed c = written c.self.inside.slots c.self.inside.order.items c.args.spot.place c.at_near-slot.result c.args.cell c.self.invariant (within c) (sym c.at_near-slot.ensures)
 
 -- what the fields are where the branches meet
-record Noted (c : goal.After-self-1) : Type 0 where
+record Noted (c : goal.After-spot-1) : Type 0 where
   slots : c.if-cell.self-inside.slots ≡ c.self.inside.slots
   order : c.if-cell.self-inside.order ≡ c.self.inside.order
   more : (slot : ℕ) → Contains c.self.inside.touched.items slot → Contains c.if-cell.self-inside.touched.items slot
-  marked : c.args.cell.off ≡ true → c.if-cell.self-inside.touched.items ≡ c.self.inside.touched.items ++ c.at-slot.result ∷ []
+  marked : c.args.cell.off ≡ true → c.if-cell.self-inside.touched.items ≡ c.self.inside.touched.items ++ c.at_near-slot.result ∷ []
   unmarked : c.args.cell.off ≡ false → c.if-cell.self-inside.touched.items ≡ c.self.inside.touched.items
   room : vec_capacity c.self.inside.touched ≤ vec_capacity c.if-cell.self-inside.touched
   len : length c.if-cell.self-inside.touched.items ≤ length c.self.inside.touched.items + 1
 
-noted : (c : goal.After-self-1) → Noted c
+noted : (c : goal.After-spot-1) → Noted c
 noted c =
     let s = c.self.inside in
-    let slot = c.at-slot.result in
+    let slot = c.at_near-slot.result in
     elim c.if-cell.branch [
       | then-cell w ↦
           let is : c.if-cell.self-inside.touched.items ≡ s.touched.items ++ slot ∷ [] = ap (λ i. i.touched.items) w.self-inside-is ∙ w.add.ensures.items in
@@ -59,34 +59,34 @@ noted c =
       }
     ]
 
-written_is : (c : goal.After-self-1) → c.write_cell.new.slots ≡ renewed c
+written_is : (c : goal.After-spot-1) → c.write_cell.new.slots ≡ renewed c
 written_is c =
     let s = c.self.inside in
-    let slot = c.at-slot.result in
-    let held = subst (λ k. IsSome (get s.slots k)) (sym c.at-slot.ensures) (c.self.invariant.held c.args.place slot (within c)) in
+    let slot = c.at_near-slot.result in
+    let held = subst (λ k. IsSome (get s.slots k)) (sym c.at_near-slot.ensures) (c.self.invariant.held c.args.spot.place slot (within c)) in
     c.write_cell.ensures.written (item_in s.slots slot) (ap (λ slots. get slots slot) (noted c).slots ∙ held_item s.slots slot held)
     ∙ ap (λ slots. with_value slots slot (record (item_in s.slots slot) { cell = c.args.cell })) (noted c).slots
 
 pub invariant_of-self : goal.invariant_of-self
 invariant_of-self c =
     let s = c.self.inside in
-    let ordered = ordered-write s.slots s.order.items c.args.place c.at-slot.result c.args.cell c.self.invariant (within c) (sym c.at-slot.ensures) c.requires.filled in
+    let ordered = ordered-write s.slots s.order.items c.args.spot.place c.at_near-slot.result c.args.cell c.self.invariant (within c) (sym c.at_near-slot.ensures) c.requires.filled in
     subst (λ slots. IsOrdered slots c.if-cell.self-inside.order.items) (sym (written_is c)) (subst (λ order. IsOrdered (renewed c) order.items) (sym (noted c).order) ordered)
 
 pub returns-clause-items : goal.returns-clause-items
 returns-clause-items c =
     let s = c.self.inside in
     (λ i. items_in (written_is c i) ((noted c).order i).items)
-    ∙ items-write s.slots s.order.items c.args.place c.at-slot.result c.args.cell c.self.invariant (within c) (sym c.at-slot.ensures)
-    ∙ ap (λ shelved. with_cell c.args.place c.args.cell shelved.items) c.self.view_is
+    ∙ items-write s.slots s.order.items c.args.spot.place c.at_near-slot.result c.args.cell c.self.invariant (within c) (sym c.at_near-slot.ensures)
+    ∙ ap (λ shelved. with_cell c.args.spot.place c.args.cell shelved.items) c.self.view_is
 
 -- what was touched is so still
-touched_still : (c : goal.After-self-1) (object : ObjectId) (value : Option (List ℕ)) → is_touched c.args.self.now.touched object value ≡ true → is_touched (touched_in c.write_cell.new.slots c.if-cell.self-inside.touched.items) object value ≡ true
+touched_still : (c : goal.After-spot-1) (object : ObjectId) (value : Option (List ℕ)) → is_touched c.args.self.now.touched object value ≡ true → is_touched (touched_in c.write_cell.new.slots c.if-cell.self-inside.touched.items) object value ≡ true
 touched_still c object value t =
     let s = c.self.inside in
     touched_moves object value s.slots c.write_cell.new.slots s.touched.items c.if-cell.self-inside.touched.items (noted c).more (λ slot at.
     ap (λ slots. is_one_at object value (get slots slot)) (written_is c)
-    ∙ one_at-write s.slots s.order.items c.args.place c.at-slot.result c.args.cell c.self.invariant (within c) (sym c.at-slot.ensures) object value slot ∙ at)
+    ∙ one_at-write s.slots s.order.items c.args.spot.place c.at_near-slot.result c.args.cell c.self.invariant (within c) (sym c.at_near-slot.ensures) object value slot ∙ at)
     (ap (λ shelved. is_touched shelved.touched object value) c.self.view_is ∙ t)
 
 pub returns-clause-stay : goal.returns-clause-stay
@@ -96,13 +96,13 @@ pub returns-clause-marked : goal.returns-clause-marked
 returns-clause-marked c = λ off d.
     let s = c.self.inside in
     let order = s.order.items in
-    let slot = c.at-slot.result in
-    let here : get_or c.args.self.now.items c.args.place d ≡ item_in s.slots slot =
-    ap (λ shelved. get_or shelved.items c.args.place d) (sym c.self.view_is) ∙ item_at_place s.slots order c.args.place slot d (within c) ∙ ap (item_in s.slots) (sym c.at-slot.ensures) in
+    let slot = c.at_near-slot.result in
+    let here : get_or c.args.self.now.items c.args.spot.place d ≡ item_in s.slots slot =
+    ap (λ shelved. get_or shelved.items c.args.spot.place d) (sym c.self.view_is) ∙ item_at_place s.slots order c.args.spot.place slot d (within c) ∙ ap (item_in s.slots) (sym c.at_near-slot.ensures) in
     let Touched : Item → Type 0 = λ item. is_touched (touched_in c.write_cell.new.slots c.if-cell.self-inside.touched.items) item.object item.value ≡ true in
     subst Touched (sym here)
     ((λ i. is_touched (touched_in (written_is c i) ((noted c).marked off i)) (item_in s.slots slot).object (item_in s.slots slot).value)
-    ∙ touched-push (renewed c) s.touched.items slot (record (item_in s.slots slot) { cell = c.args.cell }) (found s.slots order c.args.place slot c.args.cell c.self.invariant (within c) (sym c.at-slot.ensures)))
+    ∙ touched-push (renewed c) s.touched.items slot (record (item_in s.slots slot) { cell = c.args.cell }) (found s.slots order c.args.spot.place slot c.args.cell c.self.invariant (within c) (sym c.at_near-slot.ensures)))
 
 pub returns-clause-unmarked : goal.returns-clause-unmarked
 returns-clause-unmarked c = λ off.
@@ -116,19 +116,19 @@ returns-clause-unmarked c = λ off.
           sym (ap (λ shelved. is_touched shelved.touched object value) c.self.view_is)
           ∙ touched_moves object value slots s.slots touched s.touched.items (λ slot has. subst (λ xs. Contains xs slot) ((noted c).unmarked off) has) (λ slot at.
           sym (ap (λ all. is_one_at object value (get all slot)) (written_is c)
-          ∙ one_at-write s.slots s.order.items c.args.place c.at-slot.result c.args.cell c.self.invariant (within c) (sym c.at-slot.ensures) object value slot) ∙ at) t;
+          ∙ one_at-write s.slots s.order.items c.args.spot.place c.at_near-slot.result c.args.cell c.self.invariant (within c) (sym c.at_near-slot.ensures) object value slot) ∙ at) t;
     }
 
 pub returns-clause-spare : goal.returns-clause-spare
 returns-clause-spare c =
     let s = c.self.inside in
     let n = noted c in
-    let len = len-write s.slots s.order.items c.args.place c.at-slot.result c.args.cell c.self.invariant (within c) (sym c.at-slot.ensures) in
+    let len = len-write s.slots s.order.items c.args.spot.place c.at_near-slot.result c.args.cell c.self.invariant (within c) (sym c.at_near-slot.ensures) in
     omega (arith, ap (λ shelved. shelved.spare) c.self.view_is, ap (λ slots. slab_len slots) (written_is c), ap (λ slots. slots.capacity) (written_is c), len, ap (λ order. order.spare) n.order, n.room, n.len)
 
 pub returns-clause-kept : goal.returns-clause-kept
 returns-clause-kept c off =
     let s = c.self.inside in
     let n = noted c in
-    let len = len-write s.slots s.order.items c.args.place c.at-slot.result c.args.cell c.self.invariant (within c) (sym c.at-slot.ensures) in
+    let len = len-write s.slots s.order.items c.args.spot.place c.at_near-slot.result c.args.cell c.self.invariant (within c) (sym c.at_near-slot.ensures) in
     omega (arith, ap (λ shelved. shelved.spare) c.self.view_is, ap (λ slots. slab_len slots) (written_is c), ap (λ slots. slots.capacity) (written_is c), len, ap (λ order. order.spare) n.order, n.room, ap length (n.unmarked off))

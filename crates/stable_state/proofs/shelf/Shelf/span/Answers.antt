@@ -14,7 +14,7 @@ returns c =
     let is = ap (λ shelved. shelved.items) c.self.view_is in
     let sought = c.new.result in
     let all = items_in slots c.self.inside.order.items in
-    let parted : IsParted (is_before object None) all c.place_of-from.result =
-    subst (λ o. IsParted (is_before o None) all c.place_of-from.result) c.new.ensures.object (subst (λ v. IsParted (is_before sought.object.now v) all c.place_of-from.result) c.new.ensures.value c.place_of-from.ensures.place) in
-    let first = point_moves (is_before object None) slots c.self.inside.order.items items c.place_of-from.result is c.place_of-from.ensures.within parted in
-    span_is object items (subst Rise is c.self.invariant.rise) c.place_of-from.result c.end.result first.0 c.end.ensures.within first.1 c.end.ensures.place
+    let parted : IsParted (is_before object None) all c.place_of-from.result.place =
+    subst (λ o. IsParted (is_before o None) all c.place_of-from.result.place) c.new.ensures.object (subst (λ v. IsParted (is_before sought.object.now v) all c.place_of-from.result.place) c.new.ensures.value c.place_of-from.ensures.place) in
+    let first = point_moves (is_before object None) slots c.self.inside.order.items items c.place_of-from.result.place is c.place_of-from.ensures.within parted in
+    span_is object items (subst Rise is c.self.invariant.rise) c.place_of-from.result.place c.end.result first.0 c.end.ensures.within first.1 c.end.ensures.place
