@@ -22,12 +22,10 @@ use Rattle.list_type.specs.Chained.{first_slot, row_at, Stands, IsHeld, OfSlot, 
 use Rattle.list_type.specs.Heads.{takes_by}
 use Rattle.list_type.specs.Listed.{Listed, AreListsOf}
 use Rattle.list_type.specs.ListFields.{element_in, elements_in}
-use Rattle.list_type.specs.Removals.{is_hidden}
 use Rattle.list_type.specs.declared.lists.Content.{Content}
 use Rattle.list_type.specs.declared.tree.Node.{Node}
 use Rattle.list_type.proofs.Places.{further}
 use Rattle.list_type.proofs.Taken.{none_behind, none_left}
-use Rattle.list_type.proofs.TakenOut.{taken_parted}
 
 -- ---- a walk over a row
 
@@ -124,15 +122,6 @@ module _ (object : ObjectId) (epoch : ℕ) where
   pub shown_by_own : (entries : List Entry) (node : Node Content) → All (λ e. IsTrue (is_on object (message_of e))) entries
       → (not node.gone && not (list_any (λ e. takes_by epoch e node.value.id) entries)) ≡ is_shown object epoch (map message_of entries) (element_in node)
   shown_by_own entries node own = ap (λ b. not node.gone && not b) (own_taken entries node.value.id own)
-
-  -- and isn't where it is hidden
-  pub hidden_by_own : (entries : List Entry) (e : KeptElement) → All (λ d. IsTrue (is_on object (message_of d))) entries
-      → is_hidden epoch entries entries e ≡ not (is_shown object epoch (map message_of entries) e)
-  hidden_by_own entries e own = ap (λ b. e.gone || b) (sym (taken_parted epoch entries e.id) ∙ own_taken entries e.id own) ∙ turned e.gone (list_any (λ d. takes object epoch d e.id) (map message_of entries)) where
-    turned : (a b : Bool) → (a || b) ≡ not (not a && not b)
-    turned true b = refl
-    turned false true = refl
-    turned false false = refl
 
 -- what a test of what is shown leaves of a history's list
 module _ (lists : Listed) (object : ObjectId) (epoch : ℕ) (entries : List Entry) (h : History) (is_list : object.kind ≡ kinds.List) (epoch_is : epoch ≡ epoch_of h)

@@ -261,10 +261,6 @@ module _ (passes : ElementId → Bool) where
   elements_gone [] = refl
   elements_gone (x ∷ xs) = ap (λ l. gone_where passes (element_in x.1) ∷ l) (elements_gone xs)
 
-  pub keys_gone : (xs : List (ℕ × Node Content)) → keys (nodes_gone_where passes xs) ≡ keys xs
-  keys_gone [] = refl
-  keys_gone (x ∷ xs) = ap (λ l. key_of x ∷ l) (keys_gone xs)
-
   pub last_gone : (xs : List (ℕ × Node Content)) (other : Option ℕ) → last_or (nodes_gone_where passes xs) other ≡ last_or xs other
   last_gone [] other = refl
   last_gone (x ∷ xs) other = last_gone xs (Some x.0)

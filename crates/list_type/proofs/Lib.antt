@@ -18,5 +18,4 @@ pub mod PutElements
 pub mod Inserted
 pub mod Asked
 pub mod TakenOut
-pub mod OneHidden
-pub mod NamedIds
+pub mod LinkedDeletions

@@ -1,6 +1,6 @@
 -- Places in rows: where nothing stands ahead, the next one, and that a slot ahead stands in its row.
 use Rattle.std.proofs.Common.{◌≡◌, ℕ, ◌<◌, List, [], ◌∷◌, ◌++◌, length, Option, Some, None, refl, sym, ap, subst, ◌∙◌, append_assoc}
-use Rattle.list_type.specs.Chained.{last_or, first_slot, last_slot, row_at, Stands, IsHeld, IsParted, IsPlace}
+use Rattle.list_type.specs.Chained.{last_or, first_slot, last_slot, row_at, Stands, IsParted}
 
 module _ {T : Type 0} where
   -- a row's front
@@ -54,11 +54,6 @@ module _ {T : Type 0} where
         stands = record { within = parted.within; here = parted.here ∙ ap (λ xs. xs ++ after) end.is ∙ append_assoc end.front ((slot, end.value) ∷ []) after };
       }
 
-  pub ahead_stands : (rows : List (List (ℕ × T))) (row slot : ℕ) → IsPlace rows row (Some slot) → IsHeld rows slot
-  ahead_stands rows row slot place =
-      let last = last_stands rows row slot place.0 place.1 place.2 in
-      (row, last.front, last.value, place.1, last.stands)
-
   -- a walk over a row: a place of it, and the slot behind
   pub record Reaches (rows : List (List (ℕ × T))) (row : ℕ) (ahead next : Option ℕ) : Type 0 where
     pub before : List (ℕ × T)
@@ -89,12 +84,6 @@ module _ {T : Type 0} where
           stands = record { within = there.within; here = there.here };
           behind = further rows row at.before after ahead (slot, x.1) there;
         }
-
-  pub reaches_front : (rows : List (List (ℕ × T))) (row : ℕ) (next : Option ℕ) → row < length rows → next ≡ first_slot (row_at rows row) → Reaches rows row None next
-  reaches_front rows row next within is = record { before = []; after = row_at rows row; parted = front rows row within; next_is = is }
-
-  pub reaches_further : (rows : List (List (ℕ × T))) (row slot : ℕ) (next : Option ℕ) (met : Meets rows row slot) → next ≡ first_slot met.after → Reaches rows row (Some slot) next
-  reaches_further rows row slot next met is = record { before = met.before ++ (slot, met.value) ∷ []; after = met.after; parted = met.behind; next_is = is }
 
   -- what stands behind a slot that stands in a row
   pub next_meets : (rows : List (List (ℕ × T))) (row slot : ℕ) (before : List (ℕ × T)) (value : T) (after : List (ℕ × T)) (next : Option ℕ) (k : ℕ) → Stands rows row before slot value after → next ≡ first_slot after → next ≡ Some k → Meets rows row k

@@ -1,5 +1,5 @@
 -- What the log's entries of an object take out is what clears do and what deletions do.
-use Rattle.std.proofs.Common.{◌≡◌, ℕ, ◌+◌, max, Bool, true, false, not, cond, ◌&&◌, ◌||◌, ◌==◌, nat_lt, nat_le, if◌then◌else◌, List, refl, sym, ap, ◌∙◌, inl, inr, arith}
+use Rattle.std.proofs.Common.{◌≡◌, ℕ, ◌+◌, max, Bool, true, false, not, ◌&&◌, ◌||◌, ◌==◌, nat_lt, nat_le, if◌then◌else◌, List, refl, sym, ap, ◌∙◌, inl, inr, arith}
 use Rattle.std.specs.Prelude.{slice_index}
 use Rattle.std.specs.List.{list_any}
 use Rattle.std.proofs.lemmas.Bool.{cases_eq}
@@ -11,11 +11,10 @@ use Rattle.op_base.specs.declared.message.Message.{Message}
 use Rattle.op_base.specs.declared.operation.Act.{Act}
 use Rattle.op_base.specs.declared.operation.Act.TheVariants as acts
 use Rattle.op_base.specs.declared.tag.ElementId.{ElementId}
-use Rattle.causal_model.specs.Elements.{same_element, takes_out}
+use Rattle.causal_model.specs.Elements.{takes_out}
 use Rattle.causal_model.specs.ListSteps.{had_seen}
 use Rattle.causal_model.specs.Log.{message_of}
 use Rattle.causal_model.proofs.Elements.{list_any-or}
-use Rattle.causal_model.proofs.KeptOfOneMore.{one_element}
 use Rattle.list_type.specs.Heads.{takes_by}
 use Rattle.list_type.specs.Removals.{is_clear, is_deletion, clears_by, deletes_by, seen_below, is_cleared}
 use Rattle.list_type.specs.declared.removals.Clears.{Clears}
@@ -82,19 +81,3 @@ join_takes old new epoch m id any below =
 pub none_more : (cleared test seen : Bool) → test ≡ false → cleared ≡ (cleared || (test && seen))
 none_more true test seen is = refl
 none_more false test seen is = sym (ap (λ b. b && seen) is)
-
--- ---- deletions
-
--- an element that is the one deleted was seen where that was
-pub seen_alike : (other id : ElementId) (seen : ElementId → Bool) (was : Bool) → seen other ≡ was → (same_element other id && seen id) ≡ (same_element other id && was)
-seen_alike other id seen was is = by (same_element other id) refl where
-  by : (b : Bool) → same_element other id ≡ b → (b && seen id) ≡ (b && was)
-  by true same = sym (ap seen (one_element other id same)) ∙ is
-  by false same = refl
-
--- one key more
-pub one_more : (b had : Bool) → cond b true had ≡ (had || b)
-one_more true true = refl
-one_more true false = refl
-one_more false true = refl
-one_more false false = refl

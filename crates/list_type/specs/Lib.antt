@@ -12,5 +12,5 @@ pub mod Shown
 pub mod Heads
 pub mod Putting
 pub mod Taking
+pub mod Deletions
 pub mod Removals
-pub mod Named

@@ -1,6 +1,5 @@
 -- What the log's entries of an object take out, by clears and by deletions.
-use Rattle.std.specs.Prelude.{◌≡◌, ℕ, ◌+◌, ◌<◌, Bool, true, false, ◌&&◌, ◌||◌, ◌==◌, nat_lt, List, Option, Some, None, slice_index, if◌then◌else◌}
-use Rattle.std.specs.HashSet.{contains}
+use Rattle.std.specs.Prelude.{◌≡◌, ℕ, ◌+◌, ◌<◌, Bool, true, false, ◌&&◌, ◌||◌, ◌==◌, nat_lt, min, List, length, slice_index, if◌then◌else◌}
 use Rattle.std.specs.List.{list_any}
 use Rattle.op_base.specs.Timestamp.{entry}
 use Rattle.op_base.specs.declared.message.Entry.{Entry}
@@ -9,9 +8,9 @@ use Rattle.op_base.specs.declared.operation.Act.{Act}
 use Rattle.op_base.specs.declared.operation.Act.TheVariants.{Clear, Del}
 use Rattle.op_base.specs.declared.tag.ElementId.{ElementId}
 use Rattle.causal_model.specs.Elements.{same_element}
-use Rattle.causal_model.specs.KeptElements.{KeptElement}
 use Rattle.causal_model.specs.ListSteps.{had_seen}
 use Rattle.causal_model.specs.Log.{message_of}
+use Rattle.list_type.specs.Deletions.{AreLinked}
 use Rattle.list_type.specs.declared.removals.Clears.{Clears}
 use Rattle.list_type.specs.declared.removals.Removals.{Removals}
 
@@ -24,11 +23,6 @@ is_clear act = false
 abbrev pub is_deletion : ElementId → Act → Bool
 is_deletion id (Del other) = same_element other id
 is_deletion id act = false
-
--- whether an element is this one, if there is one
-abbrev pub is_it : Option ElementId → ElementId → Bool
-is_it None id = false
-is_it (Some other) id = same_element other id
 
 -- whether an entry of an epoch clears an element
 abbrev pub clears_by : ℕ → Entry → ElementId → Bool
@@ -53,8 +47,4 @@ AreJoined clears epoch entries = (id : ElementId) → id.origin < 16 → is_clea
 -- what clears and deletions take out are the removals of these entries
 pub record AreTold (removals : Removals) (epoch : ℕ) (entries : List Entry) : Type 0 where
   pub joined : AreJoined removals.clears epoch entries
-  pub deleted : (id : ElementId) → contains same_element removals.deleted id ≡ list_any (λ e. deletes_by epoch e id) entries
-
--- whether an element isn't shown for what the entries clear, and what some of them delete
-abbrev pub is_hidden : ℕ → List Entry → List Entry → KeptElement → Bool
-is_hidden epoch entries some e = e.gone || (list_any (λ d. clears_by epoch d e.id) entries || list_any (λ d. deletes_by epoch d e.id) some)
+  pub linked : AreLinked removals.deletions entries (min (length entries) 1024)

@@ -3,10 +3,10 @@
 
 mod asking;
 mod chain;
+mod deletions;
 mod head;
 mod laws;
 mod lists;
-mod named;
 mod putting;
 mod removals;
 mod taking;

@@ -1,25 +1,22 @@
-//! What the log's entries of an object take out of its list, told in one pass for all of its elements.
+//! What the log's entries of an object take out of its list, told once for all of its elements.
 
-ghost use Rattle.std.specs.Prelude.{◌≡◌, ℕ, ◌<◌, max, ◌||◌, true, slice_index, IfOk};
-ghost use Rattle.std.specs.HashSet.{contains};
+ghost use Rattle.std.specs.Prelude.{◌≡◌, ℕ, ◌<◌, max, ◌||◌, true, [], slice_index};
 ghost use Rattle.std.specs.List.{list_any};
 ghost use Rattle.op_base.specs.declared.tag.ElementId.{ElementId as AnElement};
-ghost use Rattle.causal_model.specs.Elements.{same_element};
 ghost use Rattle.list_type.specs.Heads.{head_of, takes_by};
-ghost use Rattle.list_type.specs.Removals.{is_clear, clears_by, is_deletion, is_it, deletes_by, seen_below, is_cleared, AreJoined, AreTold};
+ghost use Rattle.list_type.specs.Removals.{is_clear, clears_by, seen_below, is_cleared, AreJoined, AreTold};
 
+use crate::deletions::Deletions;
 use crate::head::Head;
-use op_base::{Act, ElementId, Entry, NoMemory};
-use std::alloc::Global;
-use std::collections::HashSet;
+use op_base::{Act, ElementId, Entry};
 
 /// What clears take out: what earlier epochs put in, and of each member's elements of this epoch those below a number.
-#[derive(Clone, Copy)]
-pub(crate) struct Clears {
+#[derive(Drop)]
+struct Clears {
     /// Whether there is a clear.
-    pub(crate) any: bool,
+    any: bool,
     /// The number, at each member.
-    pub(crate) below: [u64; 16],
+    below: [u64; 16],
 }
 
 /// Whether an act is a clear.
@@ -40,19 +37,34 @@ fn does_clear(epoch: u32, entry: &Entry, id: ElementId) -> bool
     is_clear(entry.update.act()) && Head::of(epoch, entry).had_seen(id)
 }
 
+/// Whether one of the entries clears an element.
+#[inline(never)]
+fn is_cleared(epoch: u32, entries: &[Entry], id: &ElementId) -> bool
+    ensures { result ≡ list_any (λ e. clears_by epoch e id.now) entries.now }
+{
+    entries.iter().any(|entry| does_clear(epoch, entry, *id))
+}
+
 impl Clears {
-    /// Those of an object's entries of an epoch.
-    pub(crate) fn of(epoch: u32, entries: &[Entry]) -> Clears
-        ensures { AreJoined result epoch entries.now }
+    /// No clear was read.
+    #[inline(always)]
+    fn none() -> Clears
+        ensures { (epoch : ℕ) → AreJoined result epoch [] }
     {
-        let mut joined = Clears {
+        Clears {
             any: false,
             below: [0; 16],
-        };
-        for entry in entries {
-            joined.take_in(epoch, entry);
         }
-        joined
+    }
+
+    /// Reads an object's entries of an epoch.
+    fn read(&mut self, epoch: u32, entries: &[Entry])
+        requires { AreJoined self.old epoch [] }
+        ensures { AreJoined self.new epoch entries.now }
+    {
+        for entry in entries {
+            self.take_in(epoch, entry);
+        }
     }
 
     /// What an entry clears is taken out too.
@@ -76,12 +88,13 @@ impl Clears {
     }
 
     /// Whether a clear takes an element out.
-    pub(crate) fn take(&self, epoch: u32, entries: &[Entry], id: ElementId) -> bool
+    #[inline(always)]
+    fn take(&self, epoch: u32, entries: &[Entry], id: &ElementId) -> bool
         requires { AreJoined self.now epoch entries.now }
-        ensures { result ≡ list_any (λ e. clears_by epoch e id) entries.now }
+        ensures { result ≡ list_any (λ e. clears_by epoch e id.now) entries.now }
     {
         if id.origin >= 16 {
-            return entries.iter().any(|entry| does_clear(epoch, entry, id));
+            return is_cleared(epoch, entries, id);
         }
         if id.epoch == epoch {
             u64::from(id.seq) < self.below[id.origin as usize]
@@ -91,92 +104,45 @@ impl Clears {
     }
 }
 
-/// What clears and deletions take out.
+/// What clears and deletions take out. It is filled where it stands, since a copy would take as long as many looks.
 #[derive(Drop)]
 pub(crate) struct Removals {
     /// The clears.
     clears: Clears,
-    /// The elements that deletions take out.
-    deleted: HashSet<ElementId>,
+    /// The deletions.
+    deletions: Deletions,
 }
 
 impl Removals {
-    /// Those of an object's entries of an epoch. `NoMemory` leaves nothing behind.
-    pub(crate) fn of(alloc: Global, epoch: u32, entries: &[Entry]) -> Result<Removals, NoMemory>
-        ensures { IfOk result (λ removals. AreTold removals epoch entries.now) }
+    /// No entry was read.
+    #[inline(always)]
+    pub(crate) fn none() -> Removals
+        ensures { (epoch : ℕ) → AreTold result epoch [] }
     {
-        Ok(Removals {
-            clears: Clears::of(epoch, entries),
-            deleted: deleted(alloc, epoch, entries)?,
-        })
+        Removals {
+            clears: Clears::none(),
+            deletions: Deletions::none(),
+        }
+    }
+
+    /// Reads an object's entries of an epoch.
+    pub(crate) fn read(&mut self, epoch: u32, entries: &[Entry])
+        requires { AreTold self.old epoch [] }
+        ensures { AreTold self.new epoch entries.now }
+    {
+        self.clears.read(epoch, entries);
+        self.deletions.read(entries);
     }
 
     /// Whether one of the entries takes an element out.
-    pub(crate) fn take(&self, epoch: u32, entries: &[Entry], id: ElementId) -> bool
+    #[inline(always)]
+    pub(crate) fn take(&self, epoch: u32, entries: &[Entry], id: &ElementId) -> bool
         requires { AreTold self.now epoch entries.now }
-        ensures { result ≡ list_any (λ e. takes_by epoch e id) entries.now }
+        ensures { result ≡ list_any (λ e. takes_by epoch e id.now) entries.now }
     {
-        self.clears.take(epoch, entries, id) || self.deleted.contains(&id)
-    }
-}
-
-/// The element that an act deletes, if it's a deletion.
-fn named(act: &Act) -> Option<ElementId>
-    ensures { (id : AnElement) → is_deletion id act.now ≡ is_it result id }
-{
-    match act {
-        Act::Del(id) => Some(*id),
-        Act::Add(_) | Act::Rmv(_) | Act::Write(_) | Act::Enable | Act::Disable => None,
-        Act::Inc(_) | Act::Dec(_) | Act::Ins(_, _) | Act::Clear => None,
-    }
-}
-
-/// The element that an entry of an epoch deletes, if its sender had seen it.
-pub(crate) fn deletion(epoch: u32, entry: &Entry) -> Option<ElementId>
-    ensures { (id : AnElement) → deletes_by epoch entry.now id ≡ is_it result id }
-{
-    let id = named(entry.update.act())?;
-    if Head::of(epoch, entry).had_seen(id) {
-        Some(id)
-    } else {
-        None
-    }
-}
-
-/// Whether an act is the deletion of an element.
-fn is_deletion(act: &Act, id: ElementId) -> bool
-    ensures { result ≡ is_deletion id act.now }
-{
-    match act {
-        Act::Del(other) => *other == id,
-        Act::Add(_) | Act::Rmv(_) | Act::Write(_) | Act::Enable | Act::Disable => false,
-        Act::Inc(_) | Act::Dec(_) | Act::Ins(_, _) | Act::Clear => false,
-    }
-}
-
-/// Whether an entry of an epoch deletes an element.
-fn does_delete(epoch: u32, entry: &Entry, id: ElementId) -> bool
-    ensures { result ≡ deletes_by epoch entry.now id }
-{
-    is_deletion(entry.update.act(), id) && Head::of(epoch, entry).had_seen(id)
-}
-
-/// Whether one of the entries deletes an element.
-pub(crate) fn is_deleted(epoch: u32, entries: &[Entry], id: ElementId) -> bool
-    ensures { result ≡ list_any (λ e. deletes_by epoch e id) entries.now }
-{
-    entries.iter().any(|entry| does_delete(epoch, entry, id))
-}
-
-/// The elements that an object's entries of an epoch delete.
-fn deleted(alloc: Global, epoch: u32, entries: &[Entry]) -> Result<HashSet<ElementId>, NoMemory>
-    ensures { IfOk result (λ ids. (id : AnElement) → contains same_element ids id ≡ list_any (λ e. deletes_by epoch e id) entries.now) }
-{
-    let mut ids = HashSet::new(alloc);
-    for entry in entries {
-        if let Some(id) = deletion(epoch, entry) {
-            ids.insert(id)?;
+        if entries.is_empty() {
+            return false;
         }
+        self.clears.take(epoch, entries, id) || self.deletions.take(epoch, entries, id)
     }
-    Ok(ids)
 }

@@ -51,3 +51,6 @@ returns-clause-ids c =
 
 pub returns-clause-of : goal.returns-clause-of
 returns-clause-of c = ids_of (shown c.args.self.now) c.args.object.now c.args.epoch c.args.entries.now c.loop.ids (returns-clause-ids c)
+
+pub read-requires : goal.read-requires
+read-requires c = c.none-removals.ensures c.args.epoch

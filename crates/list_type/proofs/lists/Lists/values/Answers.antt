@@ -51,3 +51,6 @@ returns-clause-values c =
 
 pub returns-clause-of : goal.returns-clause-of
 returns-clause-of c = values_of (shown c.args.self.now) c.args.object.now c.args.epoch c.args.entries.now c.loop.values (returns-clause-values c)
+
+pub read-requires : goal.read-requires
+read-requires c = c.none-removals.ensures c.args.epoch
