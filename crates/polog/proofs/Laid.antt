@@ -89,10 +89,6 @@ pub each-of-items : {E : Type 0} (P : E → Type 0) (rs : List (ℕ × E)) → E
 each-of-items P [] each = tt
 each-of-items P (r ∷ rs) each = (each.0, each-of-items P rs each.1)
 
-pub each-items : {E : Type 0} (P : E → Type 0) (rs : List (ℕ × E)) → Each (λ r. P r.1) rs → Each P (items_of rs)
-each-items P [] each = tt
-each-items P (r ∷ rs) each = (each.0, each-items P rs each.1)
-
 -- an entry put behind all that stand no higher
 pub laid-more : (n next at : ℕ) (rs : List (ℕ × Entry)) (e : Entry) → IsLaid n next rs
     → Each (λ f. is_le (object_cmp f.update.object e.update.object) ≡ true) (take at (items_of rs)) → Each (λ f. is_le (object_cmp f.update.object e.update.object) ≡ false) (drop at (items_of rs))

@@ -1,5 +1,6 @@
 pub mod Orders
 pub mod Tables
+pub mod Stamps
 pub mod Places
 pub mod Moves
 pub mod Laid

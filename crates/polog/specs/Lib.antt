@@ -1,5 +1,6 @@
 pub mod Value
 pub mod Standing
 pub mod Order
+pub mod Marks
 pub mod Rows
 pub mod Laws

@@ -6,7 +6,9 @@
 
 mod ids;
 mod laws;
+mod marks;
 mod polog;
+mod reach;
 mod rows;
 mod search;
 mod sweep;
@@ -17,3 +19,4 @@ pub use laws::{
     a_pruned_log_has_room, what_is_logged_can_be_stripped, what_is_not_kept_changes_nothing,
 };
 pub use polog::Polog;
+pub use reach::Reach;

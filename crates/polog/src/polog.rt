@@ -10,10 +10,12 @@ ghost use Rattle.op_base.specs.declared.name.ObjectId.{ObjectId};
 ghost use Rattle.op_base.specs.declared.operation.Update.{Update};
 ghost use Rattle.causal_model.specs.Log.{message_of};
 ghost use Rattle.polog.specs.Value.{Log, with_entries, with_entry, with_stripped, without_stable, without_first, is_settled, is_of, stays};
+ghost use Rattle.polog.specs.Marks.{Reaches};
 ghost use Rattle.polog.specs.Order.{Pairwise};
 ghost use Rattle.polog.specs.Standing.{IsLogOf, KeepsPruned, KeepsLogged, KeepsStripped, KeepsHandingOut, KeepsStripping, AreLoggedOf, TellWhatIsLogged};
 
 use crate::ids::{numbered_ids, without_numbers};
+use crate::reach::{Reach, look_of};
 use crate::rows::Rows;
 use crate::search::{count_through, span, span_of};
 use crate::sweep::{first_settled, keep_unstable, move_tail, prune_span, sort, sort_falling};
@@ -100,9 +102,21 @@ impl Polog {
         // where it was the log of what a member delivered, it is the same without what the message covers
         ensures pruned { KeepsPruned (T.covers rule.now) message.now self.old self.new }
     {
+        self.prune_within(message, rule, Reach::Object);
+    }
+
+    /// Prunes as `prune` does, where it is known what the message's operation may reach: where `reach` is `Value`, entries with
+    /// another mark are passed over, but where the object has two at most, and behind the fourth that goes.
+    pub fn prune_within<T: TypeRule>(&mut self, message: &Message, rule: &T, reach: Reach)
+        requires fits { IsTrue (fits self.old.n message.now) }
+        requires reach { Reaches reach (T.covers rule.now) message.now.op }
+        ensures kept { self.new ≡ with_entries self.old (filter (stays (T.covers rule.now) message.now) self.old.entries) }
+        ensures pruned { KeepsPruned (T.covers rule.now) message.now self.old self.new }
+    {
         if let Op::Update(update) = &message.op {
             let (from, to) = span_of(self.rows.entries(), &update.object, self.last);
-            let kept = prune_span(&mut self.rows, from, to, message, rule);
+            let look = look_of(reach, update.act(), to - from);
+            let kept = prune_span(&mut self.rows, from, to, message, rule, look);
             self.last = (from, kept);
         }
     }

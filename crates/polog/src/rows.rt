@@ -1,12 +1,14 @@
-//! Entries beside the numbers of their arrival.
+//! Entries beside the stamps of their arrival.
 
-ghost use Rattle.std.specs.Prelude.{◌≡◌, ◌<◌, ◌≤◌, ℕ, [], ◌∷◌, ◌++◌, length, take, drop, slice_index_or, vec_len, vec_capacity, IfOk, IfNone};
+ghost use Rattle.std.specs.Prelude.{◌≡◌, ◌≢◌, ◌<◌, ◌≤◌, ℕ, [], ◌∷◌, ◌++◌, length, take, drop, slice_index_or, vec_len, vec_capacity, IfOk, IfNone};
 ghost use Rattle.std.specs.List.{insert, remove, swap};
 ghost use Rattle.std.specs.Option.{option_to_list};
 ghost use Rattle.op_base.specs.declared.message.Entry.{Entry};
+ghost use Rattle.polog.specs.Marks.{mark_of};
 ghost use Rattle.polog.specs.Order.{items_of};
 ghost use Rattle.polog.specs.Rows.{Table, with_rows, turned};
 
+use crate::marks::{Stamp, mark_of, next_marked};
 use op_base::{Entry, NoMemory};
 use std::alloc::Global;
 use std::marker::Model;
@@ -17,21 +19,23 @@ use std::marker::Model;
 pub struct Rows {
     room: usize,
     entries: Vec<Entry>,
-    /// The number of each entry.
-    numbers: Vec<u64>,
+    /// The stamp of each entry.
+    stamps: Vec<Stamp>,
 }
 
 impl Model for Rows {
     ghost use Rattle.std.specs.Prelude.{◌≡◌, ◌≤◌, length, vec_capacity};
+    ghost use Rattle.polog.specs.Marks.{AreMarked};
     ghost use Rattle.polog.specs.Order.{rows};
     ghost use Rattle.polog.specs.Rows.{Table};
 
     ghost Value = { Table };
 
-    ghost view = { λ t. record { room = t.room; rows = rows t.numbers.items t.entries.items } };
+    ghost view = { λ t. record { room = t.room; rows = rows t.stamps.items t.entries.items } };
 
-    ghost invariant = { λ t. (length t.numbers.items ≡ length t.entries.items)
-        × (t.room ≤ vec_capacity t.entries) × (t.room ≤ vec_capacity t.numbers) };
+    ghost invariant = { λ t. (length t.stamps.items ≡ length t.entries.items)
+        × (t.room ≤ vec_capacity t.entries) × (t.room ≤ vec_capacity t.stamps)
+        × AreMarked t.stamps.items t.entries.items };
 }
 
 impl Rows {
@@ -42,7 +46,7 @@ impl Rows {
         Ok(Rows {
             room,
             entries: Vec::with_capacity(alloc, room)?,
-            numbers: Vec::with_capacity(alloc, room)?,
+            stamps: Vec::with_capacity(alloc, room)?,
         })
     }
 
@@ -80,7 +84,19 @@ impl Rows {
         requires { at < length self.now.rows }
         ensures { (d : ℕ × Entry) → result ≡ (slice_index_or self.now.rows at d).0 }
     {
-        self.numbers[at]
+        self.stamps[at].number
+    }
+
+    /// The first place from a place on and up to a later one where the entry's act has a mark, or the later place.
+    pub fn next_marked(&self, mark: u32, from: usize, to: usize) -> usize
+        requires order { from ≤ to }
+        requires places { to ≤ length self.now.rows }
+        ensures least { from ≤ result }
+        ensures most { result ≤ to }
+        ensures passed { (k : ℕ) (d : ℕ × Entry) → from ≤ k → k < result → mark_of (slice_index_or self.now.rows k d).1.update.act ≢ mark }
+        ensures marked { (d : ℕ × Entry) → result < to → mark_of (slice_index_or self.now.rows result d).1.update.act ≡ mark }
+    {
+        next_marked(&self.stamps, mark, from, to)
     }
 
     /// Puts a row in at a place.
@@ -89,8 +105,9 @@ impl Rows {
         requires room { length self.old.rows < self.old.room }
         ensures { self.new ≡ with_rows self.old (insert self.old.rows at (number, entry)) }
     {
+        let mark = mark_of(entry.update.act());
         put(&mut self.entries, at, entry);
-        put(&mut self.numbers, at, number);
+        put(&mut self.stamps, at, Stamp { number, mark });
     }
 
     /// Exchanges two rows. Where they are one, nothing is moved.
@@ -101,7 +118,7 @@ impl Rows {
     {
         if a != b {
             self.entries.swap(a, b);
-            self.numbers.swap(a, b);
+            self.stamps.swap(a, b);
         }
     }
 
@@ -113,7 +130,7 @@ impl Rows {
         ensures { self.new ≡ with_rows self.old (turned to from end self.old.rows) }
     {
         turn(&mut self.entries, to, from, end);
-        turn(&mut self.numbers, to, from, end);
+        turn(&mut self.stamps, to, from, end);
     }
 
     /// Lets go of the rows from one place up to another.
@@ -124,7 +141,7 @@ impl Rows {
     {
         if from < to {
             drop(self.entries.drain(from..to));
-            drop(self.numbers.drain(from..to));
+            drop(self.stamps.drain(from..to));
         }
     }
 
@@ -134,7 +151,7 @@ impl Rows {
         ensures entry { (d : ℕ × Entry) → result ≡ (slice_index_or self.old.rows at d).1 }
         ensures others { self.new ≡ with_rows self.old (remove self.old.rows at) }
     {
-        self.numbers.remove(at);
+        self.stamps.remove(at);
         self.entries.remove(at)
     }
 
@@ -144,7 +161,7 @@ impl Rows {
         ensures room { self.new.room ≡ self.old.room }
         ensures rows { self.old.rows ≡ self.new.rows ++ option_to_list result }
     {
-        Some((self.numbers.pop()?, self.entries.pop()?))
+        Some((self.stamps.pop()?.number, self.entries.pop()?))
     }
 }
 
@@ -156,11 +173,10 @@ fn put<T>(items: &mut Vec<T>, at: usize, item: T)
     ensures items { items.new.items ≡ insert items.old.items at item }
     ensures capacity { vec_capacity items.old ≤ vec_capacity items.new }
 {
-    // There is room, so this needs no memory.
-    if at == items.len() {
-        items.push(item).unwrap();
-    } else {
-        items.insert(at, item).unwrap();
+    let behind = at < items.len();
+    items.push_reserved(item);
+    if behind {
+        items[at..].rotate_right(1);
     }
 }
 

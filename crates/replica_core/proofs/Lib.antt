@@ -8,6 +8,7 @@ pub mod Keeps
 pub mod Made
 pub mod Own
 pub mod Ranges
+pub mod Reaches
 pub mod Receives
 pub mod Regroups
 pub mod Sends

@@ -6,29 +6,23 @@ use Rattle.std.proofs.Math.Dec.{T_prop}
 use Rattle.std.proofs.lemmas.Bool.{cond-true, cond-false, cases_Bool}
 use Rattle.std.proofs.lemmas.List.Filters.{length-filter_both}
 use Rattle.op_base.specs.Message.{fits, id_of, number}
-use Rattle.op_base.specs.Object.{same_object}
 use Rattle.op_base.specs.declared.message.Entry.{Entry}
 use Rattle.op_base.specs.declared.message.Message.{Message}
 use Rattle.op_base.specs.declared.name.Kind.{Kind}
 use Rattle.op_base.specs.declared.name.Kind.TheVariants.{AwSet, RwSet, EwFlag, DwFlag, MvReg, Counter, RCounter}
 use Rattle.op_base.specs.declared.name.Kind.TheVariants as kinds
-use Rattle.op_base.specs.declared.name.ObjectId.{ObjectId}
-use Rattle.op_base.specs.declared.operation.Act.{Act}
-use Rattle.op_base.specs.declared.operation.Act.TheVariants.{Ins}
 use Rattle.op_base.specs.declared.operation.Op.{Op}
 use Rattle.op_base.specs.declared.operation.Op.TheVariants as op
 use Rattle.op_base.specs.declared.operation.Update.{Update}
 use Rattle.op_base.specs.declared.tag.MessageId.{MessageId}
 use Rattle.causal_model.specs.Acts.{value_of}
 use Rattle.causal_model.specs.CellSteps.{is_counter, cell_uncovered, cell_absorbed, cell_moved}
-use Rattle.causal_model.specs.Elements.{same_element, element_of, puts_at}
-use Rattle.causal_model.specs.KeptElements.{kept_elements}
+use Rattle.causal_model.specs.Elements.{same_element, element_of}
 use Rattle.causal_model.specs.Laws.Events.{present_event}
-use Rattle.causal_model.specs.ListSteps.{insertion_of, insertion_in, kept_put}
-use Rattle.causal_model.specs.Log.{log_of, stripped_of, is_kept, is_covered_by, kept_log}
+use Rattle.causal_model.specs.Log.{stripped_of, is_kept, is_covered_by, kept_log}
 use Rattle.causal_model.specs.Chapter.{is_chapter}
 use Rattle.causal_model.specs.Covering.{store_keeps, store_covers}
-use Rattle.causal_model.specs.History.{History, with_message, epoch_of}
+use Rattle.causal_model.specs.History.{History, with_message}
 use Rattle.causal_model.specs.Items.{cell_in}
 use Rattle.causal_model.specs.Order.{happened_before}
 use Rattle.causal_model.proofs.Histories.{IsHistory-from_test, IsLimited-from_test}
@@ -44,9 +38,8 @@ use Rattle.stable_state.specs.Laws.{HasRange}
 use Rattle.stable_state.specs.Shelf.{Shelved}
 use Rattle.stable_state.specs.Standing.{AreSettledOf, AreAbsorbed, AreMoved}
 use Rattle.stable_state.proofs.Moves.{covered_is_absorbed, all_are_moved, not_applied, moved_at_once, sum_fits}
-use Rattle.list_type.specs.Listed.{Listed, AreListsOf, AreListsMoved, AreWithin}
+use Rattle.list_type.specs.Listed.{Listed, AreListsMoved, AreWithin}
 use Rattle.list_type.specs.Putting.{IsFresh}
-use Rattle.replica_core.proofs.Insertions.{insertion_is_not_kept, insertion_is_of_list}
 use Rattle.replica_core.specs.Insertions.{is_insertion, element_room, entry_put, CanBePut}
 use Rattle.replica_core.specs.Settling.{AreReady, AreLogged, with_logged, applied_of, room_of, CanBeApplied}
 use Rattle.replica_core.proofs.Steps.{last_fits}
@@ -117,32 +110,6 @@ entry_is_put epoch origin tag o u lists is puts =
 -- it is a proposition that it is new
 pub fresh_is_prop : (epoch : ℕ) (entry : Entry) (lists : Listed) → IsProp (IsFresh epoch entry lists)
 fresh_is_prop epoch entry lists = hlevel props
-
-either_way : {X : Type 0} (b : Bool) (x : X) → (if b then x else x) ≡ x
-either_way true x = refl
-either_way false x = refl
-
--- no other operation puts an element in
-puts_in_none : (object : ObjectId) (o : Op) → is_insertion o ≡ false → insertion_in object o ≡ None
-puts_in_none object op.NoOp other = refl
-puts_in_none object (op.Update u) other = by u.act refl where
-  by : (act : Act) → u.act ≡ act → (if same_object u.object object then insertion_of act else None) ≡ None
-  by (Ins v place) is = let no : true ≡ false = ap (puts_at (λ place. true)) (sym is) ∙ other in absurd (cc)
-  by act is = either_way (same_object u.object object) None
-
--- where a message is no insertion, no list gets one
-pub none_is_put : (h : History) (m : Message) (lists : Listed) → is_insertion m.op ≡ false → AreListsOf h lists → AreListsMoved h m 0 lists
-none_is_put h m lists other of object is_list =
-    of object is_list ∙ ap (kept_put object (epoch_of h) (log_of h) m (kept_elements h object)) (sym (puts_in_none object m.op other))
-
--- an insertion goes to no log, and isn't applied
-pub insertion_is_not_logged : (origin : ℕ) (tag : List ℕ) (o : Op) (log : Log) → is_insertion o ≡ true → with_logged origin tag o log ≡ log
-insertion_is_not_logged origin tag op.NoOp log is = refl
-insertion_is_not_logged origin tag (op.Update u) log is = cond-false (store_keeps u) _ log (insertion_is_not_kept u is)
-
-pub insertion_is_not_applied : (o : Op) → is_insertion o ≡ true → applied_of o ≡ None
-insertion_is_not_applied op.NoOp is = refl
-insertion_is_not_applied (op.Update u) is = ap (λ kind. if is_counter kind then Some u else None) (insertion_is_of_list u is)
 
 -- ---- how many entries there are
 

@@ -3,6 +3,7 @@ pub mod Standing
 pub mod Rules
 pub mod Insertions
 pub mod Settling
+pub mod Reach
 pub mod Steps
 pub use Rattle.causal_model.specs.Counts
 pub use Rattle.causal_model.specs.Chapter

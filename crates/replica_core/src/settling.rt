@@ -18,6 +18,7 @@ ghost use Rattle.stable_state.specs.Shown.{shown};
 ghost use Rattle.replica_core.specs.Insertions.{is_insertion, element_room, entry_put, CanBePut};
 ghost use Rattle.replica_core.specs.Settling.{AreOf, AreReady, AreReadyForSome, AreLogged, AreLoggedForSome, AreWaiting, AreWaitingForSome, with_logged, applied_of, room_of, CanBeApplied};
 
+use crate::reach::reach_of;
 use causal_model::TypeRule;
 use list_type::Lists;
 use op_base::{Act, Entry, Kind, Message, MessageId, Op, Tag, Update};
@@ -49,7 +50,7 @@ pub fn settle(
     ensures lists_spare { (lists_shown lists.old).spare ≤ (lists_shown lists.new).spare + element_room message.op }
     ensures deep { (most : ℕ) → AreWithin most (lists_shown lists.old) → AreWithin (most + 1) (lists_shown lists.new) }
 {
-    log.prune(&message, &StoreRule);
+    log.prune_within(&message, &StoreRule, reach_of(&message.op));
     cover(items, &message.op);
     let id = message.id();
     let applied = put(log, lists, epoch, message);
@@ -78,7 +79,7 @@ pub(crate) fn is_insertion(op: &Op) -> bool
     }
 }
 
-/// Puts a message where its kind keeps it until it is stable: into the log, or its element into a list. The update of a counter
+/// Puts a message where its kind keeps it: into the log, until it is stable, or its element into a list. The update of a counter
 /// that can't be cleared is kept in neither, and comes back to be applied at once.
 fn put(log: &mut Polog, lists: &mut Lists, epoch: u32, message: Message) -> Option<Update>
     requires fits { IsTrue (fits log.old.n message) }

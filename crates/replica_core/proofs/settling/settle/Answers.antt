@@ -14,28 +14,28 @@ use Rattle.replica_core.proofs.Settles.{origin_of, fits_of, fresh_of, pruned_fit
 use Rattle.replica_core.proofs.settling.settle.Goals as goal
 use Rattle.replica_core.proofs.settling.settle.Goals.{After-put-applied}
 
-pub prune-requires : goal.prune-requires
-prune-requires c = record { fits = ∥∥₁_elim c.requires.ready (search props) (λ x. fits_of x.3) }
+pub prune_within-requires : goal.prune_within-requires
+prune_within-requires c = record { fits = ∥∥₁_elim c.requires.ready (search props) (λ x. fits_of x.3); reach = c.reach_of.ensures.covers }
 
 pub id-id-requires : goal.id-id-requires
 id-id-requires c = ∥∥₁_elim c.requires.ready (search props) (λ x. origin_of x.3)
 
 pub put-applied-requires-clause-fits : goal.put-applied-requires-clause-fits
-put-applied-requires-clause-fits c = ∥∥₁_elim c.requires.ready (search props) (λ x. pruned_fits x.3 (pruned_of x.3 c.prune.ensures.pruned))
+put-applied-requires-clause-fits c = ∥∥₁_elim c.requires.ready (search props) (λ x. pruned_fits x.3 (pruned_of x.3 c.prune_within.ensures.pruned))
 
 pub put-applied-requires-clause-room : goal.put-applied-requires-clause-room
 put-applied-requires-clause-room c = λ kept.
-    ∥∥₁_elim c.requires.ready (search props) (λ x. pruned_has_room x.3 (pruned_of x.3 c.prune.ensures.pruned) (ap (λ (l : Log). l.room) c.prune.ensures.kept) kept)
+    ∥∥₁_elim c.requires.ready (search props) (λ x. pruned_has_room x.3 (pruned_of x.3 c.prune_within.ensures.pruned) (ap (λ (l : Log). l.room) c.prune_within.ensures.kept) kept)
 
 pub put-applied-requires-clause-numbers : goal.put-applied-requires-clause-numbers
-put-applied-requires-clause-numbers c = ∥∥₁_elim c.requires.ready (search props) (λ x. pruned_is_numbered x.3 (pruned_of x.3 c.prune.ensures.pruned))
+put-applied-requires-clause-numbers c = ∥∥₁_elim c.requires.ready (search props) (λ x. pruned_is_numbered x.3 (pruned_of x.3 c.prune_within.ensures.pruned))
 
 -- log, items and lists, once the element is in its list
 logged : (c : After-put-applied) {w limit : ℕ} {h : History} → AreReady w limit h c.args.log.now (shown c.args.items.now) (lists_shown c.args.lists.now) c.args.epoch c.args.message c.args.before.now c.args.stable.now
     → AreLogged w limit h c.args.message c.put-applied.new.log (shown c.cover.new.items) (lists_shown c.put-applied.new.lists) c.args.epoch c.id-id.result c.args.before.now c.args.stable.now
 logged c {w} {limit} {h} ready =
     let m = c.args.message in
-    let is = logged_of ready (pruned_of ready c.prune.ensures.pruned) c.put-applied.ensures.log in
+    let is = logged_of ready (pruned_of ready c.prune_within.ensures.pruned) c.put-applied.ensures.log in
     are_logged ready is (c.cover.ensures.of h m refl ready.are_of.are_settled) (c.put-applied.ensures.of w h ready.of_history ready.in_epoch is ready.are_of.are_lists) c.id-id.result c.id-id.ensures
 
 pub put-applied-requires-clause-can : goal.put-applied-requires-clause-can
@@ -55,7 +55,7 @@ move_stable-requires-clause-logged c = ∥∥₁_map c.requires.ready (λ x. (
 
 pub move_stable-requires-clause-spare : goal.move_stable-requires-clause-spare
 move_stable-requires-clause-spare c =
-    let few = no_more_than_came c.args.message _ _ _ c.prune.ensures.kept c.put-applied.ensures.log in
+    let few = no_more_than_came c.args.message _ _ _ c.prune_within.ensures.kept c.put-applied.ensures.log in
     let room = c.requires.spare in
     let more = c.cover.ensures.spare in
     omega arith
@@ -64,7 +64,7 @@ pub apply-requires : goal.apply-requires
 apply-requires c =
     let m = c.args.message in
     let moved = c.move_stable.new.items.shelf in
-    let few = no_more_than_came m _ _ _ c.prune.ensures.kept c.put-applied.ensures.log in
+    let few = no_more_than_came m _ _ _ c.prune_within.ensures.kept c.put-applied.ensures.log in
     let room = c.requires.spare in
     let more = c.cover.ensures.spare in
     let less = c.move_stable.ensures.spare in
@@ -87,11 +87,11 @@ returns-clause-are_of c = λ w limit h ready.
     }
 
 pub returns-clause-room : goal.returns-clause-room
-returns-clause-room c = c.move_stable.ensures.room ∙ c.put-applied.ensures.room ∙ ap (λ (l : Log). l.room) c.prune.ensures.kept
+returns-clause-room c = c.move_stable.ensures.room ∙ c.put-applied.ensures.room ∙ ap (λ (l : Log). l.room) c.prune_within.ensures.kept
 
 pub returns-clause-spare : goal.returns-clause-spare
 returns-clause-spare c =
-    let few = no_more_than_came c.args.message _ _ _ c.prune.ensures.kept c.put-applied.ensures.log in
+    let few = no_more_than_came c.args.message _ _ _ c.prune_within.ensures.kept c.put-applied.ensures.log in
     let more = c.cover.ensures.spare in
     let less = c.move_stable.ensures.spare in
     let same : room_of c.put-applied.result ≡ room_of (applied_of c.args.message.op) = ap room_of c.put-applied.ensures.applied in

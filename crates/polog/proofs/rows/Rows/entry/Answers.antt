@@ -6,12 +6,12 @@ use Rattle.polog.proofs.rows.Rows.entry.Goals as goal
 pub index-requires : goal.index-requires
 index-requires c =
     let inside = c.self.inside in
-    let many = as_many inside.room inside.numbers.items inside.entries.items c.args.self.now c.self.invariant.0 c.self.view_is in
+    let many = as_many inside.room inside.stamps.items inside.entries.items c.args.self.now c.self.invariant.0 c.self.view_is in
     omega (arith, many, c.requires, inside.entries.ok.0)
 
 pub returns : goal.returns
 returns c d =
     let inside = c.self.inside in
-    let there : c.args.at < length inside.entries.items = omega (arith, as_many inside.room inside.numbers.items inside.entries.items c.args.self.now c.self.invariant.0 c.self.view_is, c.requires) in
+    let there : c.args.at < length inside.entries.items = omega (arith, as_many inside.room inside.stamps.items inside.entries.items c.args.self.now c.self.invariant.0 c.self.view_is, c.requires) in
     get_or_read inside.entries.items c.args.at c.index.result.now there c.index.ensures d.1
-    ∙ sym (ap (λ r. r.1) (row-seen inside.room inside.numbers.items inside.entries.items c.args.self.now c.args.at d c.self.invariant.0 c.self.view_is))
+    ∙ sym (ap (λ r. r.1) (row-seen inside.room inside.stamps.items inside.entries.items c.args.self.now c.args.at (record { number = d.0; mark = 0 }) d.1 c.self.invariant.0 c.self.view_is))

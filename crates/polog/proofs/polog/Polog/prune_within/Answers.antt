@@ -1,9 +1,10 @@
-use Rattle.std.proofs.Common.{◌≡◌, ℕ, ◌≤◌, Bool, true, false, List, length, reverse, take, drop, filter, vec_capacity, IsTrue, sym, ap, subst, ◌∙◌, arith}
+use Rattle.std.proofs.Common.{◌≡◌, ℕ, ◌-◌, ◌≤◌, Bool, true, false, List, length, reverse, take, drop, filter, vec_capacity, IsTrue, sym, ap, subst, ◌∙◌, arith}
 use Rattle.std.specs.Ordering.{is_le}
 use Rattle.op_base.specs.Message.{fits}
 use Rattle.op_base.specs.Order.{object_cmp}
 use Rattle.op_base.specs.declared.message.Entry.{Entry}
 use Rattle.causal_model.specs.Log.{message_of}
+use Rattle.polog.specs.Marks.{look_of, RestStays}
 use Rattle.polog.specs.Order.{Each, Pairwise, items_of}
 use Rattle.polog.specs.Rows.{Table, IsLaid, arrived}
 use Rattle.polog.specs.Standing.{IsPruned}
@@ -11,10 +12,10 @@ use Rattle.polog.specs.Value.{Log, with_entries, is_of, stays}
 use Rattle.polog.proofs.Fitting.{fits-length}
 use Rattle.polog.proofs.Laid.{by-object, length-items, items-take, items-drop, each-of-items, laid-filter, arrived-filter}
 use Rattle.polog.proofs.Orders.{each-weaker}
-use Rattle.polog.proofs.Prunes.{noop-leaves-all, other-stays, length-filter-le}
+use Rattle.polog.proofs.Prunes.{noop-leaves-all, other-stays, rest-stays, length-filter-le}
 use Rattle.polog.proofs.Standing.{pruned-is}
-use Rattle.polog.proofs.polog.Polog.prune.Given as given
-use Rattle.polog.proofs.polog.Polog.prune.Goals as goal
+use Rattle.polog.proofs.polog.Polog.prune_within.Given as given
+use Rattle.polog.proofs.polog.Polog.prune_within.Goals as goal
 
 pub span_of-from-requires : goal.span_of-from-requires
 span_of-from-requires g c =
@@ -50,6 +51,13 @@ prune_span-kept-requires-clause-after g c =
     let to = c.span_of-from.result.1 in
     let P : Entry → Type 0 = λ e. stays (g.T.TypeRule.covers c.args.rule.now) c.args.message.now e ≡ true in
     each-of-items P (drop to rows) (subst (Each P) (ap (drop to) c.entries.ensures ∙ items-drop to rows) (others-stay g c (drop to c.entries.result.now) c.span_of-from.ensures.after))
+
+pub prune_span-kept-requires-clause-rest : goal.prune_span-kept-requires-clause-rest
+prune_span-kept-requires-clause-rest g c =
+    let covers = g.T.TypeRule.covers c.args.rule.now in
+    let m = c.args.message.now in
+    subst (λ look. RestStays look covers m) (sym (c.look_of-look.ensures ∙ ap (λ act. look_of c.args.reach act (c.span_of-from.result.1 - c.span_of-from.result.0)) c.act.ensures))
+    (rest-stays covers m c.in-Update.update c.args.reach (c.span_of-from.result.1 - c.span_of-from.result.0) c.in-Update.is c.requires.reach)
 
 pub invariant_of-self : goal.invariant_of-self
 invariant_of-self g c =
