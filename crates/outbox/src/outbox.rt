@@ -75,8 +75,8 @@ impl Outbox {
             drop(self.kept.drain(..self.gone));
             self.gone = 0;
         }
-        // There is room now, which `create` took, so this needs no memory.
-        self.kept.push(message).unwrap();
+        // There is room now, which `create` took.
+        self.kept.push_reserved(message);
     }
 
     /// Lets the messages go that are stable where these are the stable counts. It looks no further than the first that

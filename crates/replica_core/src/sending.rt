@@ -78,11 +78,13 @@ impl Replica {
         if self.has_ended() {
             return Err(Local::End);
         }
-        let Ok(update) = update.copy(alloc) else {
-            return Err(Local::NoMemory);
-        };
-        updates_are_valid(&update);
-        Ok(self.next_message(Op::Update(update)))
+        match update.copy(alloc) {
+            Ok(update) => {
+                updates_are_valid(&update);
+                Ok(self.next_message(Op::Update(update)))
+            }
+            Err(NoMemory) => Err(Local::NoMemory),
+        }
     }
 
     /// The no-op that would be sent now, for `commit`; or what `beat` answers in its place: `Quiet`, `Held` or `End`. It takes
@@ -116,10 +118,13 @@ impl Replica {
         ensures carried { IsTrue (is_carried self.old.limit message) }
         ensures bounded { IsBounded self.new }
     {
-        let sent = message.copy(alloc)?;
+        let own = match message.copy(alloc) {
+            Ok(sent) => Sender::Own(sent),
+            Err(NoMemory) => return Err(NoMemory),
+        };
         self.items.reserve(self.log.len() + self.buffer.len() + 1)?;
         self.reserve_element(&message)?;
-        self.step(message, Sender::Own(sent));
+        self.step(message, own);
         Ok(())
     }
 

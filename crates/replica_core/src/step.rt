@@ -18,6 +18,7 @@ use outbox::Outbox;
 use stability_matrix::Matrix;
 
 /// Who sent a message that is delivered, and what a step needs for it.
+#[derive(Drop)]
 pub(crate) enum Sender {
     /// The replica itself: a copy of the message, which is sent again until it is stable.
     Own(Message),

@@ -141,10 +141,13 @@ impl<R: Recorder> Node<R> {
         ensures fits { IsTrue (fits self.old.inner.n message) }
         ensures carried { IsTrue (is_carried self.old.inner.limit message) }
     {
-        let note = message.copy(alloc)?;
+        let note = match message.copy(alloc) {
+            Ok(sent) => Note::Sent(sent),
+            Err(NoMemory) => return Err(NoMemory),
+        };
         self.journal.reserve(alloc, 1)?;
         self.inner.commit(alloc, message)?;
-        put(&mut self.journal, &mut self.length, Note::Sent(note));
+        put(&mut self.journal, &mut self.length, note);
         Ok(())
     }
 

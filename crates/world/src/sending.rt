@@ -45,7 +45,8 @@ impl World {
         send(alloc, node, frames, update)
     }
 
-    /// Sends an update at replica `r` as `local` does, and tells the message by its id: so it isn't copied once more.
+    /// Sends an update at replica `r` as `local` does, and tells the message by its id: so it isn't copied once more. Every refusal
+    /// leaves the world as it was, and memory is wanted only where it would send.
     pub fn send(&mut self, alloc: Global, r: u8, update: &Update) -> Brief
         requires { r < length self.old.nodes.items }
         ensures answer { (answer : Local) × (result ≡ brief answer) × Follows ShowsPlain Local.NoMemory is_sent (local_at r update.now) self.old answer self.new }
@@ -113,14 +114,15 @@ fn send_briefly(
     ensures same { SameNode node.old node.new }
     ensures once { AsksOnceAtMost node.old.journal.asked node.new.journal.asked }
 {
-    let drafted = match node.inner.draft(alloc, update) {
-        Ok(message) => message,
-        Err(answer) => return brief_of(&answer),
-    };
-    let id = drafted.id();
-    match commit(alloc, node, frames, drafted) {
-        Ok(()) => Brief::Sent(id),
-        Err(NoMemory) => Brief::NoMemory,
+    match node.inner.draft(alloc, update) {
+        Ok(message) => {
+            let id = message.id();
+            match commit(alloc, node, frames, message) {
+                Ok(()) => Brief::Sent(id),
+                Err(NoMemory) => Brief::NoMemory,
+            }
+        }
+        Err(answer) => brief_of(&answer),
     }
 }
 

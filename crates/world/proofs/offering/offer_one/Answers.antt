@@ -27,7 +27,7 @@ pub accept-requires-clause-unrefused : goal.accept-requires-clause-unrefused
 accept-requires-clause-unrefused c = λ s stands.
     let node = c.args.node.now in
     let none : c.refusal.result ≡ None = search rules in
-    ap (refusal_of node.inner.w s) c.in_ok-message.ensures ∙ sym (told node _ c.refusal.result c.args.message.now c.replica.ensures c.refusal.ensures s stands) ∙ none
+    ap (refusal_of node.inner.w s) c.in_ok-message.ensures.copy ∙ sym (told node _ c.refusal.result c.args.message.now c.replica.ensures c.refusal.ensures s stands) ∙ none
 
 pub returns-in_err-extend_from_slice-clause-some : goal.returns-in_err-extend_from_slice-clause-some
 returns-in_err-extend_from_slice-clause-some c =
@@ -36,7 +36,7 @@ returns-in_err-extend_from_slice-clause-some c =
     let m = c.args.message.now in
     let none : c.refusal.result ≡ None = search rules in
     let refused = subst (λ (x : Replica). (s : State) → StandsFor x s → c.refusal.result ≡ refusal_of x.w s m) c.replica.ensures c.refusal.ensures in
-    let more = one_is_accepted node c.accept.new.self made.steps.items made.kept m c.in_ok-message.message c.in_ok-steps.steps c.in_ok-message.ensures c.requires.fits c.requires.carried
+    let more = one_is_accepted node c.accept.new.self made.steps.items made.kept m c.in_ok-message.message c.in_ok-steps.steps c.in_ok-message.ensures.copy c.requires.fits c.requires.carried
     (sym (refused (state_of node) node.stands) ∙ none) c.in_ok-steps.ensures.steps c.accept.ensures.first c.in_ok-steps.ensures.noted in
     on_err c.from_residual-in_err-extend_from_slice.result _ (inr (ap (λ (o : Offered). o.state) more))
 
@@ -47,7 +47,7 @@ returns-clause-made c =
     let m = c.args.message.now in
     let none : c.refusal.result ≡ None = search rules in
     let refused = subst (λ (x : Replica). (s : State) → StandsFor x s → c.refusal.result ≡ refusal_of x.w s m) c.replica.ensures c.refusal.ensures in
-    let more = one_is_accepted node c.accept.new.self made.steps.items made.kept m c.in_ok-message.message c.in_ok-steps.steps c.in_ok-message.ensures c.requires.fits c.requires.carried
+    let more = one_is_accepted node c.accept.new.self made.steps.items made.kept m c.in_ok-message.message c.in_ok-steps.steps c.in_ok-message.ensures.copy c.requires.fits c.requires.carried
     (sym (refused (state_of node) node.stands) ∙ none) c.in_ok-steps.ensures.steps c.accept.ensures.first c.in_ok-steps.ensures.noted in
     let steps : c.extend_from_slice.new.self.items ≡ made.steps.items ++ c.in_ok-steps.steps = search rules in
     ap (λ (l : List Step). let o : Offered = record { state = state_of c.accept.new.self; steps = l; kept = true } in o) steps ∙ more
@@ -55,9 +55,9 @@ returns-clause-made c =
 pub returns-in_err-extend_from_slice-clause-noted : goal.returns-in_err-extend_from_slice-clause-noted
 returns-in_err-extend_from_slice-clause-noted c =
     let m = c.args.message.now in
-    one_offer (m ∷ []) m c.in_ok-message.message c.in_ok-steps.steps c.args.node.now.journal.notes c.accept.new.self.journal.notes (zero, omega arith, refl) c.in_ok-message.ensures c.in_ok-steps.ensures.noted
+    one_offer (m ∷ []) m c.in_ok-message.message c.in_ok-steps.steps c.args.node.now.journal.notes c.accept.new.self.journal.notes (zero, omega arith, refl) c.in_ok-message.ensures.copy c.in_ok-steps.ensures.noted
 
 pub returns-clause-noted : goal.returns-clause-noted
 returns-clause-noted c =
     let m = c.args.message.now in
-    one_offer (m ∷ []) m c.in_ok-message.message c.in_ok-steps.steps c.args.node.now.journal.notes c.accept.new.self.journal.notes (zero, omega arith, refl) c.in_ok-message.ensures c.in_ok-steps.ensures.noted
+    one_offer (m ∷ []) m c.in_ok-message.message c.in_ok-steps.steps c.args.node.now.journal.notes c.accept.new.self.journal.notes (zero, omega arith, refl) c.in_ok-message.ensures.copy c.in_ok-steps.ensures.noted

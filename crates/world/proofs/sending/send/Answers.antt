@@ -14,7 +14,7 @@ returns-in_default-clause-sends c = lost_sends c.args.update.now c.args.node.now
 pub returns-in-Ok-commit-clause-sends : goal.returns-in-Ok-commit-clause-sends
 returns-in-Ok-commit-clause-sends c =
     let node = c.args.node.now in let frames = c.args.frames.now.items in let new = c.commit.new.node in let left = c.commit.new.frames.items in
-    subst (λ (m : Message). SendsUpdate c.args.update.now node frames (local.Sent m) new left) (sym c.in-Ok-copy.ensures)
+    subst (λ (m : Message). SendsUpdate c.args.update.now node frames (local.Sent m) new left) (sym c.in-Ok-copy.ensures.copy)
     (sent_sends c.args.update.now node c.in-Ok.message c.in-Ok.ensures.answer new frames left c.in-Ok-commit.ensures.noted c.in-Ok-commit.ensures.frames)
 
 pub returns-in-Err-commit-clause-sends : goal.returns-in-Err-commit-clause-sends

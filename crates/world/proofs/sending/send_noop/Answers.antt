@@ -17,6 +17,6 @@ returns-in-Err-clause-answer c =
 pub returns-in-Ok-commit-clause-answer : goal.returns-in-Ok-commit-clause-answer
 returns-in-Ok-commit-clause-answer c =
     let node = c.args.node.now in
-    let copied = c.in-Ok-copy.ensures in
+    let copied = c.in-Ok-copy.ensures.copy in
     draft_is_sent beat.NoMemory is_beat node.first beat_notes (beat_rule node.inner.w node.inner.limit) node.journal.notes (beat.Sent c.in-Ok-copy.sent) c.commit.new.node.journal.notes
     (ap (λ m. beat.Sent m) copied ∙ c.in-Ok.ensures.answer (state_of node) node.stands) (c.in-Ok-commit.ensures.noted ∙ ap (λ (m : Message). node.journal.notes ++ Sent m ∷ []) (sym copied))

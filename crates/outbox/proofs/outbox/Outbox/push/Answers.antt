@@ -1,5 +1,5 @@
-use Rattle.std.proofs.Common.{◌≡◌, ◌≤◌, ◌*◌, [], ◌∷◌, ◌++◌, length, length-append, length-drop, drop, take, All, ap, sym, subst, ◌∙◌, if◌then◌else◌, arith}
-use Rattle.std.specs.Prelude.{IsTrue, AllPairs, is_ok, vec_capacity}
+use Rattle.std.proofs.Common.{◌≡◌, ◌≤◌, ◌*◌, [], ◌∷◌, ◌++◌, length, length-append, length-drop, drop, take, All, ap, sym, subst, ◌∙◌, arith}
+use Rattle.std.specs.Prelude.{IsTrue, AllPairs, vec_capacity}
 use Rattle.std.proofs.lemmas.List.{take-append-le, drop-append-le}
 use Rattle.std.proofs.lemmas.List.Elements.{All-push}
 use Rattle.std.proofs.lemmas.List.Quantifiers.{all_pairs_push}
@@ -38,8 +38,8 @@ invariant_of-self c =
     let inside = c.if-len-capacity.self-inside in
     let xs = inside.kept.items in
     let last = c.args.message ∷ [] in
-    let pushed : c.push.new.self.items ≡ xs ++ last = c.push.ensures.items ∙ ap (λ r. if is_ok r then xs ++ last else xs) c.unwrap.ensures in
-    let held : drop inside.gone c.push.new.self.items ≡ old.messages ++ last =
+    let pushed : c.push_reserved.new.self.items ≡ xs ++ last = c.push_reserved.ensures.items in
+    let held : drop inside.gone c.push_reserved.new.self.items ≡ old.messages ++ last =
     ap (drop inside.gone) pushed ∙ drop-append-le inside.gone xs last ready.counted ∙ ap (λ sent. sent.messages ++ last) ready.same in
     let n : inside.n ≡ c.self.inside.n = ap (λ sent. sent.n) (ready.same ∙ sym c.self.view_is) in
     let w : inside.w ≡ c.self.inside.w = ap (λ sent. sent.w) (ready.same ∙ sym c.self.view_is) in
@@ -50,9 +50,9 @@ invariant_of-self c =
       few = omega (arith, c.self.invariant.few, n);
       window = omega (arith, c.self.invariant.window, w);
       narrow = omega (arith, c.self.invariant.narrow, w);
-      room = omega (arith, ready.room, c.push.ensures.capacity);
+      room = omega (arith, ready.room, c.push_reserved.ensures.capacity);
       counted = omega (arith, ready.counted, ap length pushed, length-append xs last);
-      held = omega (arith, ap length held, length-drop inside.gone c.push.new.self.items, length-append old.messages last, c.requires.room, ap (λ sent. room_of sent.n sent.w) ready.same);
+      held = omega (arith, ap length held, length-drop inside.gone c.push_reserved.new.self.items, length-append old.messages last, c.requires.room, ap (λ sent. room_of sent.n sent.w) ready.same);
       husks = subst (All IsHusk) (sym (ap (take inside.gone) pushed ∙ take-append-le inside.gone xs last ready.counted)) ready.husks;
       fit = subst (All (λ m. IsTrue (fits inside.n m))) (sym held) (subst (λ k. All (λ m. IsTrue (fits k m)) (old.messages ++ last)) (sym (ap (λ sent. sent.n) ready.same)) fit);
       rise = subst (AllPairs ComesAfter) (sym held) (all_pairs_push ComesAfter old.messages c.args.message (subst (AllPairs ComesAfter) (ap (λ sent. sent.messages) c.self.view_is) c.self.invariant.rise) c.requires.next);

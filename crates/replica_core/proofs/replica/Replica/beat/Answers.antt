@@ -16,7 +16,7 @@ returns-in_default-clause-bounded c = is_bounded _
 pub returns-in-Ok-commit-clause-answer : goal.returns-in-Ok-commit-clause-answer
 returns-in-Ok-commit-clause-answer c = λ s stands.
     let told = c.in-Ok.ensures.answer s stands in
-    inl (ap beat.Sent c.in-Ok-copy.ensures ∙ told, subst (λ a. StandsFor c.commit.new.self (fold with_own s (beat_messages a))) told (c.in-Ok-commit.ensures.stands s stands))
+    inl (ap beat.Sent c.in-Ok-copy.ensures.copy ∙ told, subst (λ a. StandsFor c.commit.new.self (fold with_own s (beat_messages a))) told (c.in-Ok-commit.ensures.stands s stands))
 
 pub returns-in-Err-commit-clause-answer : goal.returns-in-Err-commit-clause-answer
 returns-in-Err-commit-clause-answer c = λ s stands.

@@ -44,7 +44,7 @@ step-requires-clause-next c =
     ∥∥₁_map r.stands (λ x. (x.0, unchanged_stands r c.reserve_element.new.self x.0 taken x.1, draft_is_state_of r c.args.message c.requires.draft c.reserve_element.new.self taken.settings x.0 x.1))
 
 pub step-requires-clause-sender : goal.step-requires-clause-sender
-step-requires-clause-sender c = (draft_is_own c.args.self.now c.args.message c.requires.draft ∙ sym c.reserve_element.ensures.unchanged.settings.me, c.in_ok-sent.ensures)
+step-requires-clause-sender c = (draft_is_own c.args.self.now c.args.message c.requires.draft ∙ sym c.reserve_element.ensures.unchanged.settings.me, c.in-Ok.ensures.copy)
 
 pub returns-clause-stands : goal.returns-clause-stands
 returns-clause-stands c = λ s stands.
@@ -52,14 +52,14 @@ returns-clause-stands c = λ s stands.
     let taken = room_taken (goal.at.returns-clause-stands c).In_ok-reserve_element in
     c.step.ensures.stands s (unchanged_stands r c.reserve_element.new.self s taken stands) (draft_is_state_of r c.args.message c.requires.draft c.reserve_element.new.self taken.settings s stands)
 
-pub returns-in_err-sent-clause-fits : goal.returns-in_err-sent-clause-fits
-returns-in_err-sent-clause-fits c = draft_fits c.args.self.now c.args.message c.requires.draft
+pub returns-in-Err-clause-fits : goal.returns-in-Err-clause-fits
+returns-in-Err-clause-fits c = draft_fits c.args.self.now c.args.message c.requires.draft
 
-pub returns-in_err-sent-clause-carried : goal.returns-in_err-sent-clause-carried
-returns-in_err-sent-clause-carried c = draft_is_carried c.args.self.now c.args.message c.requires.draft
+pub returns-in-Err-clause-carried : goal.returns-in-Err-clause-carried
+returns-in-Err-clause-carried c = draft_is_carried c.args.self.now c.args.message c.requires.draft
 
-pub returns-in_err-sent-clause-bounded : goal.returns-in_err-sent-clause-bounded
-returns-in_err-sent-clause-bounded c = is_bounded _
+pub returns-in-Err-clause-bounded : goal.returns-in-Err-clause-bounded
+returns-in-Err-clause-bounded c = is_bounded _
 
 pub returns-in_err-reserve-clause-fits : goal.returns-in_err-reserve-clause-fits
 returns-in_err-reserve-clause-fits c = draft_fits c.args.self.now c.args.message c.requires.draft

@@ -41,7 +41,7 @@ invariant_of-self-2 g c =
     let group = Kept m ∷ map step_note (steps node.inner.w (with_early s m)).0 in
     let unrefused = c.requires.unrefused s node.stands in
     let noted = c.put_accepted.ensures.noted ∙ ap (λ (notes : _). notes ++ Kept c.in_ok-kept.kept ∷ map step_note c.as_slice.result.now) c.reserve.ensures.kept
-    ∙ ap (λ (x : _). before ++ Kept x ∷ map step_note c.as_slice.result.now) c.in_ok-kept.ensures ∙ ap (λ (made : _). before ++ Kept m ∷ map step_note made) (c.as_slice.ensures ∙ stepped.are) in
+    ∙ ap (λ (x : _). before ++ Kept x ∷ map step_note c.as_slice.result.now) c.in_ok-kept.ensures.copy ∙ ap (λ (made : _). before ++ Kept m ∷ map step_note made) (c.as_slice.ensures ∙ stepped.are) in
     let goes = goes_on node.inner.w node.inner.limit c.accept.new.self node.first before (g.R.Recorder.notes c.put_accepted.new.journal) group c.accept.ensures.settings.w c.accept.ensures.settings.limit node.legal noted
     (accepting_is_group node.inner s m node.stands c.requires.fits c.requires.carried unrefused)
     (subst (StandsFor c.accept.new.self) (sym (accepting_replays node.inner s m node.stands c.requires.fits c.requires.carried unrefused)) stepped.stands) in

@@ -5,13 +5,13 @@ use Rattle.replica_node.proofs.Calls.{goes_on, nothing_goes_on}
 use Rattle.replica_node.proofs.Given.{draft_fits, draft_is_carried, draft_is_group}
 use Rattle.replica_node.proofs.node.Node.commit.Goals as goal
 
-pub returns-in_err-note-clause-fits : goal.returns-in_err-note-clause-fits
-returns-in_err-note-clause-fits g c =
+pub returns-in-Err-clause-fits : goal.returns-in-Err-clause-fits
+returns-in-Err-clause-fits g c =
     let node = c.args.self.now in
     draft_fits node.inner _ c.args.message node.stands (c.requires.draft _ node.stands)
 
-pub returns-in_err-note-clause-carried : goal.returns-in_err-note-clause-carried
-returns-in_err-note-clause-carried g c =
+pub returns-in-Err-clause-carried : goal.returns-in-Err-clause-carried
+returns-in-Err-clause-carried g c =
     let node = c.args.self.now in
     draft_is_carried node.inner _ c.args.message node.stands (c.requires.draft _ node.stands)
 
@@ -25,8 +25,8 @@ returns-in_err-reserve-clause-carried g c =
     let node = c.args.self.now in
     draft_is_carried node.inner _ c.args.message node.stands (c.requires.draft _ node.stands)
 
-pub invariant_of-self-in-Break-branch-3 : goal.invariant_of-self-in-Break-branch-3
-invariant_of-self-in-Break-branch-3 g c =
+pub invariant_of-self-in-Break-branch-2 : goal.invariant_of-self-in-Break-branch-2
+invariant_of-self-in-Break-branch-2 g c =
     let node = c.args.self.now in
     let kept = c.reserve.ensures.kept in
     let goes = nothing_goes_on node.inner c.commit.new.self node.first (g.R.Recorder.notes node.journal) (g.R.Recorder.notes c.reserve.new.self) c.in_err-commit.ensures.refused kept node.legal node.stands in
@@ -38,7 +38,7 @@ invariant_of-self-2 g c =
     let before = g.R.Recorder.notes node.journal in
     let s = state_by node.first before in
     let m = c.args.message in
-    let noted = c.put.ensures.noted ∙ ap (λ (notes : _). notes ++ Sent c.in_ok-note.note ∷ []) c.reserve.ensures.kept ∙ ap (λ (x : _). before ++ Sent x ∷ []) c.in_ok-note.ensures in
+    let noted = c.put.ensures.noted ∙ ap (λ (notes : _). notes ++ Sent c.in-Ok.sent ∷ []) c.reserve.ensures.kept ∙ ap (λ (x : _). before ++ Sent x ∷ []) c.in-Ok.ensures.copy in
     let goes = goes_on node.inner.w node.inner.limit c.commit.new.self node.first before (g.R.Recorder.notes c.put.new.journal) (Sent m ∷ []) c.commit.ensures.settings.w c.commit.ensures.settings.limit node.legal noted
     (draft_is_group node.inner s m node.stands (c.requires.draft s node.stands)) (c.in_ok-commit.ensures.stands s node.stands) in
     record { counted = c.put.ensures.counted; legal = goes.legal; stands = goes.stands }
