@@ -1,6 +1,7 @@
 pub mod Numbers
 pub mod Standing
 pub mod Rules
+pub mod Rooms
 pub mod Insertions
 pub mod Settling
 pub mod Reach

@@ -67,6 +67,19 @@ fn next_of(replica: &Replica, alloc: Global, me: u8, n: u8) -> Result<Option<Rep
     Ok(Some(replica.next(alloc, me, n)?))
 }
 
+/// Begins the next epoch, where every operation is stable.
+fn turn(replica: &mut Replica, alloc: Global, me: u8, n: u8) -> Result<(), Fail> {
+    if !are_numbers(me.into(), n.into(), replica.w.into(), replica.limit) {
+        return Err("a number is out of its range".into());
+    }
+    if replica.epoch >= 65535 || !replica.all_settled() {
+        return Err("the epoch can't end".into());
+    }
+    let room = replica.room(alloc, me, n)?;
+    replica.turn(room);
+    Ok(())
+}
+
 /// The first message of member 0 of two.
 fn first_message(alloc: Global) -> Result<Message, Fail> {
     let mut store = Replica::create(alloc, 0, 2, 1, 9)?;
@@ -96,7 +109,11 @@ fn a_settled_replica_goes_on_as_another_member(rt: HostRuntime) -> Result<(), Fa
     let Some(next) = next_of(&alone, alloc, 2, 3)? else {
         return Err("every operation is stable".into());
     };
-    assert_eq!(rt; sum(&next, alloc)?, Answer::Sum(5));
+    turn(&mut alone, alloc, 2, 3)?;
+    assert_eq!(rt;
+        (sum(&next, alloc)?, sum(&alone, alloc)?),
+        (Answer::Sum(5), Answer::Sum(5))
+    );
     Ok(())
 }
 

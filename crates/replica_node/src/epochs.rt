@@ -6,6 +6,7 @@ ghost use Rattle.causal_model.specs.History.{is_all_stable};
 ghost use Rattle.causal_model.specs.State.{State};
 ghost use Rattle.causal_model.specs.declared.note.Note.TheVariants as notes;
 ghost use Rattle.replica_core.specs.Numbers.{are_numbers};
+ghost use Rattle.replica_core.specs.Rooms.{IsRoomFor};
 ghost use Rattle.replica_core.specs.Rules.{StandsFor};
 ghost use Rattle.replica_node.specs.Epochs.{IsNextOf};
 
@@ -13,7 +14,7 @@ use crate::node::{Node, put};
 use crate::recorder::Recorder;
 use causal_model::Note;
 use op_base::NoMemory;
-use replica_core::Replica;
+use replica_core::{EpochRoom, Replica};
 use std::alloc::Global;
 
 impl<R: Recorder> Node<R> {
@@ -29,6 +30,16 @@ impl<R: Recorder> Node<R> {
     {
         let next = self.inner.next(alloc, me, n)?;
         Ok(next)
+    }
+
+    /// The room in which this node can begin the next epoch as member `me` of `n` members, for `turn`: as the replica's call.
+    pub fn room(&self, alloc: Global, me: u8, n: u8) -> Result<EpochRoom, NoMemory>
+        requires numbers { IsTrue (are_numbers me n self.now.inner.w self.now.inner.limit) }
+        ensures me { IfOk result (λ room. room.me ≡ me) }
+        ensures n { IfOk result (λ room. room.n ≡ n) }
+        ensures empty { IfOk result (IsRoomFor me n self.now.inner.w) }
+    {
+        self.inner.room(alloc, me, n)
     }
 
     /// Takes room for so many notes more, where there are then fewer than 2^63. `NoMemory` leaves no less room.
@@ -57,6 +68,27 @@ impl<R: Recorder> Node<R> {
     {
         put(&mut self.journal, &mut self.length, change_to(&next));
         self.inner = next;
+    }
+
+    /// Begins the next epoch as the room's member, as the replica's call, and notes the change. It takes no memory.
+    pub fn turn(&mut self, room: EpochRoom)
+        requires room { 1 ≤ R.spare self.old.journal }
+        requires few { length_of (R.notes self.old.journal) + 1 < 2 ^ 63 }
+        requires numbers { IsTrue (are_numbers room.me room.n self.old.inner.w self.old.inner.limit) }
+        requires settled { (s : State) → StandsFor self.old.inner s → IsTrue (is_all_stable s.history.present) }
+        requires early { self.old.inner.epoch < 65535 }
+        requires empty { IsRoomFor room.me room.n self.old.inner.w room }
+        ensures me { self.new.inner.me ≡ room.me }
+        ensures n { self.new.inner.n ≡ room.n }
+        ensures w { self.new.inner.w ≡ self.old.inner.w }
+        ensures limit { self.new.inner.limit ≡ self.old.inner.limit }
+        ensures epoch { self.new.inner.epoch ≡ self.old.inner.epoch + 1 }
+        ensures first { self.new.first ≡ self.old.first }
+        ensures noted { R.notes self.new.journal ≡ R.notes self.old.journal ++ notes.Regroup (self.old.inner.epoch + 1) room.n room.me ∷ [] }
+        ensures unasked { R.asked self.new.journal ≡ R.asked self.old.journal }
+    {
+        self.inner.turn(room);
+        put(&mut self.journal, &mut self.length, change_to(&self.inner));
     }
 
     /// Another node that goes on with a replica of the next epoch, behind a copy of this one's notes, where the change is noted.

@@ -53,6 +53,21 @@ fn next_of(node: &Node<Journal>, alloc: Global, me: u8) -> Result<Replica, Fail>
     Ok(node.next(alloc, me, 3)?)
 }
 
+/// Begins the next epoch as a member of three, where a node's can end.
+fn turn(node: &mut Node<Journal>, alloc: Global, me: u8) -> Result<(), Fail> {
+    let replica = node.replica();
+    if !are_numbers(me.into(), 3, replica.w.into(), replica.limit) {
+        return Err("a number is out of its range".into());
+    }
+    if replica.epoch >= 65535 || !replica.all_settled() {
+        return Err("the epoch can't end".into());
+    }
+    let room = node.room(alloc, me, 3)?;
+    node.ready(alloc, 1)?;
+    node.turn(room);
+    Ok(())
+}
+
 #[test]
 fn what_is_sent_is_noted(rt: HostRuntime) -> Result<(), Fail> {
     let alloc = rt.alloc();
@@ -85,8 +100,9 @@ fn a_node_goes_on(rt: HostRuntime) -> Result<(), Fail> {
     node.ready(alloc, 1)?;
     let next = next_of(&node, alloc, 0)?;
     node.adopt(next);
-    // the message, its step and the change
-    assert_eq!(rt; node.places(), 3);
+    turn(&mut node, alloc, 1)?;
+    // the message, its step and two changes
+    assert_eq!(rt; node.places(), 4);
     Ok(())
 }
 

@@ -1,17 +1,18 @@
 -- Members that enter the next epoch.
-use Rattle.std.proofs.Common.{◌≡◌, ◌≢◌, ℕ, ◌+◌, ◌-◌, ◌<◌, ◌≤◌, ◌⊎◌, nat_lt, min, ◌++◌, ◌∷◌, [], All, List, length, take, slice_index_or, slice_set, inl, inr, refl, sym, ap, subst, ◌∙◌, get_or-set_same, get_or-set_other, length-set, if◌then◌else◌, arith}
+use Rattle.std.proofs.Common.{◌≡◌, ◌≢◌, ℕ, ◌+◌, ◌-◌, ◌<◌, ◌≤◌, ◌⊎◌, nat_lt, IsTrue, min, ◌++◌, ◌∷◌, [], All, List, length, take, slice_index_or, slice_set, inl, inr, refl, sym, ap, subst, ◌∙◌, get_or-set_same, get_or-set_other, length-set, if◌then◌else◌, arith}
 use Rattle.std.proofs.lemmas.Bool.{cases_eq, cases_lt, cond-true, cond-false, lt-ltb, le-ltb, ltb-true, false_from_ne_true}
 use Rattle.std.proofs.lemmas.List.{get_or_default, get_or_push, get_or_append_left, get_or-take, length_push, length-take}
 use Rattle.std.proofs.lemmas.List.Sums.{fold-append}
-use Rattle.causal_model.specs.History.{History}
 use Rattle.causal_model.specs.Journal.{state_noted, regrouped}
 use Rattle.causal_model.specs.State.{start}
 use Rattle.causal_model.specs.declared.note.Note.TheVariants.{Regroup}
+use Rattle.replica_core.specs.Numbers.{are_numbers}
+use Rattle.replica_core.specs.Rooms.{IsRoomFor}
+use Rattle.replica_core.specs.declared.epochs.EpochRoom.{EpochRoom}
 use Rattle.replica_core.specs.declared.replica.Replica.{Replica}
-use Rattle.replica_node.specs.Epochs.{IsNextOf}
 use Rattle.replica_node.specs.Nodes.{state_by}
 use Rattle.world.specs.Shows.{NotedNode, state_of}
-use Rattle.world.specs.Entrants.{IsReady, IsAsBefore, AreAsBefore, IsNextNode, IsEntrant, AreEntrants, place_for, HaveEntered, AreNext, CanEnter, EntersAs, count_with}
+use Rattle.world.specs.Entrants.{IsReady, IsAsBefore, AreAsBefore, IsSettled, IsEarly, IsNextNode, CanTurn, CanGoOn, IsEntrant, AreEntrants, place_for, HaveEntered, AreNext, CanEnter, EntersAs, count_with}
 use Rattle.world.specs.declared.regrouping.Entrant.{Entrant}
 use Rattle.world.specs.declared.regrouping.Entrant.TheVariants as entrant
 
@@ -22,21 +23,15 @@ place_is_within size q some = elim (cases_lt q size) [
   | inr past ↦ omega (arith, cond-false (nat_lt q size) q 0 (le-ltb q size past), some)
 ]
 
--- a node that notes a change, and goes on with a replica that can, is the next epoch's
-pub noted_is_next : (node next : NotedNode) (replica : Replica) → IsNextOf node.first node.inner.w node.inner.limit node.journal.notes replica → next.inner ≡ replica → next.first ≡ node.first
-    → next.journal.notes ≡ node.journal.notes ++ Regroup replica.epoch replica.n replica.me ∷ [] → IsNextNode replica.n replica.me node next
-noted_is_next node next replica can inner first noted = record {
+-- a node that begins the next epoch and notes it is that epoch's
+pub noted_is_next : (node next : NotedNode) (n me : ℕ) → next.inner.w ≡ node.inner.w → next.inner.limit ≡ node.inner.limit → next.first ≡ node.first → next.journal.notes ≡ node.journal.notes ++ Regroup (node.inner.epoch + 1) n me ∷ [] → IsNextNode n me node next
+noted_is_next node next n me w limit first noted = record {
   state = ap (λ f. state_by f next.journal.notes) first ∙ ap (state_by node.first) noted
-      ∙ fold-append state_noted (start node.first.1 node.first.0) node.journal.notes (Regroup replica.epoch replica.n replica.me ∷ []);
-  w = ap (λ (r : Replica). r.w) inner ∙ can.w;
-  limit = ap (λ (r : Replica). r.limit) inner ∙ can.limit;
-  noted = noted ∙ ap (λ epoch. node.journal.notes ++ Regroup epoch replica.n replica.me ∷ []) epoch;
-} where
-  h : History
-  h = (state_of node).history
-
-  epoch : replica.epoch ≡ node.inner.epoch + 1
-  epoch = omega (arith, can.stands.in_epoch, node.stands.in_epoch, length_push h.past h.present)
+      ∙ fold-append state_noted (start node.first.1 node.first.0) node.journal.notes (Regroup (node.inner.epoch + 1) n me ∷ []);
+  w = w;
+  limit = limit;
+  noted = noted;
+}
 
 -- it stands where the node stood
 pub stands_there : (nodes : List NotedNode) (q n me : ℕ) (node next d e : NotedNode) → q < length nodes → node ≡ slice_index_or nodes q node → IsNextNode n me node next
@@ -87,6 +82,23 @@ module _ (before now : List NotedNode) (q : ℕ) (node next : NotedNode) (low : 
 
 -- ---- entrants, the last first
 
+-- a member goes on in a room that was made for it, where the epoch can end
+pub can_go_on : (n q : ℕ) (nodes : List NotedNode) (node : NotedNode) (room : EpochRoom) → q < length nodes → node ≡ slice_index_or nodes q node → All IsSettled nodes → All IsEarly nodes → IsTrue (are_numbers q n node.inner.w node.inner.limit) → room.me ≡ q → room.n ≡ n
+    → IsRoomFor q n node.inner.w room → CanGoOn n q nodes room
+can_go_on n q nodes node room low at settled early numbers is_me is_n empty = record {
+  low = low;
+  me = is_me;
+  n_is = is_n;
+  turns = λ d.
+      let here : node ≡ slice_index_or nodes q d = at ∙ get_or_default nodes q node d low in
+      record {
+        numbers = rw (is_me, is_n, sym here) numbers;
+        settled = settled q d low;
+        early = early q d low;
+        empty = subst (λ me. IsRoomFor me room.n (slice_index_or nodes q d).inner.w room) (sym is_me) (subst (λ k. IsRoomFor q k (slice_index_or nodes q d).inner.w room) (sym is_n) (subst (λ (x : NotedNode). IsRoomFor q n x.inner.w room) here empty));
+      };
+}
+
 pub no_entrants : (n : ℕ) (nodes : List NotedNode) (entrants : List Entrant) → entrants ≡ [] → AreEntrants n nodes 0 entrants
 no_entrants n nodes entrants is = record { count_is = ap length is; each = λ i d l. absurd (omega (arith, l)) }
 
@@ -134,12 +146,12 @@ none_entered n nodes = record {
 module _ (n : ℕ) (before : List NotedNode) (q : ℕ) (now : List NotedNode) (are : AreEntering n before q now) where
   -- the next one can enter
   pub can_enter : (e : Entrant) → All IsReady before → IsEntrant n before q e → CanEnter now q e
-  can_enter (entrant.Stays replica) ready is =
+  can_enter (entrant.Stays room) ready is =
       let same : (d : NotedNode) → slice_index_or before q d ≡ slice_index_or now q d = λ d. sym (are.rest q d (omega arith) is.low) in (
         omega (arith, is.low, are.small (omega (arith, is.low))),
         λ d. (
           subst IsReady (same d) (ready q d is.low),
-          subst (λ (x : NotedNode). IsNextOf x.first x.inner.w x.inner.limit x.journal.notes replica) (same d) (is.next d),
+          subst (λ (x : NotedNode). CanTurn x.inner room) (same d) (is.turns d),
         ),
       )
   can_enter (entrant.Comes node) ready is = are.large is.0
@@ -153,15 +165,15 @@ module _ (n : ℕ) (before : List NotedNode) (q : ℕ) (now : List NotedNode) (a
 
     -- it has the next epoch's node then
     enters : (e : Entrant) → IsEntrant n before q e → ((d : NotedNode) → EntersAs now q e (slice_index_or after q d)) → (d f : NotedNode) → IsNextNode n q (slice_index_or before (place_for (length before) q) d) (slice_index_or after q f)
-    enters (entrant.Stays replica) is here d f =
+    enters (entrant.Stays room) is here d f =
         subst (λ k. IsNextNode n q (slice_index_or before k d) (slice_index_or after q f)) (sym (place_here (length before) is.low))
         (subst (λ x. IsNextNode n q x (slice_index_or after q f)) (are.rest q d (omega arith) is.low)
-        (subst (λ k. IsNextNode k q (slice_index_or now q d) (slice_index_or after q f)) is.n_is (subst (λ k. IsNextNode replica.n k (slice_index_or now q d) (slice_index_or after q f)) is.me (here f d))))
+        (subst (λ k. IsNextNode k q (slice_index_or now q d) (slice_index_or after q f)) is.n_is (subst (λ k. IsNextNode room.n k (slice_index_or now q d) (slice_index_or after q f)) is.me (here f d))))
     enters (entrant.Comes node) is here d f =
         subst (λ k. IsNextNode n q (slice_index_or before k d) (slice_index_or after q f)) (sym (place_new (length before) is.0)) (subst (IsNextNode n q (slice_index_or before 0 d)) (sym (here f)) (is.1 d))
 
     counted : (e : Entrant) → IsEntrant n before q e → length after ≡ count_with (length now) e → (q + 1 ≤ length before → length after ≡ length before) × (length before ≤ q + 1 → length after ≡ q + 1) × (q + 1 ≤ length after)
-    counted (entrant.Stays replica) is count = let small = are.small (omega (arith, is.low)) in (λ l. count ∙ small, λ l. omega (arith, l, count, small, is.low), omega (arith, count, small, is.low))
+    counted (entrant.Stays room) is count = let small = are.small (omega (arith, is.low)) in (λ l. count ∙ small, λ l. omega (arith, l, count, small, is.low), omega (arith, count, small, is.low))
     counted (entrant.Comes node) is count = let large = are.large is.0 in (λ l. absurd (omega (arith, l, is.0)), λ l. count ∙ ap (λ k. k + 1) large, omega (arith, count, large))
 
     pub one_enters : (e : Entrant) → IsEntrant n before q e → length after ≡ count_with (length now) e → ((d : NotedNode) → EntersAs now q e (slice_index_or after q d)) → AreEntering n before (q + 1) after
@@ -197,11 +209,6 @@ next_as_before n q a b next same is = record {
   noted = is.noted ∙ ap (λ notes. notes ++ Regroup (b.inner.epoch + 1) n q ∷ []) same.notes ∙ ap (λ (r : Replica). a.journal.notes ++ Regroup (r.epoch + 1) n q ∷ []) same.inner;
 }
 
-can_as_before : (a b : NotedNode) (next : Replica) → IsAsBefore a b → IsNextOf a.first a.inner.w a.inner.limit a.journal.notes next → IsNextOf b.first b.inner.w b.inner.limit b.journal.notes next
-can_as_before a b next same can =
-    subst (λ first. IsNextOf first b.inner.w b.inner.limit b.journal.notes next) (sym same.first)
-    (subst (λ (r : Replica). IsNextOf a.first r.w r.limit b.journal.notes next) (sym same.inner) (subst (λ notes. IsNextOf a.first a.inner.w a.inner.limit notes next) (sym same.notes) can))
-
 -- the first n nodes as they are after room was taken, with what there was before
 module _ (n : ℕ) (before now : List NotedNode) (some : 1 ≤ length before) (same : AreAsBefore before now) where
   abbrev pub first_nodes : List NotedNode
@@ -214,11 +221,11 @@ module _ (n : ℕ) (before now : List NotedNode) (some : 1 ≤ length before) (s
   first_same q d low here = subst (IsAsBefore (slice_index_or before q d)) (sym (get_or-take n now q d low)) (same.each q d here)
 
   entrant_stays : (q : ℕ) (e : Entrant) → q < n → IsEntrant n before q e → IsEntrant n first_nodes q e
-  entrant_stays q (entrant.Stays replica) low is = record {
+  entrant_stays q (entrant.Stays room) low is = record {
     low = omega (arith, first_count, low, is.low);
     me = is.me;
     n_is = is.n_is;
-    next = λ d. can_as_before (slice_index_or before q d) (slice_index_or first_nodes q d) replica (first_same q d low is.low) (is.next d);
+    turns = λ d. subst (λ (r : Replica). CanTurn r room) (sym (first_same q d low is.low).inner) (is.turns d);
   }
   entrant_stays q (entrant.Comes node) low is = (
     omega (arith, first_count, is.0, low),

@@ -6,9 +6,11 @@ use Rattle.causal_model.specs.Journal.{regrouped}
 use Rattle.causal_model.specs.State.{State}
 use Rattle.causal_model.specs.declared.note.Note.{Note}
 use Rattle.causal_model.specs.declared.note.Note.TheVariants as note
+use Rattle.replica_core.specs.Numbers.{are_numbers}
+use Rattle.replica_core.specs.Rooms.{IsRoomFor}
 use Rattle.replica_core.specs.Rules.{StandsFor}
+use Rattle.replica_core.specs.declared.epochs.EpochRoom.{EpochRoom}
 use Rattle.replica_core.specs.declared.replica.Replica.{Replica}
-use Rattle.replica_node.specs.Epochs.{IsNextOf}
 use Rattle.world_model.specs.Journals.{journal_of}
 use Rattle.world_model.specs.declared.outcome.Regroup.{Regroup}
 use Rattle.world_model.specs.declared.outcome.Regroup.TheVariants as regroup
@@ -46,16 +48,23 @@ pub record IsNextNode (n q : ℕ) (node next : NotedNode) : Type 0 where
   pub limit : next.inner.limit ≡ node.inner.limit
   pub noted : next.journal.notes ≡ node.journal.notes ++ note.Regroup (node.inner.epoch + 1) n q ∷ []
 
--- the node at place q can go on with a replica, as member q of n
-pub record CanGoOn (n q : ℕ) (nodes : List NotedNode) (replica : Replica) : Type 0 where
+-- a replica can begin the next epoch in a room: it can end, and the room is one of its store
+pub record CanTurn (r : Replica) (room : EpochRoom) : Type 0 where
+  pub numbers : IsTrue (are_numbers room.me room.n r.w r.limit)
+  pub settled : (s : State) → StandsFor r s → IsTrue (is_all_stable s.history.present)
+  pub early : r.epoch < 65535
+  pub empty : IsRoomFor room.me room.n r.w room
+
+-- the node at place q can go on in a room, as member q of n
+pub record CanGoOn (n q : ℕ) (nodes : List NotedNode) (room : EpochRoom) : Type 0 where
   pub low : q < length nodes
-  pub me : replica.me ≡ q
-  pub n_is : replica.n ≡ n
-  pub next : (d : NotedNode) → let node = slice_index_or nodes q d in IsNextOf node.first node.inner.w node.inner.limit node.journal.notes replica
+  pub me : room.me ≡ q
+  pub n_is : room.n ≡ n
+  pub turns : (d : NotedNode) → CanTurn (slice_index_or nodes q d).inner room
 
 -- how member q of n begins: its node goes on; or it is new, and its node begins with what member 0 has
 abbrev pub IsEntrant : ℕ → List NotedNode → ℕ → Entrant → Type 0
-IsEntrant n nodes q (entrant.Stays replica) = CanGoOn n q nodes replica
+IsEntrant n nodes q (entrant.Stays room) = CanGoOn n q nodes room
 IsEntrant n nodes q (entrant.Comes next) = (length nodes ≤ q) × ((d : NotedNode) → IsNextNode n q (slice_index_or nodes 0 d) next)
 
 -- how the last so many of n members begin, the last first
@@ -88,16 +97,15 @@ RegroupsJournals n old answer new = new ≡ old
 
 -- a member can enter at a place: its node has room there, and can go on; or a node comes behind the others
 abbrev pub CanEnter : List NotedNode → ℕ → Entrant → Type 0
-CanEnter nodes q (entrant.Stays replica) =
-    (q < length nodes) × ((d : NotedNode) → let node = slice_index_or nodes q d in IsReady node × IsNextOf node.first node.inner.w node.inner.limit node.journal.notes replica)
+CanEnter nodes q (entrant.Stays room) = (q < length nodes) × ((d : NotedNode) → let node = slice_index_or nodes q d in IsReady node × CanTurn node.inner room)
 CanEnter nodes q (entrant.Comes next) = length nodes ≡ q
 
 -- its node is then this
 abbrev pub EntersAs : List NotedNode → ℕ → Entrant → NotedNode → Type 0
-EntersAs nodes q (entrant.Stays replica) next = (d : NotedNode) → IsNextNode replica.n replica.me (slice_index_or nodes q d) next
+EntersAs nodes q (entrant.Stays room) next = (d : NotedNode) → IsNextNode room.n room.me (slice_index_or nodes q d) next
 EntersAs nodes q (entrant.Comes node) next = next ≡ node
 
 -- how many nodes there then are
 abbrev pub count_with : ℕ → Entrant → ℕ
-count_with count (entrant.Stays replica) = count
+count_with count (entrant.Stays room) = count
 count_with count (entrant.Comes node) = count + 1

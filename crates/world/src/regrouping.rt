@@ -15,7 +15,7 @@ ghost use Rattle.world.specs.Shows.{NotedNode, state_of};
 
 use crate::world::{FrameTable, NodeList, World, empty_rows};
 use op_base::NoMemory;
-use replica_core::Replica;
+use replica_core::EpochRoom;
 use replica_node::{Journal, Node, Recorder};
 use std::alloc::Global;
 use world_model::Regroup;
@@ -23,8 +23,8 @@ use world_model::Regroup;
 /// How a member begins the next epoch.
 #[derive(Drop)]
 pub enum Entrant {
-    /// It is a member, and its node goes on with this replica.
-    Stays(Replica),
+    /// It is a member, and its node goes on in this room.
+    Stays(EpochRoom),
     /// It is a new member, with this node.
     Comes(Node<Journal>),
 }
@@ -34,8 +34,9 @@ impl World {
     ghost use Rattle.world.specs.Honest.{ShowsHonest};
 
     /// Changes the members to the first `n`, 1 to 16, where the store is at rest: the next epoch begins. Each goes on where it
-    /// was a member, and begins with what member 0 has else. Of what was sent before, nothing can be given any more. It costs
-    /// copies of what is settled, and for each new member one of member 0's journal. After `NoMemory` it shows what it showed.
+    /// was a member, with what it has settled, and begins with what member 0 has else. Of what was sent before, nothing can be
+    /// given any more. It costs new empty parts for each member, and for each that is new a copy of what member 0 has settled and
+    /// of its journal. After `NoMemory` it shows what it showed.
     pub fn regroup(&mut self, alloc: Global, n: u8) -> Regroup
         requires some { 1 ≤ n }
         requires few { n ≤ 16 }
@@ -124,7 +125,7 @@ fn next_entrant(alloc: Global, nodes: &[Node<Journal>], q: u8, n: u8) -> Result<
     ensures { IfOk result (IsEntrant n nodes.now q) }
 {
     if (q as usize) < nodes.len() {
-        Ok(Entrant::Stays(nodes[q as usize].next(alloc, q, n)?))
+        Ok(Entrant::Stays(nodes[q as usize].room(alloc, q, n)?))
     } else {
         Ok(Entrant::Comes(next_node(alloc, &nodes[0], q, n)?))
     }
@@ -199,7 +200,7 @@ fn enter(nodes: &mut NodeList, q: usize, entrant: Entrant)
     ensures capacity { vec_capacity nodes.new ≡ vec_capacity nodes.old }
 {
     match entrant {
-        Entrant::Stays(replica) => nodes[q].adopt(replica),
+        Entrant::Stays(room) => nodes[q].turn(room),
         Entrant::Comes(node) => nodes.push_reserved(node),
     }
 }
