@@ -1,6 +1,6 @@
 -- What a text is that is no update, and what is told of an update that wasn't sent.
 use Rattle.std.proofs.Common.{◌≡◌, ◌≢◌, ℕ, ◌≤◌, true, false, List, [], ◌∷◌, length, get_or, map, take, drop, refl, sym, ap, subst, ◌∙◌, arith}
-use Rattle.std.specs.Prelude.{Result, Ok, Err}
+use Rattle.std.specs.Prelude.{Option, Some, None, Result, Ok, Err}
 use Rattle.std.proofs.lemmas.Bool.{cond-true}
 use Rattle.op_base.specs.declared.operation.Update.{Update}
 use Rattle.script_lang.specs.Acts.{are_few, update_in}
@@ -9,8 +9,8 @@ use Rattle.script_lang.specs.declared.fault.Fault.TheVariants as fault
 use Rattle.peer.specs.Calls.{is_framed}
 use Rattle.peer.specs.declared.answers.Updated.{Updated}
 use Rattle.peer.specs.declared.answers.Updated.TheVariants as updated
-use Rattle.peer_c.specs.declared.outcome.Outcome.TheVariants.{Done}
-use Rattle.peer_c.specs.Tells.{words_update, told_update}
+use Rattle.peer_c.specs.declared.outcome.Outcome.TheVariants.{Done, NoMemory}
+use Rattle.peer_c.specs.Tells.{words_update, told_number, told_fault, told_update}
 
 -- what words are is told by the first seven of them
 pub update_by_seven : (words : List (List ℕ)) → words_update (take 7 words) ≡ words_update words
@@ -51,6 +51,16 @@ only_memory fault.Operation wanted u told is = absurd (err_is_not_ok fault.Opera
 only_memory fault.Value wanted u told is = absurd (err_is_not_ok fault.Value u (sym (told (λ e. cc)) ∙ is))
 only_memory fault.Number wanted u told is = absurd (err_is_not_ok fault.Number u (sym (told (λ e. cc)) ∙ is))
 only_memory fault.NoMemory wanted u told is = refl
+
+-- what is no update is refused for its own fault, but for want of memory
+pub told_is_fault : (e f : Fault) (wanted : Result Update Fault) → (e ≢ fault.NoMemory → wanted ≡ Err e) → wanted ≡ Err f → told_fault e ≢ NoMemory → told_fault e ≡ told_fault f
+told_is_fault e f wanted told is other =
+    let same : ◌≡◌ {A = Result Update Fault} (Err e) (Err f) = sym (told (λ memory. other (ap told_fault memory))) ∙ is in
+    let both : e ≡ f = cc in ap told_fault both
+
+pub number_is_not_done : (number : Option ℕ) → told_number number ≢ Done
+number_is_not_done (Some number) = λ done. cc
+number_is_not_done None = λ done. cc
 
 pub unsent_update : (answer : Updated) → told_update answer ≢ Done → is_framed answer ≡ false
 unsent_update (updated.Frame frame) other = absurd (other refl)

@@ -1,11 +1,12 @@
 -- What the C library tells of a peer's answers, and what it hands out of them.
-use Rattle.std.specs.Prelude.{◌≡◌, ◌++◌, ◌≤◌, ◌∷◌, [], ℕ, Bool, true, false, List, Result, Err, if◌then◌else◌, length, drop}
+use Rattle.std.specs.Prelude.{◌≡◌, ◌++◌, ◌<◌, ◌≤◌, ◌∷◌, ◌⊎◌, [], ℕ, Bool, true, false, List, Option, Some, None, Result, Err, if◌then◌else◌, length, drop, slice_index_or}
 use Rattle.std.specs.List.{filter}
 use Rattle.op_base.specs.declared.operation.Update.{Update}
 use Rattle.op_base.specs.declared.outcome.Step.{Step}
 use Rattle.op_base.specs.declared.outcome.Step.TheVariants as step
 use Rattle.frame_codec.specs.Fault.{fault_number}
 use Rattle.script_lang.specs.Acts.{are_few, update_in}
+use Rattle.script_lang.specs.Fault.{number_of_fault}
 use Rattle.script_lang.specs.Words.{words_of}
 use Rattle.script_lang.specs.declared.fault.Fault.{Fault}
 use Rattle.script_lang.specs.declared.fault.Fault.TheVariants as fault
@@ -26,6 +27,14 @@ words_update words = Err fault.Words
 -- the update that a text is
 abbrev pub text_update : List ℕ → Result Update Fault
 text_update text = words_update (words_of text)
+
+-- what a text is told as that has a fault: the fault's number, where it has one
+abbrev pub told_number : Option ℕ → Outcome
+told_number (Some number) = outcome.BadText number
+told_number None = outcome.NoMemory
+
+abbrev pub told_fault : Fault → Outcome
+told_fault fault = told_number (number_of_fault fault)
 
 -- what an update is told as
 abbrev pub told_update : Updated → Outcome
@@ -90,6 +99,17 @@ is_delivery (step.Crook id why) = false
 abbrev pub delivered_in : List Step → ℕ
 delivered_in steps = length (filter is_delivery steps)
 
--- bytes stand at the head of a buffer where there is room for all of them, and their number is told
+-- bytes stand at the head of a buffer where there is room for all of them, and else it is as before; their number is told
 abbrev pub IsHandedOut : List ℕ → List ℕ → List ℕ → ℕ → Type 0
-IsHandedOut bytes old new count = (count ≡ length bytes) × (length bytes ≤ length old → new ≡ bytes ++ drop (length bytes) old)
+IsHandedOut bytes old new count = (count ≡ length bytes) × (length bytes ≤ length old → new ≡ bytes ++ drop (length bytes) old) × (length old < length bytes → new ≡ old)
+
+-- bytes are told: with `Done` they stand at the head of the buffer, which is long enough; with `NoRoom`, exactly where it is
+-- shorter than they are, it is as before; their number is told in both cases
+abbrev pub IsTold : List ℕ → List ℕ → List ℕ → ℕ → Outcome → Type 0
+IsTold bytes old new count answer = (count ≡ length bytes)
+    × (((length bytes ≤ length old) × (answer ≡ outcome.Done) × (new ≡ bytes ++ drop (length bytes) old)) ⊎ ((length old < length bytes) × (answer ≡ outcome.NoRoom) × (new ≡ old)))
+
+-- the frame at a place is told, or that there is none
+abbrev pub IsFrameTold : List (List ℕ) → ℕ → List ℕ → List ℕ → ℕ → Outcome → Type 0
+IsFrameTold frames place old new count answer =
+    ((place < length frames) × IsTold (slice_index_or frames place []) old new count answer) ⊎ ((length frames ≤ place) × (answer ≡ outcome.NoFrame))

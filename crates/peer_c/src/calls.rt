@@ -1,6 +1,6 @@
 //! The calls of a peer, with what C hands over and gets.
 
-ghost use Rattle.std.specs.Prelude.{◌≡◌, ◌≢◌, ◌<◌, ◌↔◌, IfOk, IfErr, IsErrOf, false, Ok, Some, true, length, take, slice_index_or, []};
+ghost use Rattle.std.specs.Prelude.{◌≡◌, ◌≢◌, ◌<◌, ◌≤◌, ◌↔◌, IfOk, IfErr, IsErrOf, false, Ok, Err, Some, None, true, length};
 ghost use Rattle.op_base.specs.Reading.{object_of};
 ghost use Rattle.op_base.specs.Timestamp.{entry};
 ghost use Rattle.op_base.specs.declared.name.ObjectId.{ObjectId};
@@ -12,12 +12,13 @@ ghost use Rattle.causal_model.specs.State.{State, start};
 ghost use Rattle.replica_core.specs.Numbers.{are_numbers};
 ghost use Rattle.replica_core.specs.Rules.{StandsFor, SameSettings, Unchanged};
 ghost use Rattle.script_lang.specs.Replies.{reply_line};
+ghost use Rattle.script_lang.specs.declared.fault.Fault.{Fault};
 ghost use Rattle.script_lang.specs.declared.reply.Reply.TheVariants.{Is};
 ghost use Rattle.peer.specs.Rules.{update_rule, peer_beat_rule, hear_rule, frames_again};
-ghost use Rattle.peer_c.specs.Tells.{text_update, told_update, told_beat, told_heard, is_done, is_frame, tells, update_frame, beat_frame, heard_steps, delivered_in, IsHandedOut};
+ghost use Rattle.peer_c.specs.Tells.{text_update, told_fault, told_update, told_beat, told_heard, is_done, is_frame, tells, update_frame, beat_frame, heard_steps, delivered_in, IsHandedOut, IsTold, IsFrameTold};
 
 use crate::outcome::Outcome;
-use crate::text::{faulty, hand_out, read_object, read_text};
+use crate::text::{OBJECT, faulty, hand_out, read_object, read_text};
 use op_base::{Answer, ListOf, Step, StepList, Tag, Text};
 use peer::{Beat, CreateFault, Heard, Peer, Updated};
 use script_lang::{Reply, put_reply};
@@ -26,6 +27,7 @@ use std::alloc::Global;
 /// A peer in a box.
 pub fn create(alloc: Global, me: u8, n: u8, w: u8, limit: u32) -> Result<Box<Peer>, Outcome>
     ensures bad_numbers { IsErrOf result Outcome.BadNumbers ↔ (are_numbers me n w limit ≡ false) }
+    ensures memory { IfErr result (λ outcome. outcome ≢ Outcome.BadNumbers → outcome ≡ Outcome.NoMemory) }
     ensures me { IfOk result (λ peer. peer.value.me ≡ me) }
     ensures n { IfOk result (λ peer. peer.value.n ≡ n) }
     ensures w { IfOk result (λ peer. peer.value.w ≡ w) }
@@ -33,7 +35,7 @@ pub fn create(alloc: Global, me: u8, n: u8, w: u8, limit: u32) -> Result<Box<Pee
     ensures empty { IfOk result (λ peer. StandsFor peer.value (start n me)) }
 {
     match Peer::create(alloc, me, n, w, limit) {
-        Ok(peer) => Box::new(alloc, peer).map_err(|_| Outcome::NoMemory),
+        Ok(peer) => Box::new(alloc, peer).or(Err(Outcome::NoMemory)),
         Err(CreateFault::BadNumbers) => Err(Outcome::BadNumbers),
         Err(CreateFault::NoMemory) => Err(Outcome::NoMemory),
     }
@@ -43,6 +45,8 @@ pub fn create(alloc: Global, me: u8, n: u8, w: u8, limit: u32) -> Result<Box<Pee
 fn tell_update(answer: Updated, frame: &mut [u8], count: &mut usize) -> Outcome
     ensures told { result ≡ told_update answer }
     ensures frame { result ≡ Outcome.Done → IsHandedOut (update_frame answer) frame.old frame.new count.new }
+    ensures kept { result ≢ Outcome.Done → frame.new ≡ frame.old }
+    ensures counted { result ≢ Outcome.Done → count.new ≡ count.old }
 {
     match answer {
         Updated::Frame(bytes) => {
@@ -64,7 +68,10 @@ pub fn update(
     count: &mut usize,
 ) -> Outcome
     ensures answer { (u : Update) → text_update text.now ≡ Ok u → Follows StandsFor Outcome.NoMemory (λ _. true) (tells told_update (update_rule peer.old.n peer.old.w peer.old.limit u)) peer.old result peer.new }
+    ensures bad_text { (fault : Fault) → text_update text.now ≡ Err fault → result ≢ Outcome.NoMemory → result ≡ told_fault fault }
     ensures frame { result ≡ Outcome.Done → (u : Update) → text_update text.now ≡ Ok u → (s : State) → StandsFor peer.old s → IsHandedOut (update_frame (update_rule peer.old.n peer.old.w peer.old.limit u s).0) frame.old frame.new count.new }
+    ensures kept { result ≢ Outcome.Done → frame.new ≡ frame.old }
+    ensures counted { result ≢ Outcome.Done → count.new ≡ count.old }
     ensures settings { SameSettings peer.old peer.new }
     ensures refused { result ≢ Outcome.Done → Unchanged peer.old peer.new }
 {
@@ -78,6 +85,8 @@ pub fn update(
 fn tell_beat(answer: Beat, frame: &mut [u8], count: &mut usize) -> Outcome
     ensures told { result ≡ told_beat answer }
     ensures frame { result ≡ Outcome.Done → IsHandedOut (beat_frame answer) frame.old frame.new count.new }
+    ensures kept { result ≢ Outcome.Done → frame.new ≡ frame.old }
+    ensures counted { result ≢ Outcome.Done → count.new ≡ count.old }
 {
     match answer {
         Beat::Frame(bytes) => {
@@ -95,6 +104,8 @@ fn tell_beat(answer: Beat, frame: &mut [u8], count: &mut usize) -> Outcome
 pub fn beat(alloc: Global, peer: &mut Peer, frame: &mut [u8], count: &mut usize) -> Outcome
     ensures answer { Follows StandsFor Outcome.NoMemory is_done (tells told_beat (peer_beat_rule peer.old.n peer.old.w peer.old.limit)) peer.old result peer.new }
     ensures frame { result ≡ Outcome.Done → (s : State) → StandsFor peer.old s → IsHandedOut (beat_frame (peer_beat_rule peer.old.n peer.old.w peer.old.limit s).0) frame.old frame.new count.new }
+    ensures kept { result ≢ Outcome.Done → frame.new ≡ frame.old }
+    ensures counted { result ≢ Outcome.Done → count.new ≡ count.old }
     ensures settings { SameSettings peer.old peer.new }
     ensures refused { result ≢ Outcome.Done → Unchanged peer.old peer.new }
 {
@@ -117,6 +128,8 @@ fn tell_heard(answer: Heard, delivered: &mut usize, steps: &mut usize) -> Outcom
     ensures told { result ≡ told_heard answer }
     ensures delivered { result ≡ Outcome.Done → delivered.new ≡ delivered_in (heard_steps answer) }
     ensures steps { result ≡ Outcome.Done → steps.new ≡ length (heard_steps answer) }
+    ensures delivered_kept { result ≢ Outcome.Done → delivered.new ≡ delivered.old }
+    ensures steps_kept { result ≢ Outcome.Done → steps.new ≡ steps.old }
 {
     match answer {
         Heard::Bad(fault) => Outcome::BadFrame(fault.number()),
@@ -144,17 +157,17 @@ pub fn hear(
     ensures answer { Follows StandsFor Outcome.NoMemory is_frame (tells told_heard (hear_rule peer.old.n peer.old.w peer.old.limit bytes.now)) peer.old result peer.new }
     ensures delivered { result ≡ Outcome.Done → (s : State) → StandsFor peer.old s → delivered.new ≡ delivered_in (heard_steps (hear_rule peer.old.n peer.old.w peer.old.limit bytes.now s).0) }
     ensures steps { result ≡ Outcome.Done → (s : State) → StandsFor peer.old s → steps.new ≡ length (heard_steps (hear_rule peer.old.n peer.old.w peer.old.limit bytes.now s).0) }
+    ensures delivered_kept { result ≢ Outcome.Done → delivered.new ≡ delivered.old }
+    ensures steps_kept { result ≢ Outcome.Done → steps.new ≡ steps.old }
     ensures settings { SameSettings peer.old peer.new }
     ensures refused { result ≢ Outcome.Done → result ≢ Outcome.Kept → Unchanged peer.old peer.new }
 {
     tell_heard(peer.hear(alloc, bytes), delivered, steps)
 }
 
-/// Hands out bytes, and says whether there was room for them.
+/// Hands out bytes, and tells whether there was room for them.
 fn told(bytes: &[u8], buffer: &mut [u8], count: &mut usize) -> Outcome
-    ensures count { count.new ≡ length bytes.now }
-    ensures copied { result ≡ Outcome.Done → take count.new buffer.new ≡ bytes.now }
-    ensures kept { result ≢ Outcome.Done → buffer.new ≡ buffer.old }
+    ensures { IsTold bytes.now buffer.old buffer.new count.new result }
 {
     if hand_out(bytes, buffer, count) {
         Outcome::Done
@@ -163,7 +176,8 @@ fn told(bytes: &[u8], buffer: &mut [u8], count: &mut usize) -> Outcome
     }
 }
 
-/// Hands out the frame at a place, from 0, of those to send again, oldest first.
+/// Hands out the frame at a place, from 0, of those to send again, oldest first. Where there is none, or no room for it,
+/// the buffer stays as it was.
 pub fn frame_at(
     alloc: Global,
     peer: &Peer,
@@ -171,8 +185,9 @@ pub fn frame_at(
     frame: &mut [u8],
     count: &mut usize,
 ) -> Outcome
-    ensures frame { result ≡ Outcome.Done → (s : State) → StandsFor peer.now s → take count.new frame.new ≡ slice_index_or (frames_again peer.now s) place [] }
+    ensures answer { (s : State) → StandsFor peer.now s → result ≢ Outcome.NoMemory → IsFrameTold (frames_again peer.now s) place frame.old frame.new count.new result }
     ensures kept { result ≢ Outcome.Done → frame.new ≡ frame.old }
+    ensures counted { result ≢ Outcome.Done → result ≢ Outcome.NoRoom → count.new ≡ count.old }
 {
     let Ok(frames) = peer.to_send_again(alloc) else {
         return Outcome::NoMemory;
@@ -186,7 +201,7 @@ pub fn frame_at(
 /// The line of an answer, as a script's `ask` replies it.
 fn line_of(alloc: Global, answer: Answer) -> Result<Text, Outcome>
     ensures line { IfOk result (λ line. line ≡ reply_line (Is answer)) }
-    ensures fault { IfErr result (λ outcome. outcome ≢ Outcome.Done) }
+    ensures fault { IfErr result (λ outcome. outcome ≡ Outcome.NoMemory) }
 {
     let mut line = ListOf::new(alloc);
     match put_reply(&Reply::Is(answer), &mut line) {
@@ -198,7 +213,8 @@ fn line_of(alloc: Global, answer: Answer) -> Result<Text, Outcome>
 /// What the object of a text is, as the line of an answer.
 fn answer_line(alloc: Global, peer: &Peer, object: &[u8]) -> Result<Text, Outcome>
     ensures line { IfOk result (λ line. (o : ObjectId) → object_of object.now ≡ Some o → (s : State) → StandsFor peer.now s → line ≡ reply_line (Is (answer o (events s.history)))) }
-    ensures fault { IfErr result (λ outcome. outcome ≢ Outcome.Done) }
+    ensures bad_text { object_of object.now ≡ None → result ≡ Err (Outcome.BadText OBJECT) }
+    ensures memory { (o : ObjectId) → object_of object.now ≡ Some o → IfErr result (λ outcome. outcome ≡ Outcome.NoMemory) }
 {
     let object = read_object(alloc, object)?;
     match peer.ask(alloc, &object) {
@@ -207,7 +223,8 @@ fn answer_line(alloc: Global, peer: &Peer, object: &[u8]) -> Result<Text, Outcom
     }
 }
 
-/// Hands out what the object of a text is.
+/// Hands out what the object of a text is. Where the text is none, or there is no room for the line, the buffer stays as it
+/// was.
 pub fn ask(
     alloc: Global,
     peer: &Peer,
@@ -215,8 +232,10 @@ pub fn ask(
     buffer: &mut [u8],
     count: &mut usize,
 ) -> Outcome
-    ensures line { result ≡ Outcome.Done → (o : ObjectId) → object_of object.now ≡ Some o → (s : State) → StandsFor peer.now s → take count.new buffer.new ≡ reply_line (Is (answer o (events s.history))) }
+    ensures bad_text { object_of object.now ≡ None → result ≡ Outcome.BadText OBJECT }
+    ensures line { (o : ObjectId) → object_of object.now ≡ Some o → (s : State) → StandsFor peer.now s → result ≢ Outcome.NoMemory → IsTold (reply_line (Is (answer o (events s.history)))) buffer.old buffer.new count.new result }
     ensures kept { result ≢ Outcome.Done → buffer.new ≡ buffer.old }
+    ensures counted { result ≢ Outcome.Done → result ≢ Outcome.NoRoom → count.new ≡ count.old }
 {
     match answer_line(alloc, peer, object) {
         Ok(line) => told(line.as_slice(), buffer, count),
@@ -227,6 +246,7 @@ pub fn ask(
 /// Tells the number of a member, where there is such a member.
 pub fn number_at(numbers: &Tag, member: u8, number: &mut u32) -> Outcome
     ensures done { result ≡ Outcome.Done ↔ (member < length numbers.now) }
+    ensures bad_numbers { length numbers.now ≤ member → result ≡ Outcome.BadNumbers }
     ensures number { result ≡ Outcome.Done → number.new ≡ entry numbers.now member }
     ensures kept { result ≢ Outcome.Done → number.new ≡ number.old }
 {

@@ -1,22 +1,21 @@
 //! Texts that C hands over, and bytes that it gets.
 
-ghost use Rattle.std.specs.Prelude.{◌≡◌, ◌≢◌, ◌++◌, ◌≤◌, ◌↔◌, IsTrue, IfOk, IfErr, Some, false, length, drop, map};
+ghost use Rattle.std.specs.Prelude.{◌≡◌, ◌++◌, ◌≤◌, ◌↔◌, IsTrue, IfOk, IfErr, Some, None, false, length, drop, map};
 ghost use Rattle.op_base.specs.Reading.{object_of};
 ghost use Rattle.script_lang.specs.Memory.{Reads};
-ghost use Rattle.peer_c.specs.Tells.{words_update, text_update};
+ghost use Rattle.peer_c.specs.Tells.{words_update, text_update, told_fault};
 
 use crate::outcome::Outcome;
-use op_base::{NameFault, ObjectId, Update};
+use op_base::{ObjectId, Update};
 use script_lang::{Fault, read_update, split};
 use std::alloc::Global;
 
 /// The number of the fault of a text that is no object.
-const OBJECT: u8 = 5;
+pub const OBJECT: u8 = 5;
 
 /// What a text is told as that has a fault.
 pub fn faulty(fault: Fault) -> Outcome
-    ensures memory { fault ≡ Fault.NoMemory → result ≡ Outcome.NoMemory }
-    ensures undone { result ≢ Outcome.Done }
+    ensures { result ≡ told_fault fault }
 {
     match fault.number() {
         Some(number) => Outcome::BadText(number),
@@ -43,14 +42,13 @@ pub fn read_text(alloc: Global, text: &[u8]) -> Result<Update, Fault>
     read_words(alloc, split(text).as_slice())
 }
 
-/// The object of a text.
+/// The object of a text. It takes no memory.
 pub fn read_object(alloc: Global, text: &[u8]) -> Result<ObjectId, Outcome>
     ensures object { IfOk result (λ object. object_of text.now ≡ Some object) }
-    ensures fault { IfErr result (λ outcome. outcome ≢ Outcome.Done) }
+    ensures fault { IfErr result (λ outcome. (outcome ≡ Outcome.BadText OBJECT) × (object_of text.now ≡ None)) }
 {
     match ObjectId::read(alloc, text) {
         Ok(object) => Ok(object),
-        Err(NameFault::NoMemory) => Err(Outcome::NoMemory),
         Err(_) => Err(Outcome::BadText(OBJECT)),
     }
 }
