@@ -9,7 +9,7 @@ use Rattle.script_lang.specs.Headers.{header_of}
 use Rattle.script_lang.specs.Replies.{joined}
 use Rattle.script_lang.specs.declared.header.Header.{Header}
 use Rattle.script_lang.specs.declared.header.Header.TheVariants.{Store, Keep, Live}
-use Rattle.workload.specs.Script.{header_words}
+use Rattle.workload.specs.Script.{made_header}
 
 -- whether it is the header of a store of n members with a window of w
 abbrev is_store : ℕ → ℕ → Option Header → Bool
@@ -37,12 +37,12 @@ each-is (suc k) p h i low high =
     ]
 
 abbrev is_read : ℕ → ℕ → Bool
-is_read n w = is_store n w (header_of (joined (header_words n w)))
+is_read n w = is_store n w (header_of (joined (made_header n w)))
 
 all-read : each_to 16 (λ n. each_to 64 (is_read n)) ≡ true
 unfolding digits
 all-read = refl
 
-pub header-read : (n w : ℕ) → 1 ≤ n → n ≤ 16 → 1 ≤ w → w ≤ 64 → header_of (joined (header_words n w)) ≡ Some (Store n w 65535)
+pub header-read : (n w : ℕ) → 1 ≤ n → n ≤ 16 → 1 ≤ w → w ≤ 64 → header_of (joined (made_header n w)) ≡ Some (Store n w 65535)
 header-read n w few_n most_n few_w most_w =
     store-is n w _ (each-is 64 (is_read n) (each-is 16 (λ n. each_to 64 (is_read n)) all-read n few_n most_n) w few_w most_w)

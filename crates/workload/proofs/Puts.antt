@@ -5,7 +5,7 @@ use Rattle.std.proofs.lemmas.Grind.{flat_map-append}
 use Rattle.std.proofs.lemmas.List.{append_assoc, append-nil, take_more, map-append, length-map, get_or-map, take-append-drop, take_all, length_push}
 use Rattle.std.proofs.Math.Seq.{take-append_seam}
 use Rattle.std.proofs.lemmas.Slice.Zip.{length-zip, get_or-zip}
-use Rattle.workload.specs.Summary.{ended, reply_line}
+use Rattle.workload.specs.Summary.{ended, told_reply}
 
 -- a text that begins with so much begins with its front
 pub begins_still : (front more so_far text : List ℕ) → so_far ≡ front ++ more → take (length so_far) text ≡ so_far → take (length front) text ≡ front
@@ -41,10 +41,10 @@ module _ {X Y : Type 0} (f : X → List ℕ) (g : Y → List ℕ) (xs : List X) 
 
   -- the lines of so many pairs as were taken, where one more is
   pub replies_more : {P : Type 0} (taken : List P) (p : P) (x : X) (y : Y) → length taken < length xs → length taken < length ys → x ≡ get_or xs (length taken) x → y ≡ get_or ys (length taken) y
-      → map reply_line (take (length (taken ++ p ∷ [])) pairs) ≡ map reply_line (take (length taken) pairs) ++ reply_line (f x, g y) ∷ []
+      → map told_reply (take (length (taken ++ p ∷ [])) pairs) ≡ map told_reply (take (length taken) pairs) ++ told_reply (f x, g y) ∷ []
   replies_more taken p x y in_xs in_ys is_x is_y =
-      ap (λ n. map reply_line (take n pairs)) (length_push taken p) ∙ ap (map reply_line) (pairs_more (length taken) x y in_xs in_ys is_x is_y)
-      ∙ map-append reply_line (take (length taken) pairs) ((f x, g y) ∷ [])
+      ap (λ n. map told_reply (take n pairs)) (length_push taken p) ∙ ap (map told_reply) (pairs_more (length taken) x y in_xs in_ys is_x is_y)
+      ∙ map-append told_reply (take (length taken) pairs) ((f x, g y) ∷ [])
 
   -- all of them
   pub pairs_all : (n : ℕ) → n ≡ min (length xs) (length ys) → take n pairs ≡ pairs

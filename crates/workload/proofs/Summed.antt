@@ -4,7 +4,7 @@ use Rattle.std.specs.Borrow.{Bor}
 use Rattle.std.specs.List.{zip}
 use Rattle.std.proofs.lemmas.Grind.{flat_map-append}
 use Rattle.std.proofs.lemmas.List.{append_assoc, length-map}
-use Rattle.workload.specs.Summary.{lines_of, ended, word_at, counts_of, count_line, last_lines, reply_line, summary, summary_lines}
+use Rattle.workload.specs.Summary.{cut_lines, ended, word_at, counts_of, count_line, last_lines, told_reply, summary, summary_lines}
 
 -- three parts, one behind another
 ended_parts : (text one two three line : List ℕ) (counts shown : List (List ℕ)) → one ≡ text ++ (line ++ 10 ∷ []) → two ≡ one ++ ended counts → three ≡ two ++ ended shown
@@ -19,15 +19,15 @@ abbrev pub texts : List (Bor (List ℕ)) → List (List ℕ)
 texts slices = map (λ slice. slice.now) slices
 
 pub summed_up : (script transcript text one two three : List ℕ) (lines replies asked answered : List (Bor (List ℕ))) (counts : List (List ℕ × ℕ))
-    → texts lines ≡ lines_of script → texts replies ≡ lines_of transcript → counts ≡ counts_of (map (word_at 0) (texts replies))
+    → texts lines ≡ cut_lines script → texts replies ≡ cut_lines transcript → counts ≡ counts_of (map (word_at 0) (texts replies))
     → texts asked ≡ last_lines (texts lines) → texts answered ≡ last_lines (texts replies)
     → one ≡ text ++ (count_line (codes "lines", length replies) ++ 10 ∷ []) → two ≡ one ++ ended (map count_line counts)
-    → three ≡ two ++ ended (map reply_line (zip (texts asked) (texts answered)))
+    → three ≡ two ++ ended (map told_reply (zip (texts asked) (texts answered)))
     → three ≡ text ++ summary script transcript
 summed_up script transcript text one two three lines replies asked answered counts lines_are replies_are counts_are asked_are answered_are first second third =
     let all : three ≡ text ++ ended (summary_lines (texts lines) (texts replies)) =
-    ended_parts text one two three (count_line (codes "lines", length (texts replies))) (map count_line (counts_of (map (word_at 0) (texts replies)))) (map reply_line (zip (last_lines (texts lines)) (last_lines (texts replies))))
+    ended_parts text one two three (count_line (codes "lines", length (texts replies))) (map count_line (counts_of (map (word_at 0) (texts replies)))) (map told_reply (zip (last_lines (texts lines)) (last_lines (texts replies))))
     (first ∙ ap (λ n. text ++ (count_line (codes "lines", n) ++ 10 ∷ [])) (sym (length-map replies (λ reply. reply.now))))
     (second ∙ ap (λ cs. one ++ ended (map count_line cs)) counts_are)
-    (third ∙ (λ t. two ++ ended (map reply_line (zip (asked_are t) (answered_are t))))) in
+    (third ∙ (λ t. two ++ ended (map told_reply (zip (asked_are t) (answered_are t))))) in
     all ∙ (λ t. text ++ ended (summary_lines (lines_are t) (replies_are t)))

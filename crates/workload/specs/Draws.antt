@@ -10,10 +10,10 @@ unfoldable pub given : (m : ℕ) → ℕ → ℕ
 given m state = (state / 65536) % m
 
 -- the state after so many draws
-abbrev pub state_after : ℕ → ℕ → ℕ
-state_after zero state = state
-state_after (suc draws) state = state_after draws (next_state state)
+abbrev pub draws_after : ℕ → ℕ → ℕ
+draws_after zero state = state
+draws_after (suc draws) state = draws_after draws (next_state state)
 
 -- what the k-th draw from a state gives below m, counted from 1
 abbrev pub drawn : (k m : ℕ) → ℕ → ℕ
-drawn k m state = given m (state_after k state)
+drawn k m state = given m (draws_after k state)

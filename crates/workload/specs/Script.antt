@@ -9,7 +9,7 @@ use Rattle.script_lang.specs.Acts.{operation_word}
 use Rattle.script_lang.specs.Replies.{joined}
 use Rattle.script_lang.specs.declared.act.Operation.{Operation}
 use Rattle.script_lang.specs.declared.act.Operation.TheVariants.{Add, Rmv, Clear, Enable, Disable, Write, Inc, Dec}
-use Rattle.workload.specs.Draws.{state_after, drawn}
+use Rattle.workload.specs.Draws.{draws_after, drawn}
 use Rattle.workload.specs.declared.operation.Argument.{Argument}
 use Rattle.workload.specs.declared.operation.Argument.TheVariants.{Nothing, Value, Amount}
 
@@ -71,26 +71,26 @@ argument_words Amount state = decimal (drawn 1 100 state) ∷ []
 -- the state after it
 abbrev pub argument_after : Argument → ℕ → ℕ
 argument_after Nothing state = state
-argument_after Value state = state_after 1 state
-argument_after Amount state = state_after 1 state
+argument_after Value state = draws_after 1 state
+argument_after Amount state = draws_after 1 state
 
 -- do: an operation on an object of its kind; the key is drawn, and then the argument
 abbrev pub do_operation : Kind × Operation → ℕ → ℕ → Made
 do_operation o r state = record {
   words = codes "do" ∷ decimal r ∷ object_word o.0 (drawn 1 2 state) ∷ operation_word o.1
-      ∷ argument_words (argument_of o.1) (state_after 1 state);
-  after = argument_after (argument_of o.1) (state_after 1 state);
+      ∷ argument_words (argument_of o.1) (draws_after 1 state);
+  after = argument_after (argument_of o.1) (draws_after 1 state);
 }
 
 -- do: the code is drawn, and then the rest
 abbrev pub do_line : ℕ → ℕ → Made
-do_line r state = do_operation (operation_of (1 + drawn 1 19 state)) r (state_after 1 state)
+do_line r state = do_operation (operation_of (1 + drawn 1 19 state)) r (draws_after 1 state)
 
 -- ask: the kind is drawn, and then the key
 abbrev pub ask_line : ℕ → ℕ → Made
 ask_line r state = record {
   words = codes "ask" ∷ decimal r ∷ object_word (kind_at (drawn 1 7 state)) (drawn 2 2 state) ∷ [];
-  after = state_after 2 state;
+  after = draws_after 2 state;
 }
 
 -- beat: nothing more is drawn
@@ -101,14 +101,14 @@ beat_line r state = record { words = codes "beat" ∷ decimal r ∷ []; after = 
 abbrev pub resend_line : ℕ → ℕ → ℕ → Made
 resend_line n r state = record {
   words = codes "resend" ∷ decimal r ∷ decimal (drawn 1 n state) ∷ [];
-  after = state_after 1 state;
+  after = draws_after 1 state;
 }
 
 -- give: the member is drawn, and then a number from 1 to 20
 abbrev pub give_line : ℕ → ℕ → ℕ → Made
 give_line n r state = record {
   words = codes "give" ∷ decimal r ∷ decimal (drawn 1 n state) ∷ decimal (1 + drawn 2 20 state) ∷ [];
-  after = state_after 2 state;
+  after = draws_after 2 state;
 }
 
 -- a line by the kind that was drawn, from 0 to 7
@@ -122,7 +122,7 @@ line_of_kind kind n r state =
 
 -- the line that a state gives in a store of n members
 abbrev pub line_from : ℕ → ℕ → Made
-line_from n state = line_of_kind (drawn 2 8 state) n (drawn 1 n state) (state_after 2 state)
+line_from n state = line_of_kind (drawn 2 8 state) n (drawn 1 n state) (draws_after 2 state)
 
 -- so many lines from a state on
 abbrev pub lines_from : ℕ → ℕ → ℕ → List (List (List ℕ))
@@ -132,8 +132,8 @@ lines_from n (suc count) state = (line_from n state).words ∷ lines_from n coun
 -- ---- the script
 
 -- store n w 65535
-abbrev pub header_words : ℕ → ℕ → List (List ℕ)
-header_words n w = codes "store" ∷ decimal n ∷ decimal w ∷ codes "65535" ∷ []
+abbrev pub made_header : ℕ → ℕ → List (List ℕ)
+made_header n w = codes "store" ∷ decimal n ∷ decimal w ∷ codes "65535" ∷ []
 
 -- replica 0 is asked for both objects of a kind
 abbrev pub questions_of : Kind → List (List (List ℕ))
@@ -145,13 +145,13 @@ abbrev pub closing_lines : List (List (List ℕ))
 closing_lines = (codes "settle" ∷ []) ∷ flat_map questions_of drawn_kinds
 
 -- a line: words with one space between them, and a newline
-abbrev pub line_of : List (List ℕ) → List ℕ
-line_of words = joined words ++ 10 ∷ []
+abbrev pub words_line : List (List ℕ) → List ℕ
+words_line words = joined words ++ 10 ∷ []
 
 -- the text of lines
-abbrev pub text_of : List (List (List ℕ)) → List ℕ
-text_of lines = flat_map line_of lines
+abbrev pub words_text : List (List (List ℕ)) → List ℕ
+words_text lines = flat_map words_line lines
 
 -- the script: a header, count lines from the seed on, and the closing lines
 abbrev pub made_script : (seed count n w : ℕ) → List ℕ
-made_script seed count n w = text_of (header_words n w ∷ (lines_from n count seed ++ closing_lines))
+made_script seed count n w = words_text (made_header n w ∷ (lines_from n count seed ++ closing_lines))

@@ -8,8 +8,8 @@ use Rattle.script_lang.specs.Replies.{joined}
 use Rattle.script_lang.specs.Words.{words_of}
 
 -- the lines of a text that a newline ends, without it
-abbrev pub lines_of : List ℕ → List (List ℕ)
-lines_of text = take (length (slice_split (λ b. b == 10) text) - 1) (slice_split (λ b. b == 10) text)
+abbrev pub cut_lines : List ℕ → List (List ℕ)
+cut_lines text = take (length (slice_split (λ b. b == 10) text) - 1) (slice_split (λ b. b == 10) text)
 
 -- the text of lines, each ended by a newline
 abbrev pub ended : List (List ℕ) → List ℕ
@@ -40,16 +40,16 @@ abbrev pub last_lines : List (List ℕ) → List (List ℕ)
 last_lines lines = drop (length lines - 14) lines
 
 -- the object of a question, which is its third word, and the reply to it
-abbrev pub reply_line : List ℕ × List ℕ → List ℕ
-reply_line asked = word_at 2 asked.0 ++ 32 ∷ asked.1
+abbrev pub told_reply : List ℕ × List ℕ → List ℕ
+told_reply asked = word_at 2 asked.0 ++ 32 ∷ asked.1
 
 -- the summary of a script's lines and their replies: how many replies there are, how often each first word comes, and the
 -- last fourteen lines and replies, paired in order
 abbrev pub summary_lines : List (List ℕ) → List (List ℕ) → List (List ℕ)
 summary_lines lines replies =
     count_line (codes "lines", length replies)
-    ∷ (map count_line (counts_of (map (word_at 0) replies)) ++ map reply_line (zip (last_lines lines) (last_lines replies)))
+    ∷ (map count_line (counts_of (map (word_at 0) replies)) ++ map told_reply (zip (last_lines lines) (last_lines replies)))
 
 -- the summary of a script and its transcript, each line ended by a newline
 abbrev pub summary : List ℕ → List ℕ → List ℕ
-summary script transcript = ended (summary_lines (lines_of script) (lines_of transcript))
+summary script transcript = ended (summary_lines (cut_lines script) (cut_lines transcript))

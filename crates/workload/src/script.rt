@@ -3,7 +3,7 @@
 ghost use Rattle.std.specs.Prelude.{◌≡◌, ◌≤◌, ◌++◌, ◌∷◌, [], codes, IfOk, OnOk};
 ghost use Rattle.std.specs.Fmt.{decimal};
 ghost use Rattle.script_lang.specs.Replies.{joined, spaced};
-ghost use Rattle.workload.specs.Script.{object_word, argument_words, argument_after, do_operation, do_line, ask_line, beat_line, resend_line, give_line, line_of_kind, line_from, lines_from, header_words, questions_of, closing_lines, line_of, text_of, made_script};
+ghost use Rattle.workload.specs.Script.{object_word, argument_words, argument_after, do_operation, do_line, ask_line, beat_line, resend_line, give_line, line_of_kind, line_from, lines_from, made_header, questions_of, closing_lines, words_line, words_text, made_script};
 
 use crate::draws::Draws;
 use crate::operation::{Argument, argument_of, kind_at, operation_of};
@@ -50,7 +50,7 @@ fn put_object(kind: Kind, key: u32, out: &mut Text) -> Result<(), NoMemory>
 
 /// Puts the header.
 fn put_header(n: u8, w: u8, out: &mut Text) -> Result<(), NoMemory>
-    ensures { OnOk result (out.new ≡ out.old ++ line_of (header_words n w)) }
+    ensures { OnOk result (out.new ≡ out.old ++ words_line (made_header n w)) }
 {
     out.extend_from_slice(b"store")?;
     put_spaced(u32::from(n), out)?;
@@ -61,7 +61,7 @@ fn put_header(n: u8, w: u8, out: &mut Text) -> Result<(), NoMemory>
 /// Puts so many lines that are drawn from a state on.
 fn put_lines(count: u32, n: u8, state: u32, out: &mut Text) -> Result<(), NoMemory>
     requires { 1 ≤ n }
-    ensures { OnOk result (out.new ≡ out.old ++ text_of (lines_from n count state)) }
+    ensures { OnOk result (out.new ≡ out.old ++ words_text (lines_from n count state)) }
 {
     let mut draws = Draws { state };
     for _line in 0..count {
@@ -73,7 +73,7 @@ fn put_lines(count: u32, n: u8, state: u32, out: &mut Text) -> Result<(), NoMemo
 /// Puts a line that is drawn.
 fn put_line(n: u8, draws: &mut Draws, out: &mut Text) -> Result<(), NoMemory>
     requires { 1 ≤ n }
-    ensures text { OnOk result (out.new ≡ out.old ++ line_of (line_from n draws.old.state).words) }
+    ensures text { OnOk result (out.new ≡ out.old ++ words_line (line_from n draws.old.state).words) }
     ensures state { OnOk result (draws.new.state ≡ (line_from n draws.old.state).after) }
 {
     let r = draws.below(u32::from(n));
@@ -189,7 +189,7 @@ fn put_give(n: u8, r: u32, draws: &mut Draws, out: &mut Text) -> Result<(), NoMe
 
 /// Puts the lines behind those that are drawn.
 fn put_closing(out: &mut Text) -> Result<(), NoMemory>
-    ensures { OnOk result (out.new ≡ out.old ++ text_of closing_lines) }
+    ensures { OnOk result (out.new ≡ out.old ++ words_text closing_lines) }
 {
     out.extend_from_slice(b"settle\n")?;
     for place in 0..7 {
@@ -200,7 +200,7 @@ fn put_closing(out: &mut Text) -> Result<(), NoMemory>
 
 /// Puts the questions of a kind.
 fn put_questions(kind: Kind, out: &mut Text) -> Result<(), NoMemory>
-    ensures { OnOk result (out.new ≡ out.old ++ text_of (questions_of kind)) }
+    ensures { OnOk result (out.new ≡ out.old ++ words_text (questions_of kind)) }
 {
     put_question(kind, 0, out)?;
     put_question(kind, 1, out)
@@ -208,7 +208,7 @@ fn put_questions(kind: Kind, out: &mut Text) -> Result<(), NoMemory>
 
 /// Puts a closing question.
 fn put_question(kind: Kind, key: u32, out: &mut Text) -> Result<(), NoMemory>
-    ensures { OnOk result (out.new ≡ out.old ++ line_of (codes "ask" ∷ codes "0" ∷ object_word kind key ∷ [])) }
+    ensures { OnOk result (out.new ≡ out.old ++ words_line (codes "ask" ∷ codes "0" ∷ object_word kind key ∷ [])) }
 {
     out.extend_from_slice(b"ask 0")?;
     put_object(kind, key, out)?;

@@ -4,7 +4,7 @@ ghost use Rattle.std.specs.Prelude.{◌≡◌, ℕ, ◌+◌, ◌<◌, ◌^◌, �
 ghost use Rattle.std.specs.List.{zip};
 ghost use Rattle.op_base.specs.Name.{same_text};
 ghost use Rattle.workload.specs.Counts.{kept_of, count_in};
-ghost use Rattle.workload.specs.Summary.{lines_of, ended, word_at, counts_of, count_line, last_lines, reply_line, summary};
+ghost use Rattle.workload.specs.Summary.{cut_lines, ended, word_at, counts_of, count_line, last_lines, told_reply, summary};
 
 use indexmap::IndexMap;
 use op_base::{NoMemory, Text};
@@ -18,8 +18,8 @@ type WordCounts<'a> = IndexMap<&'a [u8], usize>;
 const SHOWN: usize = 14;
 
 /// The lines of a text that a newline ends, each without it.
-fn lines_of(alloc: Global, text: &[u8]) -> Result<Vec<&[u8]>, NoMemory>
-    ensures { IfOk result (λ lines. map (λ line. line.now) lines.items ≡ lines_of text.now) }
+fn cut_lines(alloc: Global, text: &[u8]) -> Result<Vec<&[u8]>, NoMemory>
+    ensures { IfOk result (λ lines. map (λ line. line.now) lines.items ≡ cut_lines text.now) }
 {
     let mut lines: Vec<&[u8]> = text.split(|b| *b == b'\n').collect(alloc)?;
     let _rest = lines.pop();
@@ -98,7 +98,7 @@ fn put_counts(counts: &WordCounts<'_>, out: &mut Text) -> Result<(), NoMemory>
 
 /// Puts the object that a line asks for, a space and the reply as a line.
 fn put_reply(line: &[u8], reply: &[u8], out: &mut Text) -> Result<(), NoMemory>
-    ensures ok { OnOk result (out.new ≡ out.old ++ (reply_line (line.now, reply.now) ++ 10 ∷ [])) }
+    ensures ok { OnOk result (out.new ≡ out.old ++ (told_reply (line.now, reply.now) ++ 10 ∷ [])) }
     ensures err { OnErr result (take (length out.old) out.new ≡ out.old) }
 {
     out.extend_from_slice(word_at(2, line))?;
@@ -109,7 +109,7 @@ fn put_reply(line: &[u8], reply: &[u8], out: &mut Text) -> Result<(), NoMemory>
 
 /// Puts such a line for each line and its reply.
 fn put_replies(lines: &[&[u8]], replies: &[&[u8]], out: &mut Text) -> Result<(), NoMemory>
-    ensures ok { OnOk result (out.new ≡ out.old ++ ended (map reply_line (zip (map (λ line. line.now) lines.now) (map (λ reply. reply.now) replies.now)))) }
+    ensures ok { OnOk result (out.new ≡ out.old ++ ended (map told_reply (zip (map (λ line. line.now) lines.now) (map (λ reply. reply.now) replies.now)))) }
     ensures err { OnErr result (take (length out.old) out.new ≡ out.old) }
 {
     for (line, reply) in lines.iter().zip(replies) {
@@ -148,8 +148,8 @@ fn put_lines(
     ensures ok { OnOk result (out.new ≡ out.old ++ summary script.now transcript.now) }
     ensures err { OnErr result (take (length out.old) out.new ≡ out.old) }
 {
-    let lines = lines_of(alloc, script)?;
-    let replies = lines_of(alloc, transcript)?;
+    let lines = cut_lines(alloc, script)?;
+    let replies = cut_lines(alloc, transcript)?;
     put_count(b"lines", replies.len(), out)?;
     put_counts(&counts_of(alloc, &replies)?, out)?;
     put_replies(last_lines(&lines), last_lines(&replies), out)

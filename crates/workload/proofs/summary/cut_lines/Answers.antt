@@ -4,7 +4,7 @@ use Rattle.std.proofs.lemmas.Iterator.Consumers.{map_from_collect}
 use Rattle.std.proofs.lemmas.Iterator.Splits.{YieldsList-from_slice_split}
 use Rattle.std.proofs.lemmas.Result.{IfOk-at_ok}
 use Rattle.workload.proofs.Views.{all_but_last}
-use Rattle.workload.proofs.summary.lines_of.Goals as goal
+use Rattle.workload.proofs.summary.cut_lines.Goals as goal
 
 pub returns : goal.returns
 returns c =
