@@ -223,10 +223,6 @@ module _ (n w limit : ℕ) (list : List SteadyDurable) (rows : List (List (List 
             (record { settings = is.of; opened = is.opened; groups = ap groups_of is.none; synced = is.unsynced }));
       }
 
--- no replicas that are new, and one more
-pub none_new : (n w limit : ℕ) (list : List SteadyDurable) → list ≡ [] → AreNew n w limit 0 list
-none_new n w limit list is = record { count_is = ap length is; each = λ r d l. absurd (omega (arith, l)) }
-
 pub one_new_more : (n w limit count : ℕ) (list after : List SteadyDurable) (it : SteadyDurable) → AreNew n w limit count list → after ≡ list ++ it ∷ [] → IsNew n count w limit it → AreNew n w limit (count + 1) after
 one_new_more n w limit count list after it are is one =
     let all : AreNew n w limit (count + 1) (list ++ it ∷ []) = record {

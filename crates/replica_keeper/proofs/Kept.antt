@@ -21,9 +21,6 @@ use Rattle.replica_keeper.proofs.Readings.{enough, IsFrontReading, front_read, j
 abbrev pub Opens : List Note → Type 0
 Opens group = cut_of group ≡ record { before = []; groups = group ∷ [] }
 
-pub sent_opens : (m : Message) → Opens (Sent m ∷ [])
-sent_opens m = refl
-
 steps_cut : (steps : List Step) → cut_of (map step_note steps) ≡ record { before = map step_note steps; groups = [] }
 steps_cut [] = refl
 steps_cut (step.Took id ∷ steps) = ap (cut_at (Took id)) (steps_cut steps)
@@ -149,10 +146,6 @@ keeps_more of notes group held synced new k told opens sent within =
     }
 
 -- ---- reading on
-
--- nothing is noted, and nothing is held
-pub keeps_none : (of : Settings) → Keeps of [] [] 0
-keeps_none of = record { cut = refl; records = refl; groups = refl; len = refl; faultless = refl; sent = omega arith; within = omega arith }
 
 pub rest_read : (of : Settings) (notes : List Note) (bytes : List ℕ) (at : ℕ) (synced : ℕ) → Keeps of notes (take at bytes) synced
     → kept_reading of bytes ≡ joined of.n of.w of.limit (record { groups = groups_of notes; len = length (take at bytes); faulty = false }) (reading_within (length bytes) of.n of.w of.limit (replay of.n of.me notes) (drop at bytes))

@@ -39,14 +39,6 @@ module _ (node after : NotedNode) (frame : List ℕ) (m : Message) (read : frame
   told_by : (way : ℕ) (group : List Note) → notes_by node.inner.w node.inner.limit s way (Ok m) ≡ group → told_to node (way ∷ frame) ≡ group_if node.inner.n (way ∷ frame) group
   told_by way group e = ap (λ r. group_if node.inner.n (way ∷ frame) (notes_by node.inner.w node.inner.limit s way r)) read ∙ ap (group_if node.inner.n (way ∷ frame)) e
 
-  -- a record that a send gives, or another than it gives
-  pub replays_sent : (own : Message) (told : Bool) → notes_sent node.inner.w node.inner.limit s m.op ≡ Sent own ∷ [] → told ≡ same_text (frame_of Two node.inner.n 0 own) frame
-      → (told ≡ true → after.journal.notes ≡ node.journal.notes ++ Sent own ∷ []) → Replays node after (1 ∷ frame) told
-  replays_sent own told e same noted = tells node after (1 ∷ frame) (Sent own ∷ []) told (told_by 1 (Sent own ∷ []) e ∙ ap (by_test (Sent own ∷ [])) (sym same)) noted refl
-
-  pub untold_sent : notes_sent node.inner.w node.inner.limit s m.op ≡ [] → told_to node (1 ∷ frame) ≡ None
-  untold_sent e = told_by 1 [] e
-
   -- a record of a message that is accepted, and of one that isn't
   pub replays_accepted : (told : Bool) → refusal_of node.inner.w s m ≡ None → told ≡ same_text (frame_of Two node.inner.n 0 m) frame
       → (told ≡ true → after.journal.notes ≡ node.journal.notes ++ Kept m ∷ map step_note (steps node.inner.w (with_early s m)).0) → Replays node after (2 ∷ frame) told
@@ -55,16 +47,9 @@ module _ (node after : NotedNode) (frame : List ℕ) (m : Message) (read : frame
       let e : notes_by node.inner.w node.inner.limit s 2 (Ok m) ≡ group = ap (λ o. receive_notes m (receive_by node.inner.w m s o).0) unrefused ∙ notes_of_accepted m (steps node.inner.w (with_early s m)).0 in
       tells node after (2 ∷ frame) group told (told_by 2 group e ∙ ap (by_test group) (sym same)) noted (kept_opens m (steps node.inner.w (with_early s m)).0)
 
-  pub untold_refused : (r : Refusal) → refusal_of node.inner.w s m ≡ Some r → told_to node (2 ∷ frame) ≡ None
-  untold_refused r e = told_by 2 [] (ap (λ o. receive_notes m (receive_by node.inner.w m s o).0) e ∙ notes_of_refused m r)
-
   -- a record that came in no way
   pub untold_way : (way : ℕ) → (way == 1) ≡ false → (way == 2) ≡ false → told_to node (way ∷ frame) ≡ None
   untold_way way a b = let e : notes_by node.inner.w node.inner.limit s way (Ok m) ≡ [] = rw (a, b) refl in told_by way [] e
-
--- a record whose rest is no frame
-pub untold_frame : (node : NotedNode) (way : ℕ) (frame : List ℕ) (fault : FrameFault) → frame_read node.inner.n 0 node.inner.limit frame ≡ Err fault → told_to node (way ∷ frame) ≡ None
-untold_frame node way frame fault e = ap (λ r. group_if node.inner.n (way ∷ frame) (notes_by node.inner.w node.inner.limit (state_by node.first node.journal.notes) way r)) e
 
 -- ---- a content: the byte of its way, and its frame
 

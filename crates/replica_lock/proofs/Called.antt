@@ -77,9 +77,6 @@ module _ (key : Settings) (old : Held) (start in_turn ended : NotedPass) (node n
         (legal_in key ended.seen new (settings.w ∙ fits.is_node.w) (settings.limit ∙ fits.is_node.limit) (first ∙ fits.is_node.first) (grows ∙ sym noted));
   })
 
-  pub none_in_turn : ended.in_turn ≡ false
-  none_in_turn = ap (λ (p : NotedPass). p.in_turn) ends
-
 -- what is said at the key of a pass's lock is said at its own
 pub told_to : (N : ℕ → ℕ → (ℕ × ℕ) → List Note → List Note → Type 0) (key other : Settings) (before after : List Note) → other ≡ key
     → N key.w key.limit (key.me, key.n) before after → N other.w other.limit (other.me, other.n) before after

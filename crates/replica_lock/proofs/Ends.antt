@@ -35,7 +35,3 @@ module _ (key : Settings) (seen : List NotedTurn) (by : ℕ) (node : NotedNode) 
       pub left : place ≤ before → new ≡ after_turn [] old → (what : List Note) → node.journal.notes ≡ notes_in seen ++ what → new ≡ after_turn (turn_with by what) old
       left few told [] notes = told
       left few told (note ∷ rest) notes = absurd (omega (arith, few, noted_more (note ∷ rest) notes))
-
-    pub fits_left : place ≤ before → (what : List Note) → node.journal.notes ≡ notes_in seen ++ what → Fits key seen node
-    fits_left few [] notes = fits_still notes
-    fits_left few (note ∷ rest) notes = absurd (omega (arith, few, noted_more (note ∷ rest) notes))
