@@ -1,6 +1,6 @@
-//! The turns of `lock_bench` under the standard library's mutex, in plain Rust, for `bench/locks` to compare.
+//! The turns of `store_bench locks` under the standard library's mutex, in plain Rust, for `bench/locks` to compare.
 //!
-//! Its words are those of `lock_bench`: `act` or `leave`, how many threads there are, how many turns each takes, and how
+//! Its words are those behind `locks`: `act` or `leave`, how many threads there are, how many turns each takes, and how
 //! many steps of work each turn makes. It prints the number that these leave.
 
 use std::env;

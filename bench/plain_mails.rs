@@ -1,4 +1,4 @@
-//! What `crates/mail_bench` does, over a `VecDeque` behind std's `Mutex`.
+//! What `store_bench mails` does, over a `VecDeque` behind std's `Mutex`.
 
 use std::collections::VecDeque;
 use std::env;

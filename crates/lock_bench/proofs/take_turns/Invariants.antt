@@ -1,5 +1,0 @@
-use Rattle.lock_bench.specs.Passes.{IsIdle}
-use Rattle.lock_bench.proofs.take_turns.Given as goal
-
-abbrev pub invariant-loop-call : goal.invariant-loop-call
-invariant-loop-call g l = IsIdle l.lock l.pass

@@ -1,5 +1,0 @@
-use Rattle.mailboxes.specs.Passes.{IsOf}
-use Rattle.mail_bench.proofs.work.Given as goal
-
-abbrev pub invariant-loop : goal.invariant-loop
-invariant-loop g l = IsOf l.mailbox l.pass
