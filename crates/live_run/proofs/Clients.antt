@@ -1,18 +1,17 @@
 -- A client's call of `local`, and what it is told.
-use Rattle.std.proofs.Common.{◌≡◌, ℕ, ◌<◌, ◌≤◌, Bool, true, false, List, [], ◌∷◌, ◌++◌, length, take, All, Ok, if◌then◌else◌, refl, inl, inr, sym, ap, subst, ◌∙◌, arith}
+use Rattle.std.proofs.Common.{◌≡◌, ℕ, ◌<◌, ◌≤◌, Bool, true, false, List, [], ◌∷◌, ◌++◌, length, take, All, if◌then◌else◌, refl, inl, inr, sym, ap, subst, ◌∙◌, arith}
 use Rattle.std.proofs.Math.Logic.{∥∥₁_elim}
 use Rattle.std.proofs.Props.{props}
 use Rattle.std.proofs.lemmas.List.{append-nil, append_assoc, append_cancel_left, length-append}
 use Rattle.std.proofs.lemmas.List.Elements.{All-nil, All-cons, All-head, All-append}
 use Rattle.op_base.specs.Message.{number}
 use Rattle.op_base.specs.declared.message.Message.{Message}
-use Rattle.op_base.specs.declared.name.ObjectId.{ObjectId}
 use Rattle.op_base.specs.declared.operation.Op.{Op}
 use Rattle.op_base.specs.declared.operation.Op.TheVariants as op
 use Rattle.op_base.specs.declared.operation.Update.{Update}
-use Rattle.op_base.specs.declared.outcome.Answer.{Answer}
 use Rattle.causal_model.specs.Journal.{IsLegal, local_notes}
 use Rattle.causal_model.specs.Sending.{local_messages, local_rule}
+use Rattle.causal_model.proofs.ListsOfOneMore.{take-all}
 use Rattle.causal_model.proofs.Counts.{length-next_tag}
 use Rattle.causal_model.proofs.Histories.{IsHistory-from_test}
 use Rattle.causal_model.proofs.Journals.{legal_is_state}
@@ -23,23 +22,19 @@ use Rattle.causal_model.specs.declared.outcome.Local.TheVariants as local
 use Rattle.replica_node.specs.Nodes.{state_by}
 use Rattle.replica_lock.proofs.Ends.{notes_with}
 use Rattle.replica_lock.specs.Held.{Held}
-use Rattle.replica_lock.specs.Rules.{IsCall, FollowsLocal, CallsLocal, CallsAsk}
+use Rattle.replica_lock.specs.Rules.{IsCall, FollowsLocal, CallsLocal}
 use Rattle.replica_lock.specs.Shows.{notes_append}
 use Rattle.replica_lock.specs.Turns.{NotedTurn, notes_in, turn_with}
 use Rattle.replica_lock.specs.declared.pass.Settings.{Settings}
 use Rattle.turn_lock.specs.Turns.{LockState}
 use Rattle.script_lang.specs.declared.live.LiveCommand.{LiveCommand}
-use Rattle.script_lang.specs.declared.live.LiveCommand.TheVariants.{Do, Ask}
+use Rattle.script_lang.specs.declared.live.LiveCommand.TheVariants.{Do}
 use Rattle.script_lang.specs.declared.reply.Reply.{Reply}
 use Rattle.script_lang.specs.declared.reply.Reply.TheVariants as reply
 use Rattle.live_run.specs.Limits.{live_limit}
 use Rattle.live_run.specs.Made.{local_told, Made}
 use Rattle.live_run.specs.Told.{IsReplyAfter, sent_number, sent_numbers, carried_number, is_ok, ok_number}
 use Rattle.live_run.specs.Workers.{IsSentNote, IsLiveKey}
-
-take_all : {X : Type 0} (xs : List X) → take (length xs) xs ≡ xs
-take_all [] = refl
-take_all (x ∷ xs) = ap (λ rest. x ∷ rest) (take_all xs)
 
 sent_append : (xs ys : List Note) → sent_numbers (xs ++ ys) ≡ sent_numbers xs ++ sent_numbers ys
 sent_append [] ys = refl
@@ -73,7 +68,7 @@ module _ (old new : Held) (place : ℕ) (before : List NotedTurn) (what : List N
   whole_place = is.place_is ∙ ap length (sym is.notes_are)
 
   taken : take place (notes_in new.seen) ≡ notes_in before ++ what
-  taken = ap (λ p. take p (notes_in new.seen)) whole_place ∙ take_all (notes_in new.seen) ∙ is.notes_are
+  taken = ap (λ p. take p (notes_in new.seen)) whole_place ∙ take-all (notes_in new.seen) ∙ is.notes_are
 
   own_notes : notes_in new.own ≡ notes_in old.own ++ what
   own_notes = ap (λ (h : Held). notes_in h.own) is.becomes ∙ notes_with old.own old.number what
@@ -171,12 +166,6 @@ module _ (old new : Held) (place c : ℕ) (update : Update) (lock : LockState Se
 
   pub reply_made : (answer : Local) (r : Reply) → CallsLocal old new place update answer → local_told answer ≡ r ∷ [] → WasTold r
   reply_made answer r calls told = All-head WasTold r [] (subst (All WasTold) told (local_made answer calls))
-
--- the call of a client that asks
-pub ask_made : (old new : Held) (place c : ℕ) (object : ObjectId) (a : Answer) (lock : LockState Settings) → old.lock ≡ lock → IsLiveKey lock.key → CallsAsk old new place object (Ok a)
-    → Made old new (Ask c object) (record { place = place; reply = reply.Is a })
-ask_made old new place c object a lock of key (before, is, says) =
-    made_still old new place before [] is (append-nil (notes_in before)) (Ask c object) (reply.Is a) (ap (λ (l : LockState Settings). l.key.limit) of ∙ key.limit) refl refl says
 
 -- an update's message has a number of its origin
 has_number : (key : Settings) (before after : List Note) (update : Update) (m : Message) → key.n ≤ 16 → key.me < key.n → ∥ IsLegal key.n key.w key.limit key.me before ∥₁

@@ -9,8 +9,8 @@ use Rattle.std.proofs.lemmas.List.{append-nil, append_assoc, get_or_at, get_or_d
 use Rattle.std.proofs.lemmas.List.Elements.{All-nil, All-cons}
 use Rattle.causal_model.specs.declared.note.Note.{Note}
 use Rattle.causal_model.specs.declared.note.Note.TheVariants as note
-use Rattle.mailboxes.specs.Passes.{seen, IsOf, IsOfTheSame}
-use Rattle.mailboxes.specs.Seen.{BeginsWith, first_seen, forked, newcomer, line, numbers}
+use Rattle.mailboxes.specs.Passes.{seen, IsOf}
+use Rattle.mailboxes.specs.Seen.{BeginsWith, forked, newcomer, line, numbers}
 use Rattle.mailboxes.specs.declared.mailbox.MailPass.{MailPass}
 use Rattle.mailboxes.specs.declared.mailbox.Mailbox.{Mailbox}
 use Rattle.mailboxes.specs.declared.seen.Line.{Line}
@@ -20,7 +20,6 @@ use Rattle.live_run.specs.Meeting.{AreToJoin, HasJoined, HaveJoined, HaveMet, Is
 use Rattle.live_run.specs.Opening.{AreFirsts, AreForked}
 use Rattle.live_run.specs.Posting.{AreMails}
 use Rattle.live_run.specs.declared.letter.Letter.{Letter}
-use Rattle.live_run.proofs.Places.{both_pushed}
 
 abbrev Box : Type 0
 Box = Mailbox Letter
@@ -28,63 +27,7 @@ Box = Mailbox Letter
 abbrev Mail : Type 0
 Mail = MailPass Letter
 
--- ---- opening
-
--- a mailbox more, and its first pass
-pub firsts_more : (mailboxes : List Box) (firsts : List Mail) (box : Box) (first : Mail) → AreFirsts 0 mailboxes firsts → IsOf box first → seen first ≡ first_seen → AreFirsts 0 (mailboxes ++ box ∷ []) (firsts ++ first ∷ [])
-firsts_more mailboxes firsts box first are of is = record {
-  of_each = omega (arith, are.of_each, length-append firsts (first ∷ []), length-append mailboxes (box ∷ []));
-  of = λ x d e l. both_pushed (λ x b m. IsOf b m) mailboxes firsts box first are.of_each are.of of x d e l;
-  seen_is = λ x e l. both_pushed (λ x b m. seen m ≡ record first_seen { forks = 0 }) mailboxes firsts box first are.of_each (λ x d e l. are.seen_is x e l) is x box e l;
-}
-
 -- ---- forking
-
-pub forked_none : (mailboxes : List Box) (old mails : List Mail) → mails ≡ [] → AreForked 0 mailboxes old old mails
-forked_none mailboxes old mails none = record {
-  of_each = refl;
-  made = ap length none;
-  of = λ x d e l. absurd (omega (arith, l));
-  counted = λ x d e l. absurd (omega (arith, l));
-  others = λ x e l. refl;
-  forks_of = λ x b e l. absurd (omega (arith, l));
-  newcomers = λ x d e l. absurd (omega (arith, l));
-}
-
-module _ (mailboxes : List Box) (old now mails : List Mail) (i : ℕ) (was became mail : Mail) where
-  pub forked_more : i < length mailboxes → length old ≡ length mailboxes → AreForked i mailboxes old now mails
-      → IsOfTheSame (get_or now i was) became → seen became ≡ forked (seen (get_or now i was)) → ((b : Box) → IsOf (get_or mailboxes i b) mail) → seen mail ≡ newcomer (seen (get_or now i was))
-      → AreForked (i + 1) mailboxes old (slice_set now i became) (mails ++ mail ∷ [])
-  forked_more inside boxes are of counted fork new =
-      let low : i < length now = omega (arith, inside, boxes, are.of_each) in
-      let here : (d : Mail) → get_or old i d ≡ get_or now i was = λ d. get_or_default old i d was (omega (arith, inside, boxes)) ∙ sym (are.others i was (omega arith)) in
-      let changed : (x : ℕ) (e : Mail) → x ≡ i → get_or (slice_set now i became) x e ≡ became = λ x e same. ap (λ k. get_or (slice_set now i became) k e) same ∙ get_or-set_same now i became e low in
-      let stays : (x : ℕ) (e : Mail) → (x ≡ i → ⊥) → get_or (slice_set now i became) x e ≡ get_or now x e = λ x e other. get_or-set_other now i x became e other in
-      record {
-        of_each = length-set now i became ∙ are.of_each;
-        made = omega (arith, are.made, length-append mails (mail ∷ []));
-        of = λ x d e l. elim (cases_eq x i) [
-          | inl same ↦ subst (λ (p : Mail × Mail). IsOfTheSame p.0 p.1) (λ j. (sym (ap (λ k. get_or old k d) same ∙ here d) j, sym (changed x e same) j)) of
-          | inr other ↦ subst (IsOfTheSame (get_or old x d)) (sym (stays x e other)) (are.of x d e (omega (arith, l, other)))
-        ];
-        counted = λ x d e l. elim (cases_eq x i) [
-          | inl same ↦ ap seen (changed x e same) ∙ counted ∙ ap (λ m. forked (seen m)) (sym (ap (λ k. get_or old k d) same ∙ here d))
-          | inr other ↦ ap seen (stays x e other) ∙ are.counted x d e (omega (arith, l, other))
-        ];
-        others = λ x e l. stays x e (λ same. absurd (omega (arith, l, same))) ∙ are.others x e (omega (arith, l));
-        forks_of = λ x b e l. elim (cases_eq x i) [
-          | inl same ↦ subst (λ (p : Box × Mail). IsOf p.0 p.1) (λ j. (ap (λ k. get_or mailboxes k b) (sym same) j, sym (get_or_push mails mail e x (are.made ∙ sym same)) j)) (fork b)
-          | inr other ↦
-              let below : x < i = omega (arith, l, other) in
-              subst (IsOf (get_or mailboxes x b)) (sym (get_or_append_left mails (mail ∷ []) e x (omega (arith, below, are.made)))) (are.forks_of x b e below)
-        ];
-        newcomers = λ x d e l. elim (cases_eq x i) [
-          | inl same ↦ ap seen (get_or_push mails mail e x (are.made ∙ sym same)) ∙ new ∙ ap (λ m. newcomer (seen m)) (sym (ap (λ k. get_or old k d) same ∙ here d))
-          | inr other ↦
-              let below : x < i = omega (arith, l, other) in
-              ap seen (get_or_append_left mails (mail ∷ []) e x (omega (arith, below, are.made))) ∙ are.newcomers x d e below
-        ];
-      }
 
 module _ (k : ℕ) (mailboxes : List Box) (old new mails : List Mail) (are : AreFirsts k mailboxes old) (fork : AreForked (length mailboxes) mailboxes old new mails) where
   pub firsts_forked : AreFirsts (k + 1) mailboxes new

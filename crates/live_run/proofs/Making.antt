@@ -1,11 +1,8 @@
 -- A client's commands, one behind the other.
-use Rattle.std.proofs.Common.{◌≡◌, ℕ, zero, suc, ◌+◌, ◌<◌, ◌≤◌, List, [], ◌∷◌, ◌++◌, length, get_or, take, All, Result, Ok, Err, refl, sym, ap, subst, ◌∙◌, arith}
+use Rattle.std.proofs.Common.{◌≡◌, ℕ, zero, suc, ◌+◌, ◌<◌, ◌≤◌, List, [], ◌∷◌, ◌++◌, length, get_or, All, Result, Ok, Err, sym, ap, subst, ◌∙◌, arith}
 use Rattle.std.specs.Prelude.{IfOk}
 use Rattle.std.specs.List.{AllPairs}
 use Rattle.std.proofs.lemmas.List.{append-nil, append_assoc, length-append}
-use Rattle.std.proofs.Math.Seq.{take-suc}
-use Rattle.std.proofs.lemmas.List.Elements.{All-nil, filter-append}
-use Rattle.causal_model.proofs.Risings.{AllPairs-nil}
 use Rattle.std.proofs.lemmas.Grind.{flat_map-append}
 use Rattle.std.proofs.lemmas.List.Quantifiers.{all_pairs_push}
 use Rattle.op_base.specs.declared.memory.NoMemory.{NoMemory}
@@ -18,11 +15,9 @@ use Rattle.replica_lock.specs.declared.pass.Settings.{Settings}
 use Rattle.script_lang.specs.declared.live.LiveCommand.{LiveCommand}
 use Rattle.script_lang.specs.declared.live.LiveCommand.TheVariants.{Do}
 use Rattle.turn_lock.specs.Turns.{LockState, StartsWith}
-use Rattle.live_run.specs.Inputs.{command_of, commands_in, is_made_by, commands_of}
 use Rattle.live_run.specs.Made.{Made}
 use Rattle.live_run.specs.Told.{IsTold, AreTold, ComesAfter, ok_number, ok_numbers, sent_numbers}
 use Rattle.live_run.specs.Workers.{IsSentNote, IsClientDone}
-use Rattle.live_run.specs.declared.input.NumberedLine.{NumberedLine}
 use Rattle.live_run.specs.declared.told.ClientDone.{ClientDone}
 use Rattle.live_run.specs.declared.told.Told.{Told}
 use Rattle.live_run.proofs.Fronts.{are_told_longer}
@@ -45,9 +40,6 @@ pub record HasWaited (old new : Held) : Type 0 where
   pub front : StartsWith new.seen old.seen
   pub sent : sent_numbers (notes_in new.own) ≡ sent_numbers (notes_in old.own)
   pub only_sent : All IsSentNote (notes_in old.own) → All IsSentNote (notes_in new.own)
-
-pub waited_not : (held : Held) → HasWaited held held
-waited_not held = record { lock = refl; front = ([], sym (append-nil held.seen)); sent = refl; only_sent = λ all. all }
 
 module _ (old mid new : Held) (command : LiveCommand) (told : Told) (waited : HasWaited old mid) (made : Made mid new command told) where
   front : StartsWith new.seen old.seen
@@ -125,22 +117,3 @@ module _ (lock : LockState Settings) (commands : List LiveCommand) (done : Clien
   }
 
 -- ---- one line more
-
-pub commands_push : (c : ℕ) (lines : List NumberedLine) (i : ℕ) (d : NumberedLine) → i < length lines
-    → commands_of c (commands_in (take (i + 1) lines)) ≡ commands_of c (commands_in (take i lines)) ++ commands_of c (command_of (get_or lines i d).line)
-commands_push c lines i d inside =
-    let next : i + 1 ≡ suc i = omega arith in
-    ap (λ l. commands_of c (commands_in l)) (ap (λ k. take k lines) next ∙ take-suc lines i d inside)
-    ∙ ap (commands_of c) (flat_map-append (λ (l : NumberedLine). command_of l.line) (take i lines) (get_or lines i d ∷ []))
-    ∙ ap (λ l. commands_of c (commands_in (take i lines) ++ l)) (append-nil (command_of (get_or lines i d).line))
-    ∙ filter-append (is_made_by c) (commands_in (take i lines)) (command_of (get_or lines i d).line)
-
--- a client that has made no command
-pub none_made : (lock : LockState Settings) (done : ClientDone) → done.pass.lock ≡ lock → done.pass.own ≡ [] → done.told.items ≡ [] → IsClientDone lock [] done
-none_made lock done of fresh none = record {
-  of_lock = of;
-  are_told = subst (AreTold lock.key.n lock.key.w lock.key.me (notes_in done.pass.seen) []) (sym none) tt;
-  places_rise = subst (AllPairs ComesAfter) (sym none) (AllPairs-nil ComesAfter);
-  sent = ap (λ l. sent_numbers (notes_in l)) fresh ∙ ap ok_numbers (sym none);
-  only_sent = subst (λ l. All IsSentNote (notes_in l)) (sym fresh) (All-nil IsSentNote);
-}

@@ -3,12 +3,9 @@ use Rattle.std.proofs.Common.{◌≡◌, ℕ, suc, ◌+◌, ◌<◌, ◌≤◌, 
 use Rattle.std.specs.Prelude.{slice_set}
 use Rattle.std.proofs.Math.ListN.{length-set}
 use Rattle.std.proofs.lemmas.Bool.{cond-true, cond-false, eq-eqb, ne_eqb}
-use Rattle.std.proofs.lemmas.Bool.Decides.{nat_tests}
-use Rattle.replica_core.specs.Numbers.{are_numbers}
 use Rattle.replica_lock.specs.declared.pass.Settings.{Settings}
 use Rattle.turn_lock.specs.Turns.{LockState, after_split}
 use Rattle.live_run.specs.Joining.{NodeOpener, left_at, AreOut}
-use Rattle.live_run.specs.Limits.{live_limit}
 use Rattle.live_run.specs.Opening.{job_at, jobs_at, AreOpened}
 use Rattle.live_run.specs.declared.joining.Back.{Back}
 use Rattle.live_run.specs.declared.workers.Job.{Job}
@@ -71,7 +68,3 @@ at_most r (j ∷ jobs) = omega (arith, one (job_at j == r), at_most r jobs)
 
 pub has_room : (nodes : List (LockState Settings)) (openers : List NodeOpener) (jobs : List Job) (at : ℕ) (old : NodeOpener) → at < length nodes → AreOpened nodes openers jobs → length jobs < 1024 → (get_or openers at old).out < 1024
 has_room nodes openers jobs at old inside are few = omega (arith, are.out at old inside, at_most at jobs, few)
-
--- the numbers of a member of a live run
-pub good_numbers : (me n w : ℕ) → me < n → n ≤ 16 → 1 ≤ w → w ≤ 64 → are_numbers me n w live_limit ≡ true
-good_numbers me n w member few wide narrow = grind (arith, nat_tests)

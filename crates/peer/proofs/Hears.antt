@@ -16,10 +16,10 @@ use Rattle.frame_codec.specs.declared.fault.FrameFault.{FrameFault}
 use Rattle.frame_codec.proofs.Read.{frames_are_read}
 use Rattle.replica_core.specs.Rules.{StandsFor}
 use Rattle.replica_core.specs.declared.replica.Replica.{Replica}
+use Rattle.replica_core.proofs.Ranges.{AreNumbers-from_test}
 use Rattle.peer.specs.Calls.{heard_of, is_read, is_taken}
 use Rattle.peer.specs.Rules.{hear_by, hear_rule}
 use Rattle.peer.specs.declared.answers.Heard.TheVariants as heard
-use Rattle.peer.proofs.Stands.{limit_by_test}
 
 -- a message of a frame can be carried
 pub frame_is_carried : (n limit : ℕ) (frame : List ℕ) (m : Message) → IsFrame n 0 limit frame m → IsTrue (is_valid m.op) → IsTrue (is_carried limit m)
@@ -28,7 +28,7 @@ frame_is_carried n limit frame m is valid =
 
 -- a limit is a number of 32 bits
 limit_is_small : (r : Replica) → r.limit < 2 ^ 32
-limit_is_small r = omega (arith, limit_by_test r.me r.n r.w r.limit r.numbers)
+limit_is_small r = omega (arith, (AreNumbers-from_test r.me r.n r.w r.limit r.numbers).most)
 
 -- memory may be wanted to read each frame
 heard_is_read : (answer : Receive) → is_read (heard_of answer) ≡ true

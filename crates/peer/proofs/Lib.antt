@@ -1,3 +1,2 @@
-pub mod Stands
 pub mod Sends
 pub mod Hears

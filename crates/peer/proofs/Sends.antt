@@ -20,13 +20,12 @@ use Rattle.causal_model.specs.declared.outcome.Local.TheVariants as local
 use Rattle.causal_model.proofs.Chapters.{chapter_induction}
 use Rattle.replica_core.specs.Standing.{Fields, Standing}
 use Rattle.replica_core.specs.Rules.{fields_of, StandsFor, Unchanged}
-use Rattle.replica_core.proofs.Stands.{unchanged_stands}
+use Rattle.replica_core.proofs.Stands.{chapter_of, unchanged_stands}
 use Rattle.replica_core.specs.declared.replica.Replica.{Replica}
 use Rattle.peer.specs.Calls.{updated_of, beaten_of, is_framed, is_beat_framed}
 use Rattle.peer.specs.Rules.{update_rule, peer_beat_rule, frame_at}
 use Rattle.peer.specs.declared.answers.Beat.TheVariants as beat
 use Rattle.peer.specs.declared.answers.Updated.TheVariants as updated
-use Rattle.peer.proofs.Stands.{chapter_of}
 
 -- ---- what isn't sent
 

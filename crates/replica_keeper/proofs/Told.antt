@@ -1,11 +1,10 @@
 -- That the record of what a call noted tells that call.
 use Rattle.std.proofs.Common.{◌≡◌, ℕ, ◌+◌, ◌<◌, ◌≤◌, ◌^◌, true, ◌&&◌, ◌==◌, nat_le, nat_lt, IsTrue, List, [], ◌∷◌, map, length, Option, Some, None, Ok, refl, sym, ap, ◌∙◌, arith, lit<, length-append, if◌then◌else◌}
-use Rattle.std.specs.List.{flat_map, list_all, slice_index_or}
-use Rattle.std.proofs.lemmas.Bool.{and_parts, eqb-true, leb-true, ltb-true}
-use Rattle.std.proofs.lemmas.List.Sums.{AllPass-from_list_all}
+use Rattle.std.specs.List.{flat_map, list_all}
+use Rattle.std.proofs.lemmas.Bool.{and_parts, eqb-true, leb-true}
 use Rattle.std.specs.Cmp.Lexicographic.{bytes_decides}
 use Rattle.op_base.specs.Message.{fits, number}
-use Rattle.op_base.specs.Name.{same_text, is_key, is_value, is_short, is_key_byte, is_value_byte}
+use Rattle.op_base.specs.Name.{same_text, is_key, is_value, is_short, is_value_byte}
 use Rattle.op_base.specs.Valid.{is_valid_act, is_valid_place, is_valid}
 use Rattle.op_base.specs.declared.message.Message.{Message}
 use Rattle.op_base.specs.declared.operation.Act.{Act}
@@ -21,49 +20,26 @@ use Rattle.causal_model.specs.State.{State}
 use Rattle.causal_model.specs.declared.note.Note.{Note}
 use Rattle.causal_model.specs.declared.note.Note.TheVariants.{Sent, Kept}
 use Rattle.causal_model.proofs.Outcomes.{notes_of_accepted}
-use Rattle.frame_codec.specs.Grammar.{frame_of, number_field, text_field, place_field, argument_field, operation_fields, IsArgument, IsOperation, IsFrame}
+use Rattle.frame_codec.specs.Grammar.{frame_of, number_field, text_field, place_field, argument_field, operation_fields}
 use Rattle.frame_codec.specs.Message.{frame_read}
 use Rattle.frame_codec.specs.declared.version.Version.TheVariants.{Two}
-use Rattle.frame_codec.proofs.Codes.{op_code_most}
 use Rattle.frame_codec.proofs.Read.{frames_are_read}
 use Rattle.frame_codec.proofs.Spelled.{length-number_fields}
+use Rattle.stable_state.proofs.Ranks.{key_fits}
 use Rattle.world_model.specs.Records.{content_of, group_if, notes_sent, notes_by}
+use Rattle.world.proofs.Givings.{frame_is_sent}
 use Rattle.replica_keeper.proofs.Readings.{IsTold}
 
 -- ---- a frame
 
-argument_is_sent : (act : Act) → IsTrue (is_valid_act act) → IsArgument Two act
-argument_is_sent (acts.Add v) h = h
-argument_is_sent (acts.Rmv v) h = h
-argument_is_sent acts.Clear h = tt
-argument_is_sent acts.Enable h = tt
-argument_is_sent acts.Disable h = tt
-argument_is_sent (acts.Write v) h = h
-argument_is_sent (acts.Inc a) h = ltb-true a 4294967296 h
-argument_is_sent (acts.Dec a) h = ltb-true a 4294967296 h
-argument_is_sent (acts.Ins v place) h = and_parts (is_value v) (is_valid_place place) h
-argument_is_sent (acts.Del id) h = h
-
-operation_is_sent : (o : Op) → IsTrue (is_valid o) → IsOperation Two o
-operation_is_sent op.NoOp h = tt
-operation_is_sent (op.Update u) h = let parts = and_parts (is_key u.object.key) (is_valid_act u.act) h in (parts.0, argument_is_sent u.act parts.1)
-
 -- the frame of a message that fits a store and can be carried there is read as the message
 pub frame_told : (n limit : ℕ) (m : Message) → limit < 2 ^ 32 → IsTrue (fits n m) → IsTrue (is_carried limit m) → frame_read n 0 limit (frame_of Two n 0 m) ≡ Ok m
-frame_told n limit m few fit carried =
-    let parts = and_parts (list_all (λ e. nat_le e limit) m.tag) (is_valid m.op) carried in
-    let each = AllPass-from_list_all (λ e. nat_le e limit) m.tag parts.0 in
-    let frame : IsFrame n 0 limit (frame_of Two n 0 m) m =
-    (Two, record { in_epoch = tt; fits = fit; within = λ i d b. leb-true (slice_index_or m.tag i d) limit (each i d b); code = op_code_most m.op; operation = operation_is_sent m.op parts.1; spelled = refl }) in
-    frames_are_read n 0 limit (lit< tt) few (frame_of Two n 0 m) m frame
+frame_told n limit m few fit carried = frames_are_read n 0 limit (lit< tt) few (frame_of Two n 0 m) m (frame_is_sent n 0 limit m fit carried)
 
 -- ---- its length
 
 short_text : (most : ℕ) (bytes : List ℕ) → IsTrue (is_short most bytes) → length bytes ≤ most
 short_text most bytes h = leb-true (length bytes) most (and_parts (nat_lt 0 (length bytes)) (nat_le (length bytes) most) h).1
-
-short_key : (bytes : List ℕ) → IsTrue (is_key bytes) → length bytes ≤ 32
-short_key bytes h = short_text 32 bytes (and_parts (is_short 32 bytes) (list_all is_key_byte bytes) h).0
 
 short_value : (bytes : List ℕ) → IsTrue (is_value bytes) → length bytes ≤ 4096
 short_value bytes h = short_text 4096 bytes (and_parts (is_short 4096 bytes) (list_all is_value_byte bytes) (and_parts (is_short 4096 bytes && list_all is_value_byte bytes) _ h).0).0
@@ -92,7 +68,7 @@ short_operation : (o : Op) → IsTrue (is_valid o) → length (operation_fields 
 short_operation op.NoOp h = omega arith
 short_operation (op.Update u) h =
     let parts = and_parts (is_key u.object.key) (is_valid_act u.act) h in
-    omega (arith, short_key u.object.key parts.0, length-text u.object.key, short_argument u.act parts.1, length-append (text_field Two u.object.key) (argument_field Two u.act))
+    omega (arith, key_fits u.object.key parts.0, length-text u.object.key, short_argument u.act parts.1, length-append (text_field Two u.object.key) (argument_field Two u.act))
 
 -- a frame in a store of at most 16 members
 pub frame_short : (n : ℕ) (m : Message) → n ≤ 16 → IsTrue (fits n m) → IsTrue (is_valid m.op) → length (frame_of Two n 0 m) ≤ 4214

@@ -16,10 +16,6 @@ module _ (key : Settings) (seen : List NotedTurn) (by : ℕ) (node : NotedNode) 
   pub fits_with : (what : List Note) → node.journal.notes ≡ notes_in seen ++ what → Fits key (seen ++ turn by what ∷ []) node
   fits_with what notes = record { is_node = is; notes = notes ∙ sym (notes_with_turn seen by what) }
 
-  -- one that has noted nothing fits the turns
-  pub fits_still : node.journal.notes ≡ notes_in seen ++ [] → Fits key seen node
-  fits_still notes = record { is_node = is; notes = notes ∙ append-nil (notes_in seen) }
-
   module _ (before place : ℕ) (counted : before ≡ length (notes_in seen)) (places : place ≡ length node.journal.notes) where
     noted_more : (what : List Note) → node.journal.notes ≡ notes_in seen ++ what → place ≡ before + length what
     noted_more what notes = places ∙ ap length notes ∙ length-append (notes_in seen) what ∙ ap (λ n. n + length what) (sym counted)

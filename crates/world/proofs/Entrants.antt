@@ -1,5 +1,5 @@
 -- Members that enter the next epoch.
-use Rattle.std.proofs.Common.{◌≡◌, ◌≢◌, ℕ, ◌+◌, ◌-◌, ◌<◌, ◌≤◌, ◌⊎◌, nat_lt, IsTrue, min, ◌++◌, ◌∷◌, [], All, List, length, take, slice_index_or, slice_set, inl, inr, refl, sym, ap, subst, ◌∙◌, get_or-set_same, get_or-set_other, length-set, if◌then◌else◌, arith}
+use Rattle.std.proofs.Common.{◌≡◌, ◌≢◌, ℕ, ◌+◌, ◌-◌, ◌<◌, ◌≤◌, ◌⊎◌, nat_lt, IsTrue, min, ◌++◌, ◌∷◌, [], All, List, length, take, slice_index_or, slice_set, inl, inr, sym, ap, subst, ◌∙◌, get_or-set_same, get_or-set_other, length-set, if◌then◌else◌, arith}
 use Rattle.std.proofs.lemmas.Bool.{cases_eq, cases_lt, cond-true, cond-false, lt-ltb, le-ltb, ltb-true, false_from_ne_true}
 use Rattle.std.proofs.lemmas.List.{get_or_default, get_or_push, get_or_append_left, get_or-take, length_push, length-take}
 use Rattle.std.proofs.lemmas.List.Sums.{fold-append}
@@ -47,12 +47,6 @@ pub record AreReadied (before now : List NotedNode) (count : ℕ) : Type 0 where
   pub same : AreAsBefore before now
   pub ready : (i : ℕ) (d : NotedNode) → i < count → IsReady (slice_index_or now i d)
 
-pub none_readied : (nodes : List NotedNode) → AreReadied nodes nodes 0
-none_readied nodes = record {
-  same = record { count = refl; each = λ q d l. record { inner = refl; first = refl; notes = refl } };
-  ready = λ i d l. absurd (omega (arith, l));
-}
-
 module _ (before now : List NotedNode) (q : ℕ) (node next : NotedNode) (low : q < length now) (at : node ≡ slice_index_or now q node) (inner : next.inner ≡ node.inner) (first : next.first ≡ node.first) (notes : next.journal.notes ≡ node.journal.notes) where
   pub one_is_as_before : AreAsBefore before now → AreAsBefore before (slice_set now q next)
   one_is_as_before are = record {
@@ -99,9 +93,6 @@ can_go_on n q nodes node room low at settled early numbers is_me is_n empty = re
       };
 }
 
-pub no_entrants : (n : ℕ) (nodes : List NotedNode) (entrants : List Entrant) → entrants ≡ [] → AreEntrants n nodes 0 entrants
-no_entrants n nodes entrants is = record { count_is = ap length is; each = λ i d l. absurd (omega (arith, l)) }
-
 pub one_entrant_more : (n : ℕ) (nodes : List NotedNode) (count : ℕ) (entrants after : List Entrant) (e : Entrant) → AreEntrants n nodes count entrants → after ≡ entrants ++ e ∷ [] → IsEntrant n nodes (n - 1 - count) e → AreEntrants n nodes (count + 1) after
 one_entrant_more n nodes count entrants after e are is one = record {
   count_is = ap length is ∙ length_push entrants e ∙ ap (λ k. k + 1) are.count_is;
@@ -133,15 +124,6 @@ pub record AreEntering (n : ℕ) (before : List NotedNode) (q : ℕ) (now : List
   pub reached : q ≤ length now
   pub entered : HaveEntered n before q now
   pub rest : (i : ℕ) (d : NotedNode) → q ≤ i → i < length before → slice_index_or now i d ≡ slice_index_or before i d
-
-pub none_entered : (n : ℕ) (nodes : List NotedNode) → AreEntering n nodes 0 nodes
-none_entered n nodes = record {
-  small = λ l. refl;
-  large = λ l. omega (arith, l);
-  reached = omega arith;
-  entered = λ q d e l. absurd (omega (arith, l));
-  rest = λ i d l k. refl;
-}
 
 module _ (n : ℕ) (before : List NotedNode) (q : ℕ) (now : List NotedNode) (are : AreEntering n before q now) where
   -- the next one can enter
@@ -188,14 +170,7 @@ module _ (n : ℕ) (before : List NotedNode) (q : ℕ) (now : List NotedNode) (a
       rest = λ i d l k. others i d (λ e. omega (arith, e, l)) (omega (arith, k, l, are.small (omega (arith, k, l)))) ∙ are.rest i d (omega (arith, l)) k;
     }
 
--- all have entered
-pub all_entered : (n : ℕ) (before now : List NotedNode) → length before ≤ n → AreEntering n before n now → AreNext n before now
-all_entered n before now few are = record { count = are.large few; each = are.entered }
-
 -- ---- nodes that are as before
-
-as_before_back : (a b : NotedNode) → IsAsBefore a b → IsAsBefore b a
-as_before_back a b is = record { inner = sym is.inner; first = sym is.first; notes = sym is.notes }
 
 -- the state that a journal gives is as before, and so is what comes of it
 pub same_state : (a b : NotedNode) → IsAsBefore a b → state_of b ≡ state_of a
@@ -219,22 +194,6 @@ module _ (n : ℕ) (before now : List NotedNode) (some : 1 ≤ length before) (s
 
   first_same : (q : ℕ) (d : NotedNode) → q < n → q < length before → IsAsBefore (slice_index_or before q d) (slice_index_or first_nodes q d)
   first_same q d low here = subst (IsAsBefore (slice_index_or before q d)) (sym (get_or-take n now q d low)) (same.each q d here)
-
-  entrant_stays : (q : ℕ) (e : Entrant) → q < n → IsEntrant n before q e → IsEntrant n first_nodes q e
-  entrant_stays q (entrant.Stays room) low is = record {
-    low = omega (arith, first_count, low, is.low);
-    me = is.me;
-    n_is = is.n_is;
-    turns = λ d. subst (λ (r : Replica). CanTurn r room) (sym (first_same q d low is.low).inner) (is.turns d);
-  }
-  entrant_stays q (entrant.Comes node) low is = (
-    omega (arith, first_count, is.0, low),
-    λ d. next_as_before n q (slice_index_or first_nodes 0 d) (slice_index_or before 0 d) node (as_before_back (slice_index_or before 0 d) (slice_index_or first_nodes 0 d) (first_same 0 d (omega (arith, low)) (omega (arith, some)))) (is.1 d),
-  )
-
-  -- how members begin stays
-  pub entrants_stay : (entrants : List Entrant) → AreEntrants n before n entrants → AreEntrants n first_nodes n entrants
-  entrants_stay entrants are = record { count_is = are.count_is; each = λ i d l. entrant_stays (n - 1 - i) (slice_index_or entrants i d) (omega (arith, l)) (are.each i d l) }
 
   same_place : (q : ℕ) → q < n → place_for (length first_nodes) q ≡ place_for (length before) q
   same_place q low = ap (λ b. if b then q else 0) (by (cases_lt q (length before))) where

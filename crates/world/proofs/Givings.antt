@@ -54,7 +54,7 @@ operation_is_sent op.NoOp h = tt
 operation_is_sent (op.Update u) h = let parts = and_parts (is_key u.object.key) (is_valid_act u.act) h in (parts.0, argument_is_sent u.act parts.1)
 
 -- the frame of a message that fits a store and can be carried there
-frame_is_sent : (n epoch limit : ℕ) (m : Message) → IsTrue (fits n m) → IsTrue (is_carried limit m) → IsFrame n epoch limit (frame_of Two n epoch m) m
+pub frame_is_sent : (n epoch limit : ℕ) (m : Message) → IsTrue (fits n m) → IsTrue (is_carried limit m) → IsFrame n epoch limit (frame_of Two n epoch m) m
 frame_is_sent n epoch limit m fit carried =
     let parts = and_parts (list_all (λ e. nat_le e limit) m.tag) (is_valid m.op) carried in
     let each = AllPass-from_list_all (λ e. nat_le e limit) m.tag parts.0 in

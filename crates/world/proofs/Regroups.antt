@@ -79,9 +79,6 @@ module _ (nodes : List NotedNode) (rows : List (List (List ℕ))) (plain : Plain
     base_stands : StandsAt nodes base node
     base_stands = record { low = base_is_low; at = at }
 
-    pub base_is_early : epoch_in plain ≢ last_epoch → node.inner.epoch < 65535
-    base_is_early more = omega (arith, epoch_is_low node, epoch_shown nodes rows plain shows base node base_stands, more)
-
     -- the next node stands behind those of the members below it
     pub one_begins : (n : ℕ) (next : NotedNode) (before after : List NotedNode) → state_of next ≡ regrouped n q (state_of node) → next.inner.w ≡ node.inner.w → next.inner.limit ≡ node.inner.limit
         → after ≡ before ++ next ∷ [] → AreNodesOf (next_replica plain n) plain.w plain.limit q before → AreNodesOf (next_replica plain n) plain.w plain.limit (q + 1) after

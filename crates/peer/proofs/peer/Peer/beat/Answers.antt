@@ -7,7 +7,7 @@ use Rattle.peer.specs.Rules.{peer_beat_rule}
 use Rattle.peer.specs.declared.answers.Beat.{Beat}
 use Rattle.peer.specs.declared.answers.Beat.TheVariants as beat
 use Rattle.peer.proofs.Sends.{beat_follows, lacking_beat_follows}
-use Rattle.peer.proofs.Stands.{is_bounded}
+use Rattle.replica_core.proofs.Bounds.{is_bounded}
 use Rattle.peer.proofs.peer.Peer.beat.Goals as goal
 use Rattle.peer.proofs.peer.Peer.beat.Goals.{in-Ok-send, in-Err-send}
 

@@ -7,7 +7,7 @@ use Rattle.peer.specs.Rules.{hear_rule}
 use Rattle.peer.specs.declared.answers.Heard.{Heard}
 use Rattle.peer.specs.declared.answers.Heard.TheVariants as heard
 use Rattle.peer.proofs.Hears.{frame_is_carried, heard_follows, taken_is_accepted}
-use Rattle.peer.proofs.Stands.{is_bounded}
+use Rattle.replica_core.proofs.Bounds.{is_bounded}
 use Rattle.peer.proofs.peer.Peer.hear.Goals as goal
 
 pub returns-in-Err-Frame-clause-bounded : goal.returns-in-Err-Frame-clause-bounded

@@ -1,7 +1,7 @@
 use Rattle.std.proofs.Common.{◌≡◌, length, subst}
 use Rattle.replica_core.specs.Rules.{fields_of}
 use Rattle.replica_core.specs.declared.replica.Replica.{Replica}
-use Rattle.peer.proofs.Stands.{length-counts_in}
+use Rattle.replica_core.proofs.Stands.{length-counts_in}
 use Rattle.peer.proofs.peer.Peer.seen.Goals as goal
 
 pub returns-clause-members : goal.returns-clause-members

@@ -7,7 +7,7 @@ use Rattle.peer.specs.Rules.{update_rule}
 use Rattle.peer.specs.declared.answers.Updated.{Updated}
 use Rattle.peer.specs.declared.answers.Updated.TheVariants as updated
 use Rattle.peer.proofs.Sends.{unsent_follows, sent_follows, lacking_follows}
-use Rattle.peer.proofs.Stands.{is_bounded}
+use Rattle.replica_core.proofs.Bounds.{is_bounded}
 use Rattle.peer.proofs.peer.Peer.update.Goals as goal
 use Rattle.peer.proofs.peer.Peer.update.Goals.{in-Ok-send, in-Err-send}
 
