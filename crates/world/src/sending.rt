@@ -149,6 +149,9 @@ fn send_noop(alloc: Global, node: &mut Node<Journal>, frames: &mut Vec<ByteList>
 
 /// Sends a message that a node's replica drafted, and puts its frame behind the others. `NoMemory` leaves the frames as they
 /// were, and nothing is sent or noted.
+///
+/// It is always inlined, since a message that is handed to it would be moved once more.
+#[inline(always)]
 fn commit(
     alloc: Global,
     node: &mut Node<Journal>,
