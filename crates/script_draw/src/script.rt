@@ -2,7 +2,6 @@
 
 ghost use Rattle.std.specs.Prelude.{◌≡◌, ◌↔◌, true, false, Some, Err, map, IfOk, OnOk, IsOk, IsErrOf};
 ghost use Rattle.std.specs.List.{slice_split};
-ghost use Rattle.std.specs.Str.Lines.{strip_carriage_return};
 ghost use Rattle.script_lang.specs.Headers.{header_of};
 ghost use Rattle.script_net.specs.Lines.{is_newline, lines_of, from_command};
 ghost use Rattle.script_net.specs.Runs.{RunsIn};
@@ -12,7 +11,7 @@ ghost use Rattle.script_draw.specs.Runs.{StandsBehind, without_newline};
 
 use op_base::{NoMemory, Text};
 use script_lang::{Header, Mode, is_passed_over, read_header};
-use script_net::Runner;
+use script_net::{Runner, without_return};
 use std::alloc::{AllocError, Global};
 
 /// Why there is no picture.
@@ -56,16 +55,6 @@ pub struct Opened<'a> {
     pub passed: usize,
     /// The lines behind the header.
     pub lines: Vec<&'a [u8]>,
-}
-
-/// A line, without a carriage return at its end.
-fn without_return(line: &[u8]) -> &[u8]
-    ensures { result.now ≡ strip_carriage_return line.now }
-{
-    match line {
-        [front @ .., b'\r'] => front,
-        _ => line,
-    }
 }
 
 /// What stands between the newlines of a script.

@@ -9,3 +9,7 @@ pub mod Opened
 pub mod Kept
 pub mod Transcripts
 pub mod Honest
+pub mod Begun
+pub mod Splits
+pub mod Standing
+pub mod Whole

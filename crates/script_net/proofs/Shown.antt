@@ -3,7 +3,7 @@
 use Rattle.std.proofs.Common.{◌≡◌, ℕ, ◌<◌, ◌∙◌, Bool, true, false, cond, List, [], ◌∷◌, length, inl, inr, refl, sym, ap, subst, arith}
 use Rattle.std.proofs.Math.Logic.{∥∥₁_elim}
 use Rattle.std.proofs.Props.{props}
-use Rattle.std.proofs.lemmas.List.{set-get_or, length-map}
+use Rattle.std.proofs.lemmas.List.{set-get_or}
 use Rattle.std.proofs.lemmas.List.Elements.{All-nil, All-cons}
 use Rattle.std.proofs.lemmas.List.FromFn.{length-map-range_with_len}
 use Rattle.op_base.specs.declared.message.Message.{Message}
@@ -20,16 +20,12 @@ use Rattle.causal_model.specs.declared.outcome.Local.TheVariants as local
 use Rattle.causal_model.specs.declared.outcome.Beat.{Beat}
 use Rattle.causal_model.specs.declared.outcome.Beat.TheVariants as beat
 use Rattle.world.specs.Answers.{ShowsPlain}
-use Rattle.world.specs.Shows.{state_of}
 use Rattle.world.specs.declared.world.World.{World}
 use Rattle.world_model.specs.World.{PlainWorld, size_of, replica_of, with_state, local_at, beat_at}
 use Rattle.world_model.specs.Worlds.{IsWorld}
 use Rattle.world_model.specs.Showing.{stable_at, seen_at}
+use Rattle.world.proofs.Settles.{size_of_shown}
 use Rattle.script_net.specs.Replied.{HaveNumbers}
-
--- there are as many nodes as members
-pub as_many_nodes : (world : World) (plain : PlainWorld) → ShowsPlain world plain → length world.nodes.items ≡ size_of plain
-as_many_nodes world plain shows = sym (length-map world.nodes.items state_of) ∙ ap length shows.states
 
 -- a replica that comes to the state that it is in leaves its world as it is
 pub same_state : (plain : PlainWorld) (r : ℕ) → with_state plain r (replica_of plain r) ≡ plain
@@ -94,7 +90,7 @@ beat_numbers beat.NoMemory sent = All-nil (λ (m : Message). m.origin < length m
 
 module _ (world : World) (r : ℕ) (l : r < length world.nodes.items) where
   inside : (plain : PlainWorld) → ShowsPlain world plain → r < size_of plain
-  inside plain shows = subst (λ n. r < n) (as_many_nodes world plain shows) l
+  inside plain shows = subst (λ n. r < n) (size_of_shown world plain shows) l
 
   -- a no-op that a world sends has a number of its origin
   pub beat_has_number : (answer : Beat) (new : World) → Follows ShowsPlain beat.NoMemory is_beat (beat_at r) world answer new → HaveNumbers (beat_messages answer)
@@ -109,9 +105,9 @@ module _ (world : World) (r : ℕ) (l : r < length world.nodes.items) where
   pub stable_is_long : (tag : List ℕ) → ((plain : PlainWorld) → ShowsPlain world plain → tag ≡ stable_at plain r) → length tag ≡ length world.nodes.items
   stable_is_long tag is =
       ∥∥₁_elim world.shows (search props) (λ shown.
-      ap length (is shown.0 shown.1) ∙ length-stable_at shown.0 r shown.1.is_world (inside shown.0 shown.1) ∙ sym (as_many_nodes world shown.0 shown.1))
+      ap length (is shown.0 shown.1) ∙ length-stable_at shown.0 r shown.1.is_world (inside shown.0 shown.1) ∙ sym (size_of_shown world shown.0 shown.1))
 
   pub seen_is_long : (tag : List ℕ) → ((plain : PlainWorld) → ShowsPlain world plain → tag ≡ seen_at plain r) → length tag ≡ length world.nodes.items
   seen_is_long tag is =
       ∥∥₁_elim world.shows (search props) (λ shown.
-      ap length (is shown.0 shown.1) ∙ length-seen_at shown.0 r shown.1.is_world (inside shown.0 shown.1) ∙ sym (as_many_nodes world shown.0 shown.1))
+      ap length (is shown.0 shown.1) ∙ length-seen_at shown.0 r shown.1.is_world (inside shown.0 shown.1) ∙ sym (size_of_shown world shown.0 shown.1))

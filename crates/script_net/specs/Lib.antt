@@ -3,6 +3,7 @@ pub mod Commands
 pub mod Transcript
 pub mod Replied
 pub mod Runs
+pub mod Feeding
 pub mod Laws
 pub mod Honest
 pub mod HonestLaws

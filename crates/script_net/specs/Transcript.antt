@@ -1,5 +1,5 @@
 -- The transcript of a script: the replies of a plain world, whose replicas keep every message, to its command lines.
-use Rattle.std.specs.Prelude.{ℕ, Bool, true, false, List, [], ◌∷◌, ◌++◌, fold, Option, Some, None}
+use Rattle.std.specs.Prelude.{ℕ, Bool, true, false, List, [], ◌∷◌, ◌++◌, fold, Option, Some, None, is_none}
 use Rattle.script_lang.specs.Commands.{line_of, keep_line_of}
 use Rattle.script_lang.specs.Headers.{header_of}
 use Rattle.script_lang.specs.Replies.{reply_line}
@@ -75,6 +75,16 @@ opened (Some (Store n w limit)) = Some (OfStore (opening n w limit))
 opened (Some (Keep n w limit)) = Some (OfKeep (keep_opening n w limit))
 opened (Some (Live n w clients turns loss)) = None
 opened None = None
+
+-- whether a line's header is none of a script
+abbrev pub is_no_script : Option Header → Bool
+is_no_script header = is_none (opened header)
+
+-- whether lines have no header of a mode where a header must be: their first command line is none of the mode, or all lines
+-- have come and there is no command line
+abbrev pub lacks_header : (Option Header → Bool) → Bool → List (List ℕ) → Bool
+lacks_header is_none_of all [] = all
+lacks_header is_none_of all (first ∷ lines) = is_none_of (header_of first)
 
 -- the replies to the lines behind a header, and none without one
 abbrev pub replies_behind : Option AnyPlain → List (List ℕ) → List ℕ

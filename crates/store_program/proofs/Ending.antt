@@ -8,21 +8,23 @@ use Rattle.std.specs.Str.Lines.{strip_carriage_return}
 use Rattle.store_io.specs.Bytes.{Gave, Ended, Took}
 use Rattle.script_lang.specs.declared.header.Header.{Header}
 use Rattle.script_net.specs.Honest.{is_unforged}
-use Rattle.script_net.proofs.Honest.{transcripts_are_fair}
 use Rattle.script_net.specs.Lines.{lines_of, ended_lines_of, whole_lines_of, from_command}
-use Rattle.script_net.specs.Transcript.{transcript_of, transcript}
-use Rattle.store_program.specs.declared.feed.Feed.{Feed}
-use Rattle.store_program.specs.declared.feed.Stage.{Stage}
-use Rattle.store_program.specs.declared.feed.Stage.TheVariants.{Opening, Running}
+use Rattle.script_net.specs.Transcript.{is_no_script, lacks_header, transcript_of, transcript}
+use Rattle.script_net.specs.Feeding.{StandsAt, is_opening}
+use Rattle.script_net.specs.declared.feed.Feed.{Feed}
+use Rattle.script_net.specs.declared.feed.Stage.{Stage}
+use Rattle.script_net.specs.declared.feed.Stage.TheVariants.{Opening, Running}
+use Rattle.script_net.proofs.Honest.{transcripts_are_fair}
+use Rattle.script_net.proofs.Splits.{lines_part, ended_begin}
+use Rattle.script_net.proofs.Begun.{lacks_more}
 use Rattle.store_program.specs.declared.run.Status.{Status}
 use Rattle.store_program.specs.declared.run.Status.TheVariants as status
-use Rattle.store_program.specs.Feeding.{StandsAt, GoesOn, StopsAs, IsFed, Concludes, is_opening}
-use Rattle.store_program.specs.Run.{TookFair, EndsFine, EndsHeadless, most_input, is_no_script, lacks_header, is_headless, TookFront, Ends, AnswersInput, AnswersMade, made_summary}
+use Rattle.store_program.specs.Feeding.{GoesOn, StopsAs, IsFed, Concludes}
+use Rattle.store_program.specs.Run.{TookFair, EndsFine, EndsHeadless, most_input, is_headless, TookFront, Ends, AnswersInput, AnswersMade, made_summary}
 use Rattle.store_program.specs.declared.words.Request.{Request}
 use Rattle.store_program.specs.declared.words.Request.TheVariants.{Script, Live, Make}
-use Rattle.store_program.proofs.Splits.{lines_part, ended_begin}
 use Rattle.store_program.proofs.Standing.{stands_well, behind_header}
-use Rattle.store_program.proofs.Transcripts.{IsFront, front_grows, transcript_grows, lacks_more, replies_have_header}
+use Rattle.store_program.proofs.Transcripts.{IsFront, front_grows, transcript_grows, replies_have_header}
 use Rattle.store_program.proofs.Going.{front_empty, goes_unwritten, took_nothing}
 
 -- ---- the last line

@@ -1,29 +1,25 @@
 -- Lemmas on the run of one line more, and of one piece more.
 use Rattle.std.proofs.Common.{◌≡◌, ℕ, ◌<◌, true, false, Some, None, Option, List, [], ◌∷◌, ◌++◌, take, drop, refl, sym, ap, subst, ◌∙◌, append_assoc, arith}
-use Rattle.std.specs.Option.{option_map}
 use Rattle.std.proofs.lemmas.List.{append-nil, take-append-drop}
 use Rattle.std.specs.List.{slice_split}
 use Rattle.std.specs.Prelude.{Result, Ok, Err, OnOk, OnErr, IfErr, MatchResult}
 use Rattle.std.specs.Str.Lines.{strip_carriage_return}
 use Rattle.store_io.specs.Bytes.{Took, TookPrefix}
+use Rattle.store_io.proofs.BytesLemmas.{Took-append}
 use Rattle.script_net.specs.Lines.{is_newline, ended_lines_of, from_command}
-use Rattle.script_net.specs.Transcript.{transcript_of}
-use Rattle.store_program.specs.declared.feed.Feed.{Feed}
-use Rattle.store_program.specs.declared.feed.Stage.{Stage}
+use Rattle.script_net.specs.Transcript.{is_no_script, lacks_header, transcript_of}
+use Rattle.script_net.specs.Feeding.{IsDone, IsPart}
+use Rattle.script_net.specs.declared.feed.Feed.{Feed}
+use Rattle.script_net.specs.declared.feed.Stage.{Stage}
+use Rattle.script_net.proofs.Splits.{done_more, done_line, ended_done, ended_part, part_more}
+use Rattle.script_net.proofs.Begun.{lacks_more, lacks_silent}
 use Rattle.store_program.specs.declared.run.Status.{Status}
 use Rattle.store_program.specs.declared.run.Status.TheVariants as status
-use Rattle.store_program.specs.Feeding.{IsDone, IsPart, GoesOn, StopsAs, IsFed}
-use Rattle.store_program.specs.Run.{is_no_script, lacks_header, TookFront}
-use Rattle.store_program.proofs.Splits.{done_more, done_line, ended_done, ended_part, part_more}
-use Rattle.store_program.proofs.Transcripts.{front_grows, transcript_grows, lacks_more, lacks_silent}
+use Rattle.store_program.specs.Feeding.{GoesOn, StopsAs, IsFed}
+use Rattle.store_program.specs.Run.{TookFront}
+use Rattle.store_program.proofs.Transcripts.{front_grows, transcript_grows}
 
 -- ---- what a sink took
-
--- what a sink took in two calls stands one behind the other
-pub took_both : (old between new : Option (List ℕ)) (first then : List ℕ) → Took old between first → Took between new then → Took old new (first ++ then)
-took_both None between new first then e f = f ∙ ap (option_map (λ (held : List ℕ). held ++ then)) e
-took_both (Some held) between new first then e f =
-    f ∙ (ap (option_map (λ (held : List ℕ). held ++ then)) e ∙ ap (λ (all : List ℕ). Some all) (append_assoc held first then))
 
 -- a sink that took nothing is as before
 pub took_nothing : (old new : Option (List ℕ)) (bytes : List ℕ) → bytes ≡ [] → Took old new bytes → new ≡ old
@@ -40,7 +36,7 @@ took_front old between new first then e p = record {
   front = first ++ take p.0 then;
   behind = drop p.0 then;
   parts = append_assoc first (take p.0 then) (drop p.0 then) ∙ ap (λ (text : List ℕ). first ++ text) (take-append-drop p.0 then);
-  took = took_both old between new first (take p.0 then) e p.2;
+  took = Took-append old between new first (take p.0 then) e p.2;
 }
 
 -- a list that has nothing in front has no front

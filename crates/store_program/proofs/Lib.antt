@@ -1,9 +1,7 @@
-pub mod Splits
 pub mod Transcripts
 pub mod Standing
 pub mod Going
 pub mod Ending
-pub mod Whole
 pub mod LiveLines
 pub mod LiveEnding
 pub mod WordLemmas

@@ -3,14 +3,15 @@ use Rattle.std.proofs.Common.{◌≡◌, ◌⊎◌, ℕ, ◌<◌, ◌≤◌, tru
 use Rattle.std.proofs.Math.Seq.{take-append_seam}
 use Rattle.store_io.specs.Bytes.{Ended}
 use Rattle.script_net.specs.Lines.{lines_of, ended_lines_of, from_command}
+use Rattle.script_net.specs.Transcript.{lacks_header}
+use Rattle.script_net.specs.declared.feed.Stop.{Stop}
+use Rattle.script_net.specs.declared.feed.Stop.TheVariants as stop
 use Rattle.live_run.specs.Runs.{IsLiveText}
-use Rattle.store_program.specs.declared.feed.Stop.{Stop}
-use Rattle.store_program.specs.declared.feed.Stop.TheVariants as stop
 use Rattle.store_program.specs.declared.live_feed.LiveFeed.{LiveFeed}
 use Rattle.store_program.specs.declared.live_feed.LiveInput.{LiveInput}
 use Rattle.store_program.specs.declared.run.Status.{Status}
 use Rattle.store_program.specs.declared.run.Status.TheVariants as status
-use Rattle.store_program.specs.Run.{most_input, is_no_live, lacks_header}
+use Rattle.store_program.specs.Run.{most_input, is_no_live}
 use Rattle.store_program.specs.Live.{IsLiveOutput, TookLive, LiveEnds, AnswersLive}
 use Rattle.store_program.specs.LiveFeeding.{IsAsked, IsTaken, status_of_stop}
 use Rattle.store_program.proofs.Ending.{headless_short, split_left, all_given, never_headless}

@@ -10,20 +10,21 @@ use Rattle.script_lang.specs.Headers.{header_of, is_in_range}
 use Rattle.script_lang.specs.LiveCommands.{live_line_of}
 use Rattle.script_lang.specs.Ranges.{LiveLineIsWithin}
 use Rattle.script_lang.specs.declared.header.Header.TheVariants as header
-use Rattle.script_net.specs.Lines.{is_newline, lines_of, ended_lines_of, from_command}
+use Rattle.script_net.specs.Lines.{is_newline, ended_lines_of, from_command}
+use Rattle.script_net.specs.Feeding.{IsDone, IsPart}
+use Rattle.script_net.specs.Transcript.{lacks_header}
+use Rattle.script_net.specs.declared.feed.Stop.{Stop}
+use Rattle.script_net.proofs.Splits.{done_more, done_line, ended_done, ended_part, part_more}
+use Rattle.script_net.proofs.Standing.{begins_here}
+use Rattle.script_net.proofs.Begun.{from_command-more, lacks_more}
 use Rattle.live_run.specs.declared.input.NumberedLine.{NumberedLine}
-use Rattle.store_program.specs.declared.feed.Stop.{Stop}
 use Rattle.store_program.specs.declared.live_feed.LiveFeed.{LiveFeed}
 use Rattle.store_program.specs.declared.live_feed.LiveInput.{LiveInput}
 use Rattle.store_program.specs.declared.live_feed.LiveStage.{LiveStage}
 use Rattle.store_program.specs.declared.live_feed.LiveStage.TheVariants.{Opening, Behind}
-use Rattle.store_program.specs.Feeding.{IsDone, IsPart}
-use Rattle.store_program.specs.Run.{lacks_header, is_no_live}
+use Rattle.store_program.specs.Run.{is_no_live}
 use Rattle.store_program.specs.Live.{numbered, numbered_from, AsksFor}
 use Rattle.store_program.specs.LiveFeeding.{Asks, IsAsked, LiveStandsAt, IsTaken}
-use Rattle.store_program.proofs.Splits.{done_more, done_line, ended_done, ended_part, lines_part, part_more}
-use Rattle.store_program.proofs.Standing.{begins_here}
-use Rattle.store_program.proofs.Transcripts.{from_command-more, lacks_more}
 
 -- ---- one line more
 
@@ -134,12 +135,6 @@ module _ (feed : LiveFeed) (text : List ℕ) (t : IsTaken feed text []) where
   -- the lines that have ended are done
   pub taken_ended : ended_lines_of text ≡ t.done
   taken_ended = ended_part text t.done feed.part t.part all_cut
-
-  -- the part that waits is the last line
-  pub taken_lines : t.done ++ strip_carriage_return (feed.part ++ []) ∷ [] ≡ lines_of text
-  taken_lines =
-      ap (λ (part : List ℕ). t.done ++ strip_carriage_return part ∷ []) (append-nil feed.part)
-      ∙ sym (lines_part text t.done feed.part t.part all_cut)
 
   pub taken_well : lacks_header is_no_live false (from_command (ended_lines_of text)) ≡ false
   taken_well = ap (λ (lines : List (List ℕ)). lacks_header is_no_live false (from_command lines)) taken_ended ∙ live_stands_well feed.stage t.done t.stands

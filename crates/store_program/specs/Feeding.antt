@@ -1,43 +1,14 @@
--- How far the run of a script has come, whose bytes come in pieces.
-use Rattle.std.specs.Prelude.{◌≡◌, ℕ, ◌<◌, Bool, true, false, List, [], ◌∷◌, ◌++◌, map, Option, Some}
-use Rattle.std.specs.List.{slice_split}
-use Rattle.std.specs.Str.Lines.{strip_carriage_return}
+-- How far the run of a script has come, whose bytes come in pieces, and what of its replies is written.
+use Rattle.std.specs.Prelude.{◌≡◌, ℕ, ◌<◌, true, false, List, [], ◌++◌, Option}
 use Rattle.store_io.specs.Bytes.{Took}
-use Rattle.script_lang.specs.Headers.{header_of}
-use Rattle.script_net.specs.Lines.{is_newline, lines_of, ended_lines_of, from_command}
-use Rattle.script_net.specs.Runs.{RunsIn}
-use Rattle.script_net.specs.Transcript.{AnyPlain, opened, world_after, transcript_of, transcript}
-use Rattle.script_net.specs.declared.runner.Runner.{Runner}
-use Rattle.store_program.specs.declared.feed.Feed.{Feed}
-use Rattle.store_program.specs.declared.feed.Stage.{Stage}
-use Rattle.store_program.specs.declared.feed.Stage.TheVariants.{Opening, Running}
+use Rattle.script_net.specs.Feeding.{StandsAt, IsDone, IsPart}
+use Rattle.script_net.specs.Lines.{lines_of, ended_lines_of, from_command}
+use Rattle.script_net.specs.Transcript.{is_no_script, lacks_header, transcript_of, transcript}
+use Rattle.script_net.specs.declared.feed.Feed.{Feed}
+use Rattle.script_net.specs.declared.feed.Stage.{Stage}
 use Rattle.store_program.specs.declared.run.Status.{Status}
 use Rattle.store_program.specs.declared.run.Status.TheVariants.{Fine, BadHeader, WriteFault, NoMemory}
-use Rattle.store_program.specs.Run.{lacks_header, is_no_script, TookFront}
-
--- a run stands in the plain world after the lines behind the header
-pub record StandsBehind (runner : Runner) (lines : List (List ℕ)) : Type 0 where
-  pub header : List ℕ
-  pub behind : List (List ℕ)
-  pub plain : AnyPlain
-  pub begins : from_command lines ≡ header ∷ behind
-  pub opens : opened (header_of header) ≡ Some plain
-  pub runs : RunsIn runner (world_after plain behind)
-
--- where a script stands after these of its lines
-abbrev pub StandsAt : Stage → List (List ℕ) → Type 0
-StandsAt Opening lines = from_command lines ≡ []
-StandsAt (Running runner) lines = StandsBehind runner lines
-
--- of a text these are the lines that are done, and what is left of it has the others
-pub record IsDone (text : List ℕ) (done : List (List ℕ)) (left : List ℕ) : Type 0 where
-  pub parts : List (List ℕ)
-  pub cut : slice_split is_newline text ≡ parts ++ slice_split is_newline left
-  pub lines : done ≡ map strip_carriage_return parts
-
--- bytes without a newline
-abbrev pub IsPart : List ℕ → Type 0
-IsPart bytes = slice_split is_newline bytes ≡ bytes ∷ []
+use Rattle.store_program.specs.Run.{TookFront}
 
 -- After these lines: where the script stands, and what the sink took of their replies, and what is held of them. No
 -- write failed.
@@ -71,8 +42,3 @@ Concludes WriteFault bytes old new before after =
     (before < after) × (transcript bytes ≡ [] → ⊥) × TookFront old new (transcript bytes)
 Concludes NoMemory bytes old new before after = TookFront old new (transcript bytes)
 Concludes other bytes old new before after = ⊥
-
--- whether no command line has come
-abbrev pub is_opening : Stage → Bool
-is_opening Opening = true
-is_opening (Running runner) = false

@@ -7,13 +7,14 @@ use Rattle.script_lang.specs.declared.header.Header.TheVariants.{Live}
 use Rattle.script_lang.specs.declared.live.LiveLine.{LiveLine}
 use Rattle.script_lang.specs.declared.live.LiveLine.TheVariants.{Skip}
 use Rattle.script_net.specs.Lines.{lines_of, from_command}
+use Rattle.script_net.specs.Transcript.{lacks_header}
 use Rattle.live_run.specs.Runs.{IsLiveText}
 use Rattle.live_run.specs.declared.input.NumberedLine.{NumberedLine}
 use Rattle.store_program.specs.declared.run.Status.{Status}
 use Rattle.store_program.specs.declared.run.Status.TheVariants.{Fine, BadWords, BadHeader, TooLong, ReadFault, WriteFault, NoMemory}
 use Rattle.store_program.specs.declared.words.Request.TheVariants as request
 use Rattle.store_program.specs.Words.{request_of}
-use Rattle.store_program.specs.Run.{most_input, is_no_live, lacks_header, is_headless, TookFront, EndsHeadless}
+use Rattle.store_program.specs.Run.{most_input, is_no_live, is_headless, TookFront, EndsHeadless}
 
 -- a line with its number, where it isn't passed over
 abbrev pub numbered : ℕ → LiveLine → List NumberedLine

@@ -5,16 +5,16 @@ use Rattle.script_lang.specs.Headers.{is_in_range}
 use Rattle.script_lang.specs.Ranges.{LiveLineIsWithin}
 use Rattle.script_lang.specs.declared.header.Header.TheVariants.{Live}
 use Rattle.script_net.specs.Lines.{lines_of, from_command}
+use Rattle.script_net.specs.Feeding.{IsDone, IsPart}
+use Rattle.script_net.specs.declared.feed.Stop.{Stop}
+use Rattle.script_net.specs.declared.feed.Stop.TheVariants as stop
 use Rattle.live_run.specs.declared.input.NumberedLine.{NumberedLine}
-use Rattle.store_program.specs.declared.feed.Stop.{Stop}
-use Rattle.store_program.specs.declared.feed.Stop.TheVariants as stop
 use Rattle.store_program.specs.declared.run.Status.{Status}
 use Rattle.store_program.specs.declared.run.Status.TheVariants as status
 use Rattle.store_program.specs.declared.live_feed.LiveFeed.{LiveFeed}
 use Rattle.store_program.specs.declared.live_feed.LiveInput.{LiveInput}
 use Rattle.store_program.specs.declared.live_feed.LiveStage.{LiveStage}
 use Rattle.store_program.specs.declared.live_feed.LiveStage.TheVariants.{Opening, Behind}
-use Rattle.store_program.specs.Feeding.{IsDone, IsPart}
 use Rattle.store_program.specs.Run.{most_input}
 use Rattle.store_program.specs.Live.{AsksFor, AnswersLive}
 

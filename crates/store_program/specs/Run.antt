@@ -1,12 +1,11 @@
 -- What a run of the program answers and writes.
-use Rattle.std.specs.Prelude.{◌≡◌, ◌⊎◌, ℕ, ◌+◌, ◌<◌, ◌≤◌, Some, None, Bool, true, false, List, [], ◌∷◌, ◌++◌, length, take, Option, is_none}
+use Rattle.std.specs.Prelude.{◌≡◌, ◌⊎◌, ℕ, ◌+◌, ◌<◌, ◌≤◌, Some, None, Bool, true, false, List, ◌++◌, length, take, Option}
 use Rattle.store_io.specs.Bytes.{Gave, Ended, Took}
-use Rattle.script_lang.specs.Headers.{header_of}
 use Rattle.script_lang.specs.declared.header.Header.{Header}
 use Rattle.script_lang.specs.declared.header.Header.TheVariants.{Store, Keep, Live}
 use Rattle.script_net.specs.Lines.{lines_of, ended_lines_of, whole_lines_of, from_command}
 use Rattle.script_net.specs.Honest.{IsFairText}
-use Rattle.script_net.specs.Transcript.{opened, transcript_of, transcript}
+use Rattle.script_net.specs.Transcript.{is_no_script, lacks_header, transcript_of, transcript}
 use Rattle.store_program.specs.declared.run.Status.{Status}
 use Rattle.store_program.specs.declared.run.Status.TheVariants.{Fine, BadWords, BadHeader, TooLong, ReadFault, WriteFault, NoMemory}
 use Rattle.store_program.specs.declared.words.Request.TheVariants.{Script}
@@ -18,21 +17,12 @@ use Rattle.workload.specs.Summary.{summary}
 abbrev pub most_input : ℕ
 most_input = 4194304
 
--- whether a line's header is none of a script, and whether it is none of a live input
-abbrev pub is_no_script : Option Header → Bool
-is_no_script header = is_none (opened header)
-
+-- whether a line's header is none of a live input
 abbrev pub is_no_live : Option Header → Bool
 is_no_live (Some (Live n w clients turns loss)) = false
 is_no_live (Some (Store n w limit)) = true
 is_no_live (Some (Keep n w limit)) = true
 is_no_live None = true
-
--- whether lines have no header of a mode where a header must be: their first command line is none of the mode, or all lines
--- have come and there is no command line
-abbrev pub lacks_header : (Option Header → Bool) → Bool → List (List ℕ) → Bool
-lacks_header is_none_of all [] = all
-lacks_header is_none_of all (first ∷ lines) = is_none_of (header_of first)
 
 -- whether the bytes that a source gave lack a header, as far as the whole lines tell of the first that an input may have
 abbrev pub is_headless : (Option Header → Bool) → Bool → List ℕ → Bool

@@ -6,15 +6,15 @@ ghost use Rattle.script_lang.specs.Headers.{header_of, is_in_range};
 ghost use Rattle.script_lang.specs.LiveCommands.{live_line_of};
 ghost use Rattle.script_lang.specs.Ranges.{LiveLineIsWithin};
 ghost use Rattle.script_net.specs.Lines.{from_command};
-ghost use Rattle.store_program.specs.Run.{lacks_header, is_no_live};
+ghost use Rattle.script_net.specs.Transcript.{lacks_header};
+ghost use Rattle.store_program.specs.Run.{is_no_live};
 ghost use Rattle.store_program.specs.Live.{numbered};
 ghost use Rattle.store_program.specs.LiveFeeding.{LiveStandsAt, IsAsked};
 
-use crate::feed::Stop;
-use crate::line::without_return;
 use live_run::NumberedLine;
 use op_base::{ByteList, NoMemory};
 use script_lang::{Header, LiveLine, is_passed_over, read_header, read_live_line};
+use script_net::{Stop, without_return};
 use std::alloc::Global;
 
 /// What a live input asks for: a store of `n` members with a window of `w`, so many clients and turns, a loss, and the

@@ -2,16 +2,16 @@
 
 ghost use Rattle.std.specs.Prelude.{◌≡◌, ◌++◌, ◌+◌, ◌≤◌, [], List, ℕ, true, false, length, MatchResult};
 ghost use Rattle.script_net.specs.Lines.{ended_lines_of, lines_of, from_command};
-ghost use Rattle.store_program.specs.Run.{most_input, lacks_header, is_no_live};
+ghost use Rattle.script_net.specs.Transcript.{lacks_header};
+ghost use Rattle.store_program.specs.Run.{most_input, is_no_live};
 ghost use Rattle.store_program.specs.Live.{AnswersLive};
 ghost use Rattle.store_program.specs.LiveFeeding.{IsTaken, IsAsked, IsReadOr, status_of_stop};
 
-use crate::feed::Stop;
-use crate::line::split_line;
 use crate::live_feed::{LiveFeed, LiveInput};
 use crate::run::{MOST_INPUT, MOST_PIECE, Status};
 use live_run::live;
 use op_base::Text;
+use script_net::{Stop, split_line};
 use std::alloc::Global;
 use std::sync::Wait;
 use std::thread::Threads;

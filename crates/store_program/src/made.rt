@@ -1,37 +1,14 @@
 //! A script that is made, run, and summed up.
 
 ghost use Rattle.std.specs.Prelude.{◌≡◌, ◌≤◌, IfOk};
-ghost use Rattle.script_net.specs.Transcript.{transcript};
 ghost use Rattle.store_program.specs.Run.{AnswersMade, made_summary};
 
-use crate::feed::{Feed, Stop};
-use crate::line::split_line;
 use crate::run::Status;
 use op_base::{NoMemory, Text};
+use script_net::transcript;
 use std::alloc::Global;
 use store_io::{Sink, write_whole};
 use workload::{make, put_summary};
-
-/// The transcript of a whole script. One without a header has no replies.
-fn transcript(alloc: Global, script: &[u8]) -> Result<Text, NoMemory>
-    ensures { IfOk result (λ text. text ≡ transcript script.now) }
-{
-    let mut feed = Feed::new(alloc);
-    let mut out = Text::new(alloc);
-    let mut rest = script;
-    'lines: while let Some((line, after)) = split_line(rest) {
-        match feed.end_line(alloc, line, &mut out) {
-            Ok(()) => rest = after,
-            Err(Stop::BadHeader) => return Ok(out),
-            Err(Stop::NoMemory) => return Err(NoMemory),
-        }
-    }
-    match feed.end_line(alloc, rest, &mut out) {
-        Ok(()) => Ok(out),
-        Err(Stop::BadHeader) => Ok(out),
-        Err(Stop::NoMemory) => Err(NoMemory),
-    }
-}
 
 /// The summary of a made script and its transcript.
 fn made_summary(alloc: Global, seed: u32, count: u32, n: u8, w: u8) -> Result<Text, NoMemory>

@@ -2,8 +2,6 @@
 //! from there, in threads, and writes what came of it; or it makes a script, runs it, and writes a summary.
 #![tactic(auto)]
 
-mod feed;
-mod line;
 mod live_feed;
 mod live_mode;
 #[cfg(test)]

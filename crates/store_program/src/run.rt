@@ -14,12 +14,11 @@ ghost use Rattle.store_program.specs.Live.{AnswersLive, IsGoodLive, TookLive};
 ghost use Rattle.store_program.specs.Statuses.{number_of_status};
 ghost use Rattle.store_program.specs.Words.{request_of};
 
-use crate::feed::{Feed, Stop};
-use crate::line::split_line;
 use crate::live_mode::run_live;
 use crate::made::run_made;
 use crate::words::{Request, request_of};
 use op_base::{NoMemory, Text};
+use script_net::{Feed, Stop, split_line};
 use std::alloc::Global;
 use std::process::ExitCode;
 use std::sync::Wait;

@@ -1,13 +1,11 @@
 //! Scripts in which the members change: each line with its reply, as worked by hand.
 
-use crate::tests::scripts::{LIMIT, Script};
+use crate::tests::scripts::Script;
 
 pub const CHANGES: [Script; 5] = [
     // A third member begins with what the others have, and its remove comes to one of them; then one member is left.
     Script {
-        n: 2,
-        w: 2,
-        limit: LIMIT,
+        header: "store 2 2",
         rows: &[
             ("do 0 awset:s add x", "ok 1"),
             ("members 3", "unsettled"),
@@ -37,9 +35,7 @@ pub const CHANGES: [Script; 5] = [
     },
     // One member becomes sixteen, and they become one.
     Script {
-        n: 1,
-        w: 1,
-        limit: LIMIT,
+        header: "store 1 1",
         rows: &[
             ("do 0 counter:a inc 5", "ok 1"),
             ("members 16", "epoch 1"),
@@ -55,9 +51,7 @@ pub const CHANGES: [Script; 5] = [
     },
     // A message that waits hinders no change, and is gone after it: its frame says another epoch.
     Script {
-        n: 2,
-        w: 1,
-        limit: LIMIT,
+        header: "store 2 1",
         rows: &[
             (
                 "raw 1 0200020f0000000100000001000000000001630000000a",
@@ -83,9 +77,7 @@ pub const CHANGES: [Script; 5] = [
     },
     // Numbers begin with 1 again and the window is empty; no-ops of the epoch before aren't waited for.
     Script {
-        n: 2,
-        w: 1,
-        limit: LIMIT,
+        header: "store 2 1",
         rows: &[
             ("do 0 awset:s add x", "ok 1"),
             ("do 0 awset:s add x", "busy"),
@@ -110,9 +102,7 @@ pub const CHANGES: [Script; 5] = [
     },
     // Two replicas differ by messages that are stable nowhere else, and never settle.
     Script {
-        n: 3,
-        w: 4,
-        limit: LIMIT,
+        header: "store 3 4",
         rows: &[
             (
                 "raw 1 0100030f000000010000000000000000016300000001",

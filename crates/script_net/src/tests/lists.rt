@@ -1,13 +1,11 @@
 //! Scripts with lists: each line with its reply, as worked by hand.
 
-use crate::tests::scripts::{LIMIT, Script};
+use crate::tests::scripts::Script;
 
 pub const LISTS: [Script; 5] = [
     // Two replicas put elements behind one; one is deleted, which another put something behind meanwhile; then all are cleared.
     Script {
-        n: 2,
-        w: 4,
-        limit: LIMIT,
+        header: "store 2 4",
         rows: &[
             ("do 0 list:d ins a head", "ok 1"),
             ("give 1 0 1", "took 0:1"),
@@ -35,9 +33,7 @@ pub const LISTS: [Script; 5] = [
     },
     // Each pair of operations that don't know of each other, before and after they are stable.
     Script {
-        n: 2,
-        w: 32,
-        limit: LIMIT,
+        header: "store 2 32",
         rows: &[
             ("do 0 list:ii ins a head", "ok 1"),
             ("do 0 list:id ins a head", "ok 2"),
@@ -95,9 +91,7 @@ pub const LISTS: [Script; 5] = [
     },
     // Three that don't, at one place, which come to each replica in another order; then an insertion, a deletion and a clear.
     Script {
-        n: 3,
-        w: 8,
-        limit: LIMIT,
+        header: "store 3 8",
         rows: &[
             ("do 0 list:d ins a head", "ok 1"),
             ("do 0 list:d ins b 0.0.1", "ok 2"),
@@ -138,9 +132,7 @@ pub const LISTS: [Script; 5] = [
     },
     // Elements that aren't there: of no message, of another object, of no member, of an epoch to come, deleted everywhere, and of a member that left.
     Script {
-        n: 2,
-        w: 8,
-        limit: LIMIT,
+        header: "store 2 8",
         rows: &[
             ("do 0 list:d ins a head", "ok 1"),
             ("do 0 list:other ins b 0.0.1", "ok 2"),
@@ -184,9 +176,7 @@ pub const LISTS: [Script; 5] = [
     },
     // Frames with a place or an id that is none, cut or too long, or in version 1; and what a forged one deletes.
     Script {
-        n: 2,
-        w: 4,
-        limit: LIMIT,
+        header: "store 2 4",
         rows: &[
             (
                 "raw 1 020002140000000000000001000000000001640001610000",
@@ -240,9 +230,7 @@ pub const LISTS: [Script; 5] = [
 
 /// Lists of durable replicas: what one sent and heard before it outlives a stop.
 pub const KEPT_LISTS: [Script; 1] = [Script {
-    n: 2,
-    w: 4,
-    limit: LIMIT,
+    header: "keep 2 4",
     rows: &[
         ("do 0 list:d ins a head", "ok 1"),
         ("give 1 0 1", "took 0:1"),

@@ -1,22 +1,16 @@
 //! Scripts of stores: each line with its reply, as worked by hand.
 
-pub const LIMIT: u32 = 10000;
-
-/// A store's numbers, and the lines of a script, each with its reply.
+/// The header of a script, and the lines behind it, each with its reply.
 #[derive(Clone, Copy)]
 pub struct Script {
-    pub n: u8,
-    pub w: u8,
-    pub limit: u32,
+    pub header: &'static str,
     pub rows: &'static [(&'static str, &'static str)],
 }
 
 pub const SCRIPTS: [Script; 31] = [
     // A remove takes out the adds that it has seen; what is stable leaves the log.
     Script {
-        n: 2,
-        w: 2,
-        limit: LIMIT,
+        header: "store 2 2",
         rows: &[
             ("do 0 awset:s add x", "ok 1"),
             ("give 1 0 1", "took 0:1"),
@@ -36,9 +30,7 @@ pub const SCRIPTS: [Script; 31] = [
     },
     // A full window is busy until its operations are stable.
     Script {
-        n: 2,
-        w: 1,
-        limit: LIMIT,
+        header: "store 2 1",
         rows: &[
             ("do 0 counter:c inc 1", "ok 1"),
             ("do 0 counter:c inc 1", "busy"),
@@ -50,9 +42,7 @@ pub const SCRIPTS: [Script; 31] = [
     },
     // A message waits for those that it has seen.
     Script {
-        n: 3,
-        w: 4,
-        limit: LIMIT,
+        header: "store 3 4",
         rows: &[
             ("do 0 mvreg:m write a", "ok 1"),
             ("give 1 0 1", "took 0:1"),
@@ -67,9 +57,7 @@ pub const SCRIPTS: [Script; 31] = [
     },
     // Of concurrent removes and adds each member's last ones count.
     Script {
-        n: 2,
-        w: 4,
-        limit: LIMIT,
+        header: "store 2 4",
         rows: &[
             ("do 0 rwset:s rmv x", "ok 1"),
             ("do 0 rwset:s add x", "ok 2"),
@@ -88,9 +76,7 @@ pub const SCRIPTS: [Script; 31] = [
     },
     // A remove wins over a concurrent add.
     Script {
-        n: 2,
-        w: 4,
-        limit: LIMIT,
+        header: "store 2 4",
         rows: &[
             ("do 0 rwset:s add x", "ok 1"),
             ("do 1 rwset:s rmv x", "ok 1"),
@@ -102,9 +88,7 @@ pub const SCRIPTS: [Script; 31] = [
     },
     // A stable remove is voided, a concurrent add isn't.
     Script {
-        n: 3,
-        w: 4,
-        limit: LIMIT,
+        header: "store 3 4",
         rows: &[
             ("do 0 rwset:s add x", "ok 1"),
             ("do 1 rwset:s rmv x", "ok 1"),
@@ -120,9 +104,7 @@ pub const SCRIPTS: [Script; 31] = [
     },
     // A clear takes out what it has seen alone.
     Script {
-        n: 2,
-        w: 4,
-        limit: LIMIT,
+        header: "store 2 4",
         rows: &[
             ("do 0 rcounter:c inc 5", "ok 1"),
             ("do 1 rcounter:c clear", "ok 1"),
@@ -134,9 +116,7 @@ pub const SCRIPTS: [Script; 31] = [
     },
     // Concurrent writes stand side by side, in order.
     Script {
-        n: 2,
-        w: 4,
-        limit: LIMIT,
+        header: "store 2 4",
         rows: &[
             ("do 0 mvreg:m write a", "ok 1"),
             ("do 0 mvreg:q write b", "ok 2"),
@@ -150,9 +130,7 @@ pub const SCRIPTS: [Script; 31] = [
     },
     // A member ends at the limit.
     Script {
-        n: 1,
-        w: 1,
-        limit: 3,
+        header: "store 1 1 3",
         rows: &[
             ("do 0 counter:c inc 1", "ok 1"),
             ("do 0 counter:c inc 1", "ok 2"),
@@ -162,9 +140,7 @@ pub const SCRIPTS: [Script; 31] = [
     },
     // A beat acknowledges an operation once.
     Script {
-        n: 2,
-        w: 1,
-        limit: LIMIT,
+        header: "store 2 1",
         rows: &[
             ("beat 0", "quiet"),
             ("do 0 ewflag:f enable", "ok 1"),
@@ -178,9 +154,7 @@ pub const SCRIPTS: [Script; 31] = [
     },
     // Faulty lines have the number of their first fault.
     Script {
-        n: 2,
-        w: 2,
-        limit: LIMIT,
+        header: "store 2 2",
         rows: &[
             ("give 1 0 1", "unsent"),
             ("do 2 counter:a inc 1", "bad 4"),
@@ -203,9 +177,7 @@ pub const SCRIPTS: [Script; 31] = [
     },
     // Settling leaves all alike, and nothing in the logs.
     Script {
-        n: 3,
-        w: 2,
-        limit: LIMIT,
+        header: "store 3 2",
         rows: &[
             ("do 0 awset:s add a", "ok 1"),
             ("do 0 awset:s add b", "ok 2"),
@@ -233,9 +205,7 @@ pub const SCRIPTS: [Script; 31] = [
     },
     // Frames that are cut or too long, and one that is read.
     Script {
-        n: 2,
-        w: 2,
-        limit: LIMIT,
+        header: "store 2 2",
         rows: &[
             ("raw 1 010002010000000100000000017301", "bad frame 8"),
             ("raw 1 0100020100000001000000000173017800", "bad frame 9"),
@@ -246,9 +216,7 @@ pub const SCRIPTS: [Script; 31] = [
     },
     // Frames that no honest member sent are dropped when their turn comes.
     Script {
-        n: 3,
-        w: 4,
-        limit: LIMIT,
+        header: "store 3 4",
         rows: &[
             ("do 2 counter:c inc 1", "ok 1"),
             ("give 0 2 1", "took 2:1"),
@@ -273,9 +241,7 @@ pub const SCRIPTS: [Script; 31] = [
     },
     // More operations than the window has are dropped.
     Script {
-        n: 3,
-        w: 1,
-        limit: LIMIT,
+        header: "store 3 1",
         rows: &[
             (
                 "raw 2 0100030f000000010000000000000000016300000001",
@@ -291,9 +257,7 @@ pub const SCRIPTS: [Script; 31] = [
     },
     // Frames that are too far ahead, kept or there already.
     Script {
-        n: 2,
-        w: 1,
-        limit: LIMIT,
+        header: "store 2 1",
         rows: &[
             ("raw 1 0100020f0000000500000000016300000001", "far"),
             ("raw 1 0100020f0000000400000000016300000001", "kept"),
@@ -305,9 +269,7 @@ pub const SCRIPTS: [Script; 31] = [
     },
     // Beats are held where nobody acknowledges them.
     Script {
-        n: 2,
-        w: 1,
-        limit: LIMIT,
+        header: "store 2 1",
         rows: &[
             ("raw 1 0100020f0000000100000000016300000001", "took 0:1"),
             ("beat 1", "ok 1"),
@@ -325,9 +287,7 @@ pub const SCRIPTS: [Script; 31] = [
     },
     // An update waits for a no-op, and that for a message in turn.
     Script {
-        n: 2,
-        w: 1,
-        limit: LIMIT,
+        header: "store 2 1",
         rows: &[
             ("do 0 counter:c inc 1", "ok 1"),
             ("lags 0", "lags 1"),
@@ -347,9 +307,7 @@ pub const SCRIPTS: [Script; 31] = [
     },
     // Settling leaves an entry in a log where a member that has reached its limit can't tell what it has.
     Script {
-        n: 2,
-        w: 4,
-        limit: 1,
+        header: "store 2 4 1",
         rows: &[
             ("do 1 counter:c inc 1", "ok 1"),
             ("do 0 awset:s add x", "ok 1"),
@@ -363,9 +321,7 @@ pub const SCRIPTS: [Script; 31] = [
     },
     // With three members and a window of one, three no-ops are the most that one can have out where no frame is forged.
     Script {
-        n: 3,
-        w: 1,
-        limit: LIMIT,
+        header: "store 3 1",
         rows: &[
             ("do 1 counter:c inc 1", "ok 1"),
             ("give 0 1 1", "took 1:1"),
@@ -395,9 +351,7 @@ pub const SCRIPTS: [Script; 31] = [
     },
     // More no-ops than their window has are dropped.
     Script {
-        n: 3,
-        w: 1,
-        limit: LIMIT,
+        header: "store 3 1",
         rows: &[
             ("raw 2 01000300000000010000000000000000", "took 0:1"),
             ("raw 2 01000300000000020000000000000000", "took 0:2"),
@@ -413,9 +367,7 @@ pub const SCRIPTS: [Script; 31] = [
     },
     // An outbox is offered, and nothing of it a second time.
     Script {
-        n: 2,
-        w: 2,
-        limit: LIMIT,
+        header: "store 2 2",
         rows: &[
             ("do 0 counter:c inc 1", "ok 1"),
             ("do 0 counter:c inc 2", "ok 2"),
@@ -426,9 +378,7 @@ pub const SCRIPTS: [Script; 31] = [
     },
     // What is offered may be kept as early.
     Script {
-        n: 3,
-        w: 4,
-        limit: LIMIT,
+        header: "store 3 4",
         rows: &[
             ("do 2 counter:c inc 1", "ok 1"),
             ("give 0 2 1", "took 2:1"),
@@ -439,9 +389,7 @@ pub const SCRIPTS: [Script; 31] = [
     },
     // Two messages of one id: each replica keeps the one that came.
     Script {
-        n: 3,
-        w: 4,
-        limit: LIMIT,
+        header: "store 3 4",
         rows: &[
             (
                 "raw 1 0100030f000000010000000000000000016300000001",
@@ -460,9 +408,7 @@ pub const SCRIPTS: [Script; 31] = [
     },
     // Acts of each kind that know nothing of each other, before they are stable and after.
     Script {
-        n: 2,
-        w: 16,
-        limit: LIMIT,
+        header: "store 2 16",
         rows: &[
             ("do 0 awset:s add x", "ok 1"),
             ("do 0 awset:s add y", "ok 2"),
@@ -508,9 +454,7 @@ pub const SCRIPTS: [Script; 31] = [
     },
     // Frames of the second version, of another epoch, and of the first.
     Script {
-        n: 2,
-        w: 2,
-        limit: LIMIT,
+        header: "store 2 2",
         rows: &[
             (
                 "raw 1 02000201000000010000000100000000000173000178",
@@ -538,9 +482,7 @@ pub const SCRIPTS: [Script; 31] = [
     },
     // Each beginning of a frame has a fault.
     Script {
-        n: 2,
-        w: 2,
-        limit: LIMIT,
+        header: "store 2 2",
         rows: &[
             ("raw 1 01", "bad frame 1"),
             ("raw 1 0100", "bad frame 1"),
@@ -562,9 +504,7 @@ pub const SCRIPTS: [Script; 31] = [
     },
     // One that hears nothing has what it did itself, and knows nothing to be stable.
     Script {
-        n: 2,
-        w: 2,
-        limit: LIMIT,
+        header: "store 2 2",
         rows: &[
             ("do 1 awset:s add x", "ok 1"),
             ("do 1 counter:c inc 3", "ok 2"),
@@ -580,9 +520,7 @@ pub const SCRIPTS: [Script; 31] = [
     },
     // Two operations of each kind that know nothing of each other, before they are stable and after.
     Script {
-        n: 3,
-        w: 7,
-        limit: LIMIT,
+        header: "store 3 7",
         rows: &[
             ("do 0 awset:s add x", "ok 1"),
             ("do 0 rwset:s add x", "ok 2"),
@@ -673,9 +611,7 @@ pub const SCRIPTS: [Script; 31] = [
     },
     // One that acknowledges each operation at once, while a third hears nothing.
     Script {
-        n: 3,
-        w: 8,
-        limit: LIMIT,
+        header: "store 3 8",
         rows: &[
             ("do 0 awset:s add a", "ok 1"),
             ("give 1 0 1", "took 0:1"),
@@ -699,9 +635,7 @@ pub const SCRIPTS: [Script; 31] = [
     },
     // Values that take memory are copied whole.
     Script {
-        n: 2,
-        w: 4,
-        limit: LIMIT,
+        header: "store 2 4",
         rows: &[
             (
                 "do 0 awset:s add a-value-of-more-bytes-than-stand-in-place",

@@ -1,13 +1,11 @@
 //! Scripts of durable replicas: each line with its reply, as worked by hand.
 
-use crate::tests::scripts::{LIMIT, Script};
+use crate::tests::scripts::Script;
 
 pub const STOPS: [Script; 4] = [
     // What is received is lost by a stop, but for whole records that outlive it; what is sent syncs all.
     Script {
-        n: 2,
-        w: 2,
-        limit: LIMIT,
+        header: "keep 2 2",
         rows: &[
             ("do 0 counter:c inc 5", "ok 1"),
             ("give 1 0 1", "took 0:1"),
@@ -27,9 +25,7 @@ pub const STOPS: [Script; 4] = [
     },
     // Each command answers as in a store, and a stop that nothing is lost by changes no answer.
     Script {
-        n: 2,
-        w: 2,
-        limit: LIMIT,
+        header: "keep 2 2",
         rows: &[
             ("do 0 awset:s add x", "ok 1"),
             ("do 0 mvreg:m write y", "ok 2"),
@@ -57,9 +53,7 @@ pub const STOPS: [Script; 4] = [
     },
     // An early message that is lost makes room for the one before it; the stopped replica sends on from its last number.
     Script {
-        n: 3,
-        w: 1,
-        limit: LIMIT,
+        header: "keep 3 1",
         rows: &[
             ("do 0 ewflag:f enable", "ok 1"),
             ("give 1 0 1", "took 0:1"),
@@ -76,9 +70,7 @@ pub const STOPS: [Script; 4] = [
     },
     // What such scripts don't have.
     Script {
-        n: 2,
-        w: 2,
-        limit: LIMIT,
+        header: "keep 2 2",
         rows: &[
             ("settle", "bad 2"),
             ("resend 0 1", "bad 2"),

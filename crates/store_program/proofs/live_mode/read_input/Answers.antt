@@ -2,8 +2,9 @@ use Rattle.std.proofs.Common.{◌≡◌, ◌∙◌, ◌++◌, ◌+◌, ◌≤◌
 use Rattle.std.proofs.lemmas.List.{take-append-le}
 use Rattle.store_io.specs.Bytes.{Gave}
 use Rattle.script_net.specs.Lines.{ended_lines_of, from_command}
-use Rattle.store_program.specs.declared.feed.Stop.TheVariants as stop
-use Rattle.store_program.specs.Run.{most_input, is_no_live, lacks_header}
+use Rattle.script_net.specs.Transcript.{lacks_header}
+use Rattle.script_net.specs.declared.feed.Stop.TheVariants as stop
+use Rattle.store_program.specs.Run.{most_input, is_no_live}
 use Rattle.store_program.specs.Live.{LiveEnds}
 use Rattle.store_program.specs.LiveFeeding.{IsTaken}
 use Rattle.store_program.proofs.Ending.{gave_both, gave_end}

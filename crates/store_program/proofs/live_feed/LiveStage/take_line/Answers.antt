@@ -1,7 +1,7 @@
 use Rattle.std.proofs.Common.{◌≡◌, ◌∙◌, ◌++◌, ◌∷◌, [], List, ℕ, sym, subst}
+use Rattle.script_net.proofs.Standing.{still_opening}
 use Rattle.store_program.specs.declared.live_feed.LiveStage.{LiveStage}
 use Rattle.store_program.specs.LiveFeeding.{LiveStandsAt, IsAsked}
-use Rattle.store_program.proofs.Standing.{still_opening}
 use Rattle.store_program.proofs.LiveLines.{asked_more, asked_first, live_refused}
 use Rattle.store_program.proofs.live_feed.LiveStage.take_line.Goals as goal
 

@@ -4,7 +4,7 @@ use Rattle.std.specs.List.{slice_split, onto_first}
 use Rattle.std.specs.Str.Lines.{strip_carriage_return}
 use Rattle.std.proofs.lemmas.List.{append-nil, map-append}
 use Rattle.script_net.specs.Lines.{is_newline, lines_of, all_but_last, ended_lines_of}
-use Rattle.store_program.specs.Feeding.{IsDone, IsPart}
+use Rattle.script_net.specs.Feeding.{IsDone, IsPart}
 
 -- the parts of a text between newlines
 abbrev parts_of : List ℕ → List (List ℕ)

@@ -7,7 +7,7 @@ ghost use Rattle.script_net.specs.Lines.{is_newline};
 
 use memchr::memchr;
 
-/// A line, without its end.
+/// A line without the carriage return at its end, where it has one there.
 pub fn without_return(line: &[u8]) -> &[u8]
     ensures { result.now ≡ strip_carriage_return line.now }
 {

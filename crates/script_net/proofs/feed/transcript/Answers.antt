@@ -3,9 +3,9 @@ use Rattle.std.specs.Str.Lines.{strip_carriage_return}
 use Rattle.std.proofs.lemmas.List.{append-nil}
 use Rattle.script_net.specs.Lines.{lines_of}
 use Rattle.script_net.specs.Transcript.{transcript_of}
-use Rattle.store_program.proofs.Splits.{lines_done}
-use Rattle.store_program.proofs.Whole.{next_done, all_done, silent_script}
-use Rattle.store_program.proofs.made.transcript.Goals as goal
+use Rattle.script_net.proofs.Splits.{lines_done}
+use Rattle.script_net.proofs.Whole.{next_done, all_done, silent_script}
+use Rattle.script_net.proofs.feed.transcript.Goals as goal
 
 pub lines-preserved : goal.lines-preserved
 lines-preserved c =

@@ -4,11 +4,10 @@ use Rattle.std.specs.List.{slice_split}
 use Rattle.std.specs.Str.Lines.{strip_carriage_return}
 use Rattle.std.proofs.lemmas.List.{append-nil}
 use Rattle.script_net.specs.Lines.{is_newline, lines_of, from_command}
-use Rattle.script_net.specs.Transcript.{transcript_of, transcript}
-use Rattle.store_program.specs.Feeding.{IsDone, IsPart}
-use Rattle.store_program.specs.Run.{is_no_script, lacks_header}
-use Rattle.store_program.proofs.Splits.{done_line, lines_part}
-use Rattle.store_program.proofs.Transcripts.{lacks_more, lacks_silent}
+use Rattle.script_net.specs.Transcript.{is_no_script, lacks_header, transcript_of, transcript}
+use Rattle.script_net.specs.Feeding.{IsDone, IsPart}
+use Rattle.script_net.proofs.Begun.{lacks_more, lacks_silent}
+use Rattle.script_net.proofs.Splits.{done_line, lines_part}
 
 module _ (script : List ℕ) (done : List (List ℕ)) (part rest : List ℕ) (none : part ≡ []) (cut : IsDone script done rest) where
   -- the next line is done too

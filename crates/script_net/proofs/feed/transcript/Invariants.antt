@@ -1,7 +1,7 @@
 use Rattle.std.proofs.Common.{◌≡◌, ℕ, List, [], length}
 use Rattle.script_net.specs.Transcript.{transcript_of}
-use Rattle.store_program.specs.Feeding.{IsDone, StandsAt}
-use Rattle.store_program.proofs.made.transcript.Given as goal
+use Rattle.script_net.specs.Feeding.{IsDone, StandsAt}
+use Rattle.script_net.proofs.feed.transcript.Given as goal
 
 -- some lines are done, and what is left has the others
 abbrev pub invariant-lines : goal.invariant-lines
