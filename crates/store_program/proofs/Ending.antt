@@ -20,7 +20,7 @@ use Rattle.script_net.proofs.Begun.{lacks_more}
 use Rattle.store_program.specs.declared.run.Status.{Status}
 use Rattle.store_program.specs.declared.run.Status.TheVariants as status
 use Rattle.store_program.specs.Feeding.{GoesOn, StopsAs, IsFed, Concludes}
-use Rattle.store_program.specs.Run.{TookFair, EndsFine, EndsHeadless, most_input, is_headless, TookFront, Ends, AnswersInput, AnswersMade, made_summary}
+use Rattle.store_program.specs.Run.{SourceSeen, SinkSeen, TookFair, EndsFine, EndsHeadless, EndsTooLong, most_input, is_headless, TookFront, Ends, AnswersInput, AnswersMade, made_summary}
 use Rattle.store_program.specs.declared.words.Request.{Request}
 use Rattle.store_program.specs.declared.words.Request.TheVariants.{Script, Live, Make}
 use Rattle.store_program.proofs.Standing.{stands_well, behind_header}
@@ -124,54 +124,53 @@ no_lack given true e whole =
 front_of_short : (given : List ℕ) (old new : Option (List ℕ)) → length given ≤ most_input → TookFront old new (transcript given) → TookFront old new (transcript (take most_input given))
 front_of_short given old new short front = subst (λ (bytes : List ℕ). TookFront old new (transcript bytes)) (sym (take_all most_input given short)) front
 
-module _ (given : List ℕ) (left : Option (List ℕ)) (reads_old reads_new writes_old writes_new : ℕ) (old new : Option (List ℕ)) (short : length given ≤ most_input) where
+module _ (given : List ℕ) (source_old source_new : SourceSeen) (old new : SinkSeen) (short : length given ≤ most_input) where
   -- the run of a piece stopped
-  pub ends_stopped : (s : Status) → StopsAs s (ended_lines_of given) old new writes_old writes_new → Ends s given left reads_old reads_new writes_old writes_new old new
+  pub ends_stopped : (s : Status) → StopsAs s (ended_lines_of given) old.held new.held old.faults new.faults → Ends s given source_old source_new old new
   ends_stopped status.BadHeader h = record { lacks = inl (headless_short is_no_script false given short ∙ h.0); wrote = h.1 }
   ends_stopped status.WriteFault h = record {
     fault = h.0;
     header = headless_short is_no_script false given short ∙ replies_have_header false (ended_lines_of given) h.1;
-    wrote = front_of_short given old new short (front_grows old new _ _ (ended_front given) h.2);
+    wrote = front_of_short given old.held new.held short (front_grows old.held new.held _ _ (ended_front given) h.2);
   }
-  ends_stopped status.NoMemory h = front_of_short given old new short (front_grows old new _ _ (ended_front given) h)
+  ends_stopped status.NoMemory h = front_of_short given old.held new.held short (front_grows old.held new.held _ _ (ended_front given) h)
   ends_stopped status.Fine h = absurd h
   ends_stopped status.BadWords h = absurd h
   ends_stopped status.TooLong h = absurd h
   ends_stopped status.ReadFault h = absurd h
 
   -- the input ended
-  pub ends_concluded : (s : Status) → Ended left → Concludes s given old new writes_old writes_new → Ends s given left reads_old reads_new writes_old writes_new old new
+  pub ends_concluded : (s : Status) → Ended source_new.left → Concludes s given old.held new.held old.faults new.faults → Ends s given source_old source_new old new
   ends_concluded status.Fine ended h = record { ended = ended; short = short; header = headless_short is_no_script true given short ∙ h.0; wrote = h.1 }
   ends_concluded status.BadHeader ended h = record { lacks = inr (ended, short, headless_short is_no_script true given short ∙ h.0); wrote = h.1 }
   ends_concluded status.WriteFault ended h = record {
     fault = h.0;
     header = headless_short is_no_script false given short ∙ no_lack given _ refl (replies_have_header true (lines_of given) h.1);
-    wrote = front_of_short given old new short h.2;
+    wrote = front_of_short given old.held new.held short h.2;
   }
-  ends_concluded status.NoMemory ended h = front_of_short given old new short h
+  ends_concluded status.NoMemory ended h = front_of_short given old.held new.held short h
   ends_concluded status.BadWords ended h = absurd h
   ends_concluded status.TooLong ended h = absurd h
   ends_concluded status.ReadFault ended h = absurd h
 
   -- a read failed
-  pub ends_broken : (feed : Feed) → IsFed feed given [] old new writes_old writes_new → reads_old < reads_new → Ends status.ReadFault given left reads_old reads_new writes_old writes_new old new
+  pub ends_broken : (feed : Feed) → IsFed feed given [] old.held new.held old.faults new.faults → source_old.faults < source_new.faults → Ends status.ReadFault given source_old source_new old new
   ends_broken feed f fault = record {
     fault = fault;
     short = short;
     header = headless_short is_no_script false given short ∙ stands_well feed.stage (ended_lines_of given) f.goes.stands;
-    wrote = subst (λ (text : List ℕ). Took old new text) (sym (append-nil f.goes.written) ∙ f.goes.text) f.goes.took;
+    wrote = subst (λ (text : List ℕ). Took old.held new.held text) (sym (append-nil f.goes.written) ∙ f.goes.text) f.goes.took;
   }
 
 -- one byte more came than an input may have
-pub ends_too_long : (given more : List ℕ) (left : Option (List ℕ)) (reads_old reads_new writes_old writes_new : ℕ) (old new : Option (List ℕ)) (feed : Feed)
-    → length given ≡ most_input → length more ≡ 1 → IsFed feed given [] old new writes_old writes_new
-    → Ends status.TooLong (given ++ more) left reads_old reads_new writes_old writes_new old new
-ends_too_long given more left reads_old reads_new writes_old writes_new old new feed full one f =
+pub ends_too_long : (given more : List ℕ) (old new : SinkSeen) (feed : Feed) → length given ≡ most_input → length more ≡ 1
+    → IsFed feed given [] old.held new.held old.faults new.faults → EndsTooLong (given ++ more) old new
+ends_too_long given more old new feed full one f =
     let head : take most_input (given ++ more) ≡ given = ap (λ (n : ℕ). take n (given ++ more)) (sym full) ∙ take-append_seam given more in
     record {
       long = omega (arith, length-append given more, full, one);
       header = ap (λ (bytes : List ℕ). lacks_header is_no_script false (from_command (ended_lines_of bytes))) head ∙ stands_well feed.stage (ended_lines_of given) f.goes.stands;
-      wrote = subst (λ (text : List ℕ). Took old new text) (sym (append-nil f.goes.written) ∙ (f.goes.text ∙ ap (λ (bytes : List ℕ). transcript_of (ended_lines_of bytes)) (sym head))) f.goes.took;
+      wrote = subst (λ (text : List ℕ). Took old.held new.held text) (sym (append-nil f.goes.written) ∙ (f.goes.text ∙ ap (λ (bytes : List ℕ). transcript_of (ended_lines_of bytes)) (sym head))) f.goes.took;
     }
 
 -- ---- a good script
@@ -187,9 +186,9 @@ all_given given rest input left is parts ended =
     sym (parts ∙ (ap (λ (rest : List ℕ). given ++ rest) none ∙ append-nil given))
 
 -- where an input has a header, no part of it lacks one
-pub never_headless : (is_none_of : Option Header → Bool) (given rest input : List ℕ) (left old new : Option (List ℕ)) → left ≡ Some rest → input ≡ given ++ rest → length input ≤ most_input
-    → lacks_header is_none_of true (from_command (lines_of input)) ≡ false → EndsHeadless is_none_of given left old new → ⊥
-never_headless is_none_of given rest input left old new is parts short header h =
+pub never_headless : (is_none_of : Option Header → Bool) (given rest input : List ℕ) (source : SourceSeen) (old new : SinkSeen) → source.left ≡ Some rest → input ≡ given ++ rest → length input ≤ most_input
+    → lacks_header is_none_of true (from_command (lines_of input)) ≡ false → EndsHeadless is_none_of given source old new → ⊥
+never_headless is_none_of given rest input source old new is parts short header h =
     let few : length given ≤ most_input = omega (arith, short, ap length parts, length-append given rest) in
     elim h.lacks [
       | inl lacks ↦
@@ -197,39 +196,39 @@ never_headless is_none_of given rest input left old new is parts short header h 
           false≢true (sym header ∙ (ap (λ (lines : List (List ℕ)). lacks_header is_none_of true (from_command lines)) (ap lines_of parts ∙ begins.is)
           ∙ lacks_more is_none_of true (ended_lines_of given) begins.more (sym (headless_short is_none_of false given few) ∙ lacks)))
       | inr all ↦
-          false≢true (sym header ∙ (ap (λ (bytes : List ℕ). lacks_header is_none_of true (from_command (lines_of bytes))) (sym (all_given given rest input left is parts all.0))
+          false≢true (sym header ∙ (ap (λ (bytes : List ℕ). lacks_header is_none_of true (from_command (lines_of bytes))) (sym (all_given given rest input source.left is parts all.0))
           ∙ (sym (headless_short is_none_of true given few) ∙ all.2)))
     ]
 
-module _ (left_old left_new : Option (List ℕ)) (reads_old reads_new writes_old writes_new : ℕ) (old new : Option (List ℕ)) (input : List ℕ)
-    (tells : left_old ≡ Some input) (short : length input ≤ most_input) (header : lacks_header is_no_script true (from_command (lines_of input)) ≡ false)
-    (no_reads : reads_new ≡ reads_old) (no_writes : writes_new ≡ writes_old) where
-  completes_given : (s : Status) (given rest : List ℕ) → left_new ≡ Some rest → input ≡ given ++ rest → Ends s given left_new reads_old reads_new writes_old writes_new old new
-      → (s ≡ status.NoMemory) ⊎ ((s ≡ status.Fine) × Took old new (transcript input))
+module _ (source_old source_new : SourceSeen) (old new : SinkSeen) (input : List ℕ) (tells : source_old.left ≡ Some input)
+    (short : length input ≤ most_input) (header : lacks_header is_no_script true (from_command (lines_of input)) ≡ false)
+    (no_reads : source_new.faults ≡ source_old.faults) (no_writes : new.faults ≡ old.faults) where
+  completes_given : (s : Status) (given rest : List ℕ) → source_new.left ≡ Some rest → input ≡ given ++ rest → Ends s given source_old source_new old new
+      → (s ≡ status.NoMemory) ⊎ ((s ≡ status.Fine) × Took old.held new.held (transcript input))
   completes_given status.Fine given rest left parts h =
-      inr (refl, subst (λ (bytes : List ℕ). Took old new (transcript bytes)) (all_given given rest input left_new left parts h.ended) h.wrote)
-  completes_given status.BadHeader given rest left parts h = absurd (never_headless is_no_script given rest input left_new old new left parts short header h)
+      inr (refl, subst (λ (bytes : List ℕ). Took old.held new.held (transcript bytes)) (all_given given rest input source_new.left left parts h.ended) h.wrote)
+  completes_given status.BadHeader given rest left parts h = absurd (never_headless is_no_script given rest input source_new old new left parts short header h)
   completes_given status.TooLong given rest left parts h = absurd (omega (arith, short, h.long, ap length parts, length-append given rest))
   completes_given status.ReadFault given rest left parts h = absurd (omega (arith, h.fault, no_reads))
   completes_given status.WriteFault given rest left parts h = absurd (omega (arith, h.fault, no_writes))
   completes_given status.NoMemory given rest left parts h = inl refl
   completes_given status.BadWords given rest left parts h = absurd h
 
-  pub completes : (s : Status) → AnswersInput s left_old left_new reads_old reads_new writes_old writes_new old new → (s ≡ status.NoMemory) ⊎ ((s ≡ status.Fine) × Took old new (transcript input))
+  pub completes : (s : Status) → AnswersInput s source_old source_new old new → (s ≡ status.NoMemory) ⊎ ((s ≡ status.Fine) × Took old.held new.held (transcript input))
   completes s a =
-      let left = split_left a.given input left_new (sym tells ∙ a.gave) in
+      let left = split_left a.given input source_new.left (sym tells ∙ a.gave) in
       completes_given s a.given left.0 left.1 left.2 a.ends
 
 -- where all came and was answered, the whole transcript was written: fair replies, where no line offers bytes
-pub fine_is_fair : (s : Status) (left_old left_new : Option (List ℕ)) (reads_old reads_new writes_old writes_new : ℕ) (old new : Option (List ℕ)) (input : List ℕ) → left_old ≡ Some input
-    → AnswersInput s left_old left_new reads_old reads_new writes_old writes_new old new → is_unforged input ≡ true → s ≡ status.Fine → TookFair input old new
-fine_is_fair s left_old left_new reads_old reads_new writes_old writes_new old new input tells a plain fine =
-    let left = split_left a.given input left_new (sym tells ∙ a.gave) in
-    let ends : EndsFine a.given left_new old new = subst (λ x. Ends x a.given left_new reads_old reads_new writes_old writes_new old new) fine a.ends in
+pub fine_is_fair : (s : Status) (source_old source_new : SourceSeen) (old new : SinkSeen) (input : List ℕ) → source_old.left ≡ Some input
+    → AnswersInput s source_old source_new old new → is_unforged input ≡ true → s ≡ status.Fine → TookFair input old.held new.held
+fine_is_fair s source_old source_new old new input tells a plain fine =
+    let left = split_left a.given input source_new.left (sym tells ∙ a.gave) in
+    let ends : EndsFine a.given source_new old new = subst (λ x. Ends x a.given source_old source_new old new) fine a.ends in
     record {
       text = transcript input;
       fair = transcripts_are_fair input plain;
-      took = subst (λ (bytes : List ℕ). Took old new (transcript bytes)) (all_given a.given left.0 input left_new left.1 left.2 ends.ended) ends.wrote;
+      took = subst (λ (bytes : List ℕ). Took old.held new.held (transcript bytes)) (all_given a.given left.0 input source_new.left left.1 left.2 ends.ended) ends.wrote;
     }
 
 -- ---- a made script
@@ -242,18 +241,18 @@ summary_for (Some Live) = []
 summary_for None = []
 
 -- where no write failed the summary was written, or there was no memory
-completes_made : (s : Status) (text : List ℕ) (writes_old writes_new : ℕ) (old new : Option (List ℕ)) → AnswersMade s text writes_old writes_new old new
-    → writes_new ≡ writes_old → (s ≡ status.NoMemory) ⊎ ((s ≡ status.Fine) × Took old new text)
-completes_made status.Fine text writes_old writes_new old new h steady = inr (refl, h)
-completes_made status.WriteFault text writes_old writes_new old new h steady = absurd (omega (arith, h.0, steady))
-completes_made status.NoMemory text writes_old writes_new old new h steady = inl refl
-completes_made status.BadWords text writes_old writes_new old new h steady = absurd h
-completes_made status.BadHeader text writes_old writes_new old new h steady = absurd h
-completes_made status.TooLong text writes_old writes_new old new h steady = absurd h
-completes_made status.ReadFault text writes_old writes_new old new h steady = absurd h
+completes_made : (s : Status) (text : List ℕ) (old new : SinkSeen) → AnswersMade s text old new
+    → new.faults ≡ old.faults → (s ≡ status.NoMemory) ⊎ ((s ≡ status.Fine) × Took old.held new.held text)
+completes_made status.Fine text old new h steady = inr (refl, h)
+completes_made status.WriteFault text old new h steady = absurd (omega (arith, h.0, steady))
+completes_made status.NoMemory text old new h steady = inl refl
+completes_made status.BadWords text old new h steady = absurd h
+completes_made status.BadHeader text old new h steady = absurd h
+completes_made status.TooLong text old new h steady = absurd h
+completes_made status.ReadFault text old new h steady = absurd h
 
 -- the same of the summary that was asked for
-pub completes_asked : (s : Status) (asked given : Option Request) (writes_old writes_new : ℕ) (old new : Option (List ℕ)) → given ≡ asked
-    → AnswersMade s (summary_for given) writes_old writes_new old new → writes_new ≡ writes_old → (s ≡ status.NoMemory) ⊎ ((s ≡ status.Fine) × Took old new (summary_for asked))
-completes_asked s asked given writes_old writes_new old new is h steady =
-    completes_made s (summary_for asked) writes_old writes_new old new (subst (λ (r : Option Request). AnswersMade s (summary_for r) writes_old writes_new old new) is h) steady
+pub completes_asked : (s : Status) (asked given : Option Request) (old new : SinkSeen) → given ≡ asked
+    → AnswersMade s (summary_for given) old new → new.faults ≡ old.faults → (s ≡ status.NoMemory) ⊎ ((s ≡ status.Fine) × Took old.held new.held (summary_for asked))
+completes_asked s asked given old new is h steady =
+    completes_made s (summary_for asked) old new (subst (λ (r : Option Request). AnswersMade s (summary_for r) old new) is h) steady

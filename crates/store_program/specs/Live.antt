@@ -14,7 +14,7 @@ use Rattle.store_program.specs.declared.run.Status.{Status}
 use Rattle.store_program.specs.declared.run.Status.TheVariants.{Fine, BadWords, BadHeader, TooLong, ReadFault, WriteFault, NoMemory}
 use Rattle.store_program.specs.declared.words.Request.TheVariants as request
 use Rattle.store_program.specs.Words.{request_of}
-use Rattle.store_program.specs.Run.{most_input, is_no_live, is_headless, TookFront, EndsHeadless}
+use Rattle.store_program.specs.Run.{most_input, is_no_live, is_headless, TookFront, SourceSeen, SinkSeen, EndsHeadless}
 
 -- a line with its number, where it isn't passed over
 abbrev pub numbered : ℕ → LiveLine → List NumberedLine
@@ -54,52 +54,51 @@ pub record TookLive (input : List ℕ) (old new : Option (List ℕ)) : Type 0 wh
   pub right : IsLiveOutput input text
   pub took : Took old new text
 
--- the input ended, and a right text was written, or a front of one
-pub record EndsLive (given : List ℕ) (left : Option (List ℕ)) (old new : Option (List ℕ)) : Type 0 where
-  pub ended : Ended left
+-- the input ended, and a right text was written
+pub record EndsLive (given : List ℕ) (source : SourceSeen) (old new : SinkSeen) : Type 0 where
+  pub ended : Ended source.left
   pub short : length given ≤ most_input
-  pub wrote : TookLive given old new
+  pub wrote : TookLive given old.held new.held
 
 -- a write failed, and a front of a right text was written
-pub record EndsLiveUnwritten (given : List ℕ) (left : Option (List ℕ)) (faults_old faults_new : ℕ) (old new : Option (List ℕ)) : Type 0 where
-  pub fault : faults_old < faults_new
-  pub ended : Ended left
+pub record EndsLiveUnwritten (given : List ℕ) (source : SourceSeen) (old new : SinkSeen) : Type 0 where
+  pub fault : old.faults < new.faults
+  pub ended : Ended source.left
   pub short : length given ≤ most_input
   pub text : List ℕ
   pub right : IsLiveOutput given text
-  pub wrote : TookFront old new text
+  pub wrote : TookFront old.held new.held text
 
 -- one byte too many came, and nothing was written
-pub record EndsLiveTooLong (given : List ℕ) (old new : Option (List ℕ)) : Type 0 where
+pub record EndsLiveTooLong (given : List ℕ) (old new : SinkSeen) : Type 0 where
   pub long : length given ≡ most_input + 1
   pub header : is_headless is_no_live false given ≡ false
-  pub wrote : new ≡ old
+  pub wrote : new.held ≡ old.held
 
 -- a read failed, and nothing was written
-pub record EndsLiveBroken (given : List ℕ) (faults_old faults_new : ℕ) (old new : Option (List ℕ)) : Type 0 where
-  pub fault : faults_old < faults_new
+pub record EndsLiveBroken (given : List ℕ) (source_old source_new : SourceSeen) (old new : SinkSeen) : Type 0 where
+  pub fault : source_old.faults < source_new.faults
   pub short : length given ≤ most_input
   pub header : is_headless is_no_live false given ≡ false
-  pub wrote : new ≡ old
+  pub wrote : new.held ≡ old.held
 
--- What a status says of the bytes that the source gave and has left, and of what the sink held and holds. The text is whole
--- before its first byte is written.
-abbrev pub LiveEnds : Status → (given : List ℕ) (left : Option (List ℕ)) (reads_old reads_new writes_old writes_new : ℕ) (old new : Option (List ℕ)) → Type 0
-LiveEnds Fine given left reads_old reads_new writes_old writes_new old new = EndsLive given left old new
-LiveEnds BadWords given left reads_old reads_new writes_old writes_new old new = ⊥
-LiveEnds BadHeader given left reads_old reads_new writes_old writes_new old new = EndsHeadless is_no_live given left old new
-LiveEnds TooLong given left reads_old reads_new writes_old writes_new old new = EndsLiveTooLong given old new
-LiveEnds ReadFault given left reads_old reads_new writes_old writes_new old new = EndsLiveBroken given reads_old reads_new old new
-LiveEnds WriteFault given left reads_old reads_new writes_old writes_new old new = EndsLiveUnwritten given left writes_old writes_new old new
-LiveEnds NoMemory given left reads_old reads_new writes_old writes_new old new = new ≡ old
+-- What a status says of the bytes that the source gave, and of what is seen of source and sink before and after. The text is
+-- whole before its first byte is written.
+abbrev pub LiveEnds : Status → (given : List ℕ) (source_old source_new : SourceSeen) (old new : SinkSeen) → Type 0
+LiveEnds Fine given source_old source_new old new = EndsLive given source_new old new
+LiveEnds BadWords given source_old source_new old new = ⊥
+LiveEnds BadHeader given source_old source_new old new = EndsHeadless is_no_live given source_new old new
+LiveEnds TooLong given source_old source_new old new = EndsLiveTooLong given old new
+LiveEnds ReadFault given source_old source_new old new = EndsLiveBroken given source_old source_new old new
+LiveEnds WriteFault given source_old source_new old new = EndsLiveUnwritten given source_new old new
+LiveEnds NoMemory given source_old source_new old new = new.held ≡ old.held
 
--- The source gave these bytes in a call, at most one more than an input may have, and they are answered. The counts are
--- those of the faults of source and sink before and after.
-pub record AnswersLive (result : Status) (left_old left_new : Option (List ℕ)) (reads_old reads_new writes_old writes_new : ℕ) (held_old held_new : Option (List ℕ)) : Type 0 where
+-- the source gave these bytes in a call, at most one more than an input may have, and they are answered
+pub record AnswersLive (result : Status) (source_old source_new : SourceSeen) (old new : SinkSeen) : Type 0 where
   pub given : List ℕ
-  pub gave : Gave left_old left_new given
+  pub gave : Gave source_old.left source_new.left given
   pub few : length given ≤ most_input + 1
-  pub ends : LiveEnds result given left_new reads_old reads_new writes_old writes_new held_old held_new
+  pub ends : LiveEnds result given source_old source_new old new
 
 -- words and an input that ask for a live run: a header, and no byte too many
 pub record IsGoodLive (words : List (List ℕ)) (input : List ℕ) : Type 0 where

@@ -15,7 +15,7 @@ use Rattle.store_program.specs.declared.live_feed.LiveFeed.{LiveFeed}
 use Rattle.store_program.specs.declared.live_feed.LiveInput.{LiveInput}
 use Rattle.store_program.specs.declared.live_feed.LiveStage.{LiveStage}
 use Rattle.store_program.specs.declared.live_feed.LiveStage.TheVariants.{Opening, Behind}
-use Rattle.store_program.specs.Run.{most_input}
+use Rattle.store_program.specs.Run.{most_input, SourceSeen, SinkSeen}
 use Rattle.store_program.specs.Live.{AsksFor, AnswersLive}
 
 -- what lines ask for is this, with numbers in range and of no other clients and members
@@ -47,15 +47,14 @@ pub record IsTaken (feed : LiveFeed) (text rest : List ℕ) : Type 0 where
   pub stands : LiveStandsAt feed.stage done
 
 -- the source gave a live input in a call, and it is this
-pub record IsLiveInput (input : LiveInput) (left_old left_new : Option (List ℕ)) : Type 0 where
+pub record IsLiveInput (input : LiveInput) (source_old source_new : SourceSeen) : Type 0 where
   pub given : List ℕ
-  pub gave : Gave left_old left_new given
-  pub ended : Ended left_new
+  pub gave : Gave source_old.left source_new.left given
+  pub ended : Ended source_new.left
   pub short : length given ≤ most_input
   pub asked : IsAsked input (lines_of given)
 
 -- a live input was read, or the status says why not, of a sink to which nothing was written
-abbrev pub IsReadOr : Result LiveInput Status → (left_old left_new : Option (List ℕ)) (reads_old reads_new : ℕ) → Type 0
-IsReadOr (Ok input) left_old left_new reads_old reads_new = IsLiveInput input left_old left_new
-IsReadOr (Err status) left_old left_new reads_old reads_new =
-    (writes : ℕ) (held : Option (List ℕ)) → AnswersLive status left_old left_new reads_old reads_new writes writes held held
+abbrev pub IsReadOr : Result LiveInput Status → (source_old source_new : SourceSeen) → Type 0
+IsReadOr (Ok input) source_old source_new = IsLiveInput input source_old source_new
+IsReadOr (Err status) source_old source_new = (sink : SinkSeen) → AnswersLive status source_old source_new sink sink

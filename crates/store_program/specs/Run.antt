@@ -35,54 +35,69 @@ pub record TookFront (old new : Option (List ℕ)) (text : List ℕ) : Type 0 wh
   pub parts : front ++ behind ≡ text
   pub took : Took old new front
 
+-- what is seen of a source: the bytes that it has left, where it tells them, and how many of its reads failed
+pub record SourceSeen : Type 0 where
+  pub left : Option (List ℕ)
+  pub faults : ℕ
+
+abbrev pub source_seen : (left : Option (List ℕ)) (faults : ℕ) → SourceSeen
+source_seen left faults = record { left = left; faults = faults }
+
+-- what is seen of a sink: the bytes that it holds, where it tells them, and how many of its writes failed
+pub record SinkSeen : Type 0 where
+  pub held : Option (List ℕ)
+  pub faults : ℕ
+
+abbrev pub sink_seen : (held : Option (List ℕ)) (faults : ℕ) → SinkSeen
+sink_seen held faults = record { held = held; faults = faults }
+
 -- the input ended, it begins with a header, and its transcript was written
-pub record EndsFine (given : List ℕ) (left : Option (List ℕ)) (old new : Option (List ℕ)) : Type 0 where
-  pub ended : Ended left
+pub record EndsFine (given : List ℕ) (source : SourceSeen) (old new : SinkSeen) : Type 0 where
+  pub ended : Ended source.left
   pub short : length given ≤ most_input
   pub header : is_headless is_no_script true given ≡ false
-  pub wrote : Took old new (transcript given)
+  pub wrote : Took old.held new.held (transcript given)
 
 -- nothing was written: the lines that have ended lack a header, or all do and the input has ended
-pub record EndsHeadless (is_none_of : Option Header → Bool) (given : List ℕ) (left : Option (List ℕ)) (old new : Option (List ℕ)) : Type 0 where
-  pub lacks : (is_headless is_none_of false given ≡ true) ⊎ (Ended left × (length given ≤ most_input) × (is_headless is_none_of true given ≡ true))
-  pub wrote : new ≡ old
+pub record EndsHeadless (is_none_of : Option Header → Bool) (given : List ℕ) (source : SourceSeen) (old new : SinkSeen) : Type 0 where
+  pub lacks : (is_headless is_none_of false given ≡ true) ⊎ (Ended source.left × (length given ≤ most_input) × (is_headless is_none_of true given ≡ true))
+  pub wrote : new.held ≡ old.held
 
 -- one byte too many came, and the replies to the lines that ended before it were written
-pub record EndsTooLong (given : List ℕ) (old new : Option (List ℕ)) : Type 0 where
+pub record EndsTooLong (given : List ℕ) (old new : SinkSeen) : Type 0 where
   pub long : length given ≡ most_input + 1
   pub header : is_headless is_no_script false given ≡ false
-  pub wrote : Took old new (transcript_of (ended_lines_of (take most_input given)))
+  pub wrote : Took old.held new.held (transcript_of (ended_lines_of (take most_input given)))
 
 -- a read failed, and the replies to the lines that ended before it were written
-pub record EndsBroken (given : List ℕ) (faults_old faults_new : ℕ) (old new : Option (List ℕ)) : Type 0 where
-  pub fault : faults_old < faults_new
+pub record EndsBroken (given : List ℕ) (source_old source_new : SourceSeen) (old new : SinkSeen) : Type 0 where
+  pub fault : source_old.faults < source_new.faults
   pub short : length given ≤ most_input
   pub header : is_headless is_no_script false given ≡ false
-  pub wrote : Took old new (transcript_of (ended_lines_of given))
+  pub wrote : Took old.held new.held (transcript_of (ended_lines_of given))
 
 -- a write failed, and a front of the transcript was written
-pub record EndsUnwritten (given : List ℕ) (faults_old faults_new : ℕ) (old new : Option (List ℕ)) : Type 0 where
-  pub fault : faults_old < faults_new
+pub record EndsUnwritten (given : List ℕ) (old new : SinkSeen) : Type 0 where
+  pub fault : old.faults < new.faults
   pub header : is_headless is_no_script false given ≡ false
-  pub wrote : TookFront old new (transcript (take most_input given))
+  pub wrote : TookFront old.held new.held (transcript (take most_input given))
 
--- what a status says of the bytes that the source gave and has left, and of what the sink held and holds
-abbrev pub Ends : Status → (given : List ℕ) (left : Option (List ℕ)) (reads_old reads_new writes_old writes_new : ℕ) (old new : Option (List ℕ)) → Type 0
-Ends Fine given left reads_old reads_new writes_old writes_new old new = EndsFine given left old new
-Ends BadWords given left reads_old reads_new writes_old writes_new old new = ⊥
-Ends BadHeader given left reads_old reads_new writes_old writes_new old new = EndsHeadless is_no_script given left old new
-Ends TooLong given left reads_old reads_new writes_old writes_new old new = EndsTooLong given old new
-Ends ReadFault given left reads_old reads_new writes_old writes_new old new = EndsBroken given reads_old reads_new old new
-Ends WriteFault given left reads_old reads_new writes_old writes_new old new = EndsUnwritten given writes_old writes_new old new
-Ends NoMemory given left reads_old reads_new writes_old writes_new old new = TookFront old new (transcript (take most_input given))
+-- what a status says of the bytes that the source gave, and of what is seen of source and sink before and after
+abbrev pub Ends : Status → (given : List ℕ) (source_old source_new : SourceSeen) (old new : SinkSeen) → Type 0
+Ends Fine given source_old source_new old new = EndsFine given source_new old new
+Ends BadWords given source_old source_new old new = ⊥
+Ends BadHeader given source_old source_new old new = EndsHeadless is_no_script given source_new old new
+Ends TooLong given source_old source_new old new = EndsTooLong given old new
+Ends ReadFault given source_old source_new old new = EndsBroken given source_old source_new old new
+Ends WriteFault given source_old source_new old new = EndsUnwritten given old new
+Ends NoMemory given source_old source_new old new = TookFront old.held new.held (transcript (take most_input given))
 
--- The source gave these bytes in a call, at most one more than an input may have, and they are answered. The counts are
--- those of the faults of source and sink before and after.
-pub record AnswersInput (result : Status) (left_old left_new : Option (List ℕ)) (reads_old reads_new writes_old writes_new : ℕ) (held_old held_new : Option (List ℕ)) : Type 0 where
+-- the source gave these bytes in a call, at most one more than an input may have, and they are answered
+pub record AnswersInput (result : Status) (source_old source_new : SourceSeen) (old new : SinkSeen) : Type 0 where
   pub given : List ℕ
-  pub gave : Gave left_old left_new given
+  pub gave : Gave source_old.left source_new.left given
   pub few : length given ≤ most_input + 1
-  pub ends : Ends result given left_new reads_old reads_new writes_old writes_new held_old held_new
+  pub ends : Ends result given source_old source_new old new
 
 -- words and an input that ask for a run: a header, and no byte too many
 pub record IsGoodScript (words : List (List ℕ)) (input : List ℕ) : Type 0 where
@@ -104,8 +119,8 @@ made_summary seed count n w = summary (made_script seed count n w) (transcript (
 
 -- What a status says of a made script's summary: all of it was written, or a front where a write failed, or nothing where
 -- memory ran out. No other status comes.
-abbrev pub AnswersMade : Status → (text : List ℕ) (writes_old writes_new : ℕ) (old new : Option (List ℕ)) → Type 0
-AnswersMade Fine text writes_old writes_new old new = Took old new text
-AnswersMade WriteFault text writes_old writes_new old new = (writes_old < writes_new) × TookFront old new text
-AnswersMade NoMemory text writes_old writes_new old new = new ≡ old
-AnswersMade other text writes_old writes_new old new = ⊥
+abbrev pub AnswersMade : Status → (text : List ℕ) (old new : SinkSeen) → Type 0
+AnswersMade Fine text old new = Took old.held new.held text
+AnswersMade WriteFault text old new = (old.faults < new.faults) × TookFront old.held new.held text
+AnswersMade NoMemory text old new = new.held ≡ old.held
+AnswersMade other text old new = ⊥

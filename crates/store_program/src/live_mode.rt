@@ -3,7 +3,7 @@
 ghost use Rattle.std.specs.Prelude.{◌≡◌, ◌++◌, ◌+◌, ◌≤◌, [], List, ℕ, true, false, length, MatchResult};
 ghost use Rattle.script_net.specs.Lines.{ended_lines_of, lines_of, from_command};
 ghost use Rattle.script_net.specs.Transcript.{lacks_header};
-ghost use Rattle.store_program.specs.Run.{most_input, is_no_live};
+ghost use Rattle.store_program.specs.Run.{source_seen, sink_seen, most_input, is_no_live};
 ghost use Rattle.store_program.specs.Live.{AnswersLive};
 ghost use Rattle.store_program.specs.LiveFeeding.{IsTaken, IsAsked, IsReadOr, status_of_stop};
 
@@ -67,7 +67,7 @@ fn finish(alloc: Global, feed: LiveFeed) -> Result<LiveInput, Stop>
 
 /// Reads a live input, each line once it has come.
 fn read_input<S: Source>(alloc: Global, source: &mut S) -> Result<LiveInput, Status>
-    ensures { IsReadOr result (S.left source.old) (S.left source.new) (S.faults source.old) (S.faults source.new) }
+    ensures { IsReadOr result (source_seen (S.left source.old) (S.faults source.old)) (source_seen (S.left source.new) (S.faults source.new)) }
 {
     let mut buffer = [0; MOST_PIECE];
     let mut feed = LiveFeed::new(alloc);
@@ -102,7 +102,7 @@ pub fn run_live<R: Threads + Wait + Sync, S: Source, K: Sink, G: Gate + Sync>(
     sink: &mut K,
     gate: &G,
 ) -> Status
-    ensures { AnswersLive result (S.left source.old) (S.left source.new) (S.faults source.old) (S.faults source.new) (K.faults sink.old) (K.faults sink.new) (K.held sink.old) (K.held sink.new) }
+    ensures { AnswersLive result (source_seen (S.left source.old) (S.faults source.old)) (source_seen (S.left source.new) (S.faults source.new)) (sink_seen (K.held sink.old) (K.faults sink.old)) (sink_seen (K.held sink.new) (K.faults sink.new)) }
 {
     let input = match read_input(alloc, source) {
         Ok(input) => input,

@@ -1,7 +1,7 @@
 //! A script that is made, run, and summed up.
 
 ghost use Rattle.std.specs.Prelude.{◌≡◌, ◌≤◌, IfOk};
-ghost use Rattle.store_program.specs.Run.{AnswersMade, made_summary};
+ghost use Rattle.store_program.specs.Run.{sink_seen, AnswersMade, made_summary};
 
 use crate::run::Status;
 use op_base::{NoMemory, Text};
@@ -25,7 +25,7 @@ fn made_summary(alloc: Global, seed: u32, count: u32, n: u8, w: u8) -> Result<Te
 /// Makes a script, runs it, and writes its summary, which is whole before its first byte is written.
 pub fn run_made<K: Sink>(alloc: Global, seed: u32, count: u32, n: u8, w: u8, sink: &mut K) -> Status
     requires { 1 ≤ n }
-    ensures { AnswersMade result (made_summary seed count n w) (K.faults sink.old) (K.faults sink.new) (K.held sink.old) (K.held sink.new) }
+    ensures { AnswersMade result (made_summary seed count n w) (sink_seen (K.held sink.old) (K.faults sink.old)) (sink_seen (K.held sink.new) (K.faults sink.new)) }
 {
     let Ok(summary) = made_summary(alloc, seed, count, n, w) else {
         return Status::NoMemory;

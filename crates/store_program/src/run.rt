@@ -9,7 +9,7 @@ ghost use Rattle.script_net.specs.Honest.{is_unforged};
 ghost use Rattle.script_net.specs.Lines.{ended_lines_of};
 ghost use Rattle.script_net.specs.Transcript.{transcript};
 ghost use Rattle.store_program.specs.Feeding.{GoesOn, StopsAs, IsFed, Concludes};
-ghost use Rattle.store_program.specs.Run.{AnswersInput, AnswersMade, IsGoodScript, TookFront, TookFair, made_summary};
+ghost use Rattle.store_program.specs.Run.{source_seen, sink_seen, AnswersInput, AnswersMade, IsGoodScript, TookFront, TookFair, made_summary};
 ghost use Rattle.store_program.specs.Live.{AnswersLive, IsGoodLive, TookLive};
 ghost use Rattle.store_program.specs.Statuses.{number_of_status};
 ghost use Rattle.store_program.specs.Words.{request_of};
@@ -165,7 +165,7 @@ fn finish<K: Sink>(alloc: Global, feed: &mut Feed, out: &mut Text, sink: &mut K)
 
 /// Reads the input, and runs each line once it has come.
 fn run_input<S: Source, K: Sink>(alloc: Global, source: &mut S, sink: &mut K) -> Status
-    ensures { AnswersInput result (S.left source.old) (S.left source.new) (S.faults source.old) (S.faults source.new) (K.faults sink.old) (K.faults sink.new) (K.held sink.old) (K.held sink.new) }
+    ensures { AnswersInput result (source_seen (S.left source.old) (S.faults source.old)) (source_seen (S.left source.new) (S.faults source.new)) (sink_seen (K.held sink.old) (K.faults sink.old)) (sink_seen (K.held sink.new) (K.faults sink.new)) }
 {
     let mut buffer = [0; MOST_PIECE];
     let mut feed = Feed::new(alloc);
@@ -218,7 +218,7 @@ pub fn run<R: Threads + Wait + Sync, S: Source, K: Sink, G: Gate + Sync>(
 
     // A script: what is read, answered and written, of the bytes that the source gave in the call.
     ensures answers { request_of (map string_bytes words.now) ≡ Some Request.Script
-        → AnswersInput result (S.left source.old) (S.left source.new) (S.faults source.old) (S.faults source.new) (K.faults sink.old) (K.faults sink.new) (K.held sink.old) (K.held sink.new) }
+        → AnswersInput result (source_seen (S.left source.old) (S.faults source.old)) (source_seen (S.left source.new) (S.faults source.new)) (sink_seen (K.held sink.old) (K.faults sink.old)) (sink_seen (K.held sink.new) (K.faults sink.new)) }
 
     // Where no line of it offers bytes, no reply tells of a message that is far or dropped, of a beat that is held or, but for
     // a change of members, of a store that didn't settle.
@@ -227,11 +227,11 @@ pub fn run<R: Threads + Wait + Sync, S: Source, K: Sink, G: Gate + Sync>(
 
     // A live input: the same, of a text that is right for it.
     ensures answers_live { request_of (map string_bytes words.now) ≡ Some Request.Live
-        → AnswersLive result (S.left source.old) (S.left source.new) (S.faults source.old) (S.faults source.new) (K.faults sink.old) (K.faults sink.new) (K.held sink.old) (K.held sink.new) }
+        → AnswersLive result (source_seen (S.left source.old) (S.faults source.old)) (source_seen (S.left source.new) (S.faults source.new)) (sink_seen (K.held sink.old) (K.faults sink.old)) (sink_seen (K.held sink.new) (K.faults sink.new)) }
 
     // A made script: what is written is its summary.
     ensures makes { (seed count n w : ℕ) → request_of (map string_bytes words.now) ≡ Some (Request.Make seed count n w)
-        → AnswersMade result (made_summary seed count n w) (K.faults sink.old) (K.faults sink.new) (K.held sink.old) (K.held sink.new) }
+        → AnswersMade result (made_summary seed count n w) (sink_seen (K.held sink.old) (K.faults sink.old)) (sink_seen (K.held sink.new) (K.faults sink.new)) }
 
     // A fault is told only where one happened in the call.
     ensures read_fault { result ≡ Status.ReadFault → S.faults source.old < S.faults source.new }

@@ -15,7 +15,7 @@ returns-in_default g c =
       given = inv.given;
       gave = subst (λ left. Gave (g.S.Source.left c.args.source.now) left inv.given) (sym c.in_default.ensures.kept) inv.gave;
       few = omega (arith, inv.few);
-      ends = ends_broken inv.given (g.S.Source.left c.read.new.self) _ _ _ _ _ _ inv.few c.reading.feed inv.fed (omega (arith, inv.steady, c.in_default.ensures.fault));
+      ends = ends_broken inv.given _ _ _ _ inv.few c.reading.feed inv.fed (omega (arith, inv.steady, c.in_default.ensures.fault));
     }
 
 pub returns-then-taken-eq0 : goal.returns-then-taken-eq0
@@ -25,7 +25,7 @@ returns-then-taken-eq0 g c =
       given = inv.given;
       gave = gave_end _ _ _ inv.given c.read.new.buf c.in-Ok.taken c.if-taken-eq0.true inv.gave c.in-Ok.ensures.moved;
       few = omega (arith, inv.few);
-      ends = ends_concluded inv.given _ _ _ _ _ _ _ inv.few c.finish.result (c.in-Ok.ensures.end c.if-taken-eq0.true)
+      ends = ends_concluded inv.given _ _ _ _ inv.few c.finish.result (c.in-Ok.ensures.end c.if-taken-eq0.true)
           (c.finish.ensures inv.given _ _ (fed_with _ inv.given _ _ _ _ _ inv.empty inv.fed));
     }
 
@@ -39,7 +39,7 @@ returns-then-count-eq-MOST_INPUT g c =
       given = inv.given ++ bytes;
       gave = gave_both _ _ _ inv.given bytes inv.gave c.in-Ok.ensures.moved;
       few = omega (arith, full, one, length-append inv.given bytes);
-      ends = ends_too_long inv.given bytes (g.S.Source.left c.read.new.self) (g.S.Source.faults c.args.source.now) (g.S.Source.faults c.read.new.self) _ _ _ _ c.reading.feed full one inv.fed;
+      ends = ends_too_long inv.given bytes _ _ c.reading.feed full one inv.fed;
     }
 
 pub returns-in-Err : goal.returns-in-Err
@@ -55,7 +55,7 @@ returns-in-Err g c =
       given = inv.given ++ bytes;
       gave = gave_both _ _ _ inv.given bytes inv.gave c.in-Ok.ensures.moved;
       few = omega (arith, short);
-      ends = ends_stopped (inv.given ++ bytes) _ _ _ _ _ _ _ short c.in-Err.status
+      ends = ends_stopped (inv.given ++ bytes) _ _ _ _ short c.in-Err.status
           (subst (λ (bytes : List ℕ). StopsAs c.in-Err.status (ended_lines_of (inv.given ++ bytes)) (g.K.Sink.held c.args.sink.now) (g.K.Sink.held c.run_piece.new.sink) (g.K.Sink.faults c.args.sink.now) (g.K.Sink.faults c.run_piece.new.sink)) same
           (c.in-Err.ensures.fed inv.given _ _ (fed_with _ inv.given _ _ _ _ _ inv.empty inv.fed)));
     }
