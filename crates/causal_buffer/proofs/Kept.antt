@@ -16,8 +16,8 @@ use Rattle.causal_model.specs.Counts.{is_deliverable}
 use Rattle.causal_model.specs.Stability.{noop_window}
 use Rattle.causal_model.specs.Receiving.{is_far}
 use Rattle.causal_model.specs.Early.{is_again, stands_before, put_early, has_id, without}
-use Rattle.causal_model.proofs.Early.{All-put_early, IsNear-from_test, IsDeliverable-from_test}
-use Rattle.causal_model.proofs.Finds.{none_found}
+use Rattle.causal_model.proofs.States.Early.{All-put_early, IsNear-from_test, IsDeliverable-from_test}
+use Rattle.causal_model.proofs.Theory.Finds.{none_found}
 use Rattle.causal_buffer.specs.Buffer.{AreAhead, AreNear, IsNextId}
 use Rattle.causal_buffer.specs.declared.queue.Queue.{Queue}
 use Rattle.causal_buffer.specs.Queue.{messages, IsQueue, AreWithin, IsKept, AreKept, AreQueues, is_ready}

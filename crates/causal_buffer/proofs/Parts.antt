@@ -8,8 +8,8 @@ use Rattle.std.proofs.lemmas.List.Concat.{flat_map-append}
 use Rattle.std.proofs.lemmas.List.Elements.{All-nil, All-cons, All-head, All-tail, All-append, All-weaker, filter-append}
 use Rattle.op_base.specs.declared.message.Message.{Message}
 use Rattle.causal_model.specs.Early.{stands_before, put_early}
-use Rattle.causal_model.proofs.Finds.{none_found, none_passes}
-use Rattle.causal_model.proofs.ItemMaps.{filter_all_of}
+use Rattle.causal_model.proofs.Theory.Finds.{none_found, none_passes}
+use Rattle.causal_model.proofs.Cells.ItemMaps.{filter_all_of}
 
 module _ {X : Type 0} (P : X → Type 0) where
   pub All-left : (xs ys : List X) → All P (xs ++ ys) → All P xs

@@ -11,7 +11,7 @@ use Rattle.op_base.specs.Message.{number, id_of}
 use Rattle.op_base.specs.declared.message.Message.{Message}
 use Rattle.op_base.specs.declared.tag.MessageId.{MessageId}
 use Rattle.causal_model.specs.Early.{stands_before, put_early, has_id, without}
-use Rattle.causal_model.proofs.Finds.{none_found}
+use Rattle.causal_model.proofs.Theory.Finds.{none_found}
 use Rattle.causal_buffer.specs.Queue.{standing, ArePlaces}
 use Rattle.causal_buffer.proofs.Parts.{all_stay, All-flat, All-part, IsPartFor, put_flat, FailElsewhere, find_flat, without_flat, none_flat}
 

@@ -13,13 +13,13 @@ use Rattle.causal_model.specs.Receiving.{is_old, is_far, next_early, next_of}
 use Rattle.causal_model.specs.State.{State, counted, with_own}
 use Rattle.causal_model.specs.Early.{is_again, put_early, has_id, without}
 use Rattle.causal_model.specs.States.{IsState}
-use Rattle.causal_model.proofs.Counts.{length-counts}
-use Rattle.causal_model.proofs.Early.{StandsBefore, standing, IsNew-from_test, IsNear-from_test, fits_member}
-use Rattle.causal_model.proofs.Finds.{found}
-use Rattle.causal_model.proofs.Histories.{IsHistory-from_test}
-use Rattle.causal_model.proofs.Risings.{found_alike}
-use Rattle.causal_model.proofs.States.{accept_keeps_state, step_keeps_state, own_keeps_state, own_makes_none_deliverable}
-use Rattle.causal_model.proofs.Steps.{has_own_id}
+use Rattle.causal_model.proofs.Delivery.Counts.{length-counts}
+use Rattle.causal_model.proofs.States.Early.{StandsBefore, standing, IsNew-from_test, IsNear-from_test, fits_member}
+use Rattle.causal_model.proofs.Theory.Finds.{found}
+use Rattle.causal_model.proofs.Events.Histories.{IsHistory-from_test}
+use Rattle.causal_model.proofs.Theory.Risings.{found_alike}
+use Rattle.causal_model.proofs.States.States.{accept_keeps_state, step_keeps_state, own_keeps_state, own_makes_none_deliverable}
+use Rattle.causal_model.proofs.States.Steps.{has_own_id}
 use Rattle.causal_buffer.specs.Buffer.{Buffer, with_messages, AreAhead, AreNear}
 use Rattle.causal_buffer.specs.Standing.{IsBufferOf, KeepsEarly, KeepKeepsState, IsNextInState, TakesNext, KeepsStep, OwnKeepsBuffer, MemberIsInStore, CountsAreOfStore, EarlyAreAhead, EarlyAreNear, NextIdIsOfMessage, NextIsOfMember}
 use Rattle.causal_buffer.proofs.Kept.{not_of_member}

@@ -19,10 +19,10 @@ use Rattle.causal_model.specs.Parts.{ArePartsOf}
 use Rattle.causal_model.specs.Query.{total_of, counter_sum, answer_as, answer}
 use Rattle.causal_model.specs.Acts.{share_of}
 use Rattle.causal_model.specs.Settled.{is_settled, object_cell}
-use Rattle.causal_model.proofs.EventsOfOneMore.{filter_all}
-use Rattle.causal_model.proofs.ObjectParts.{sum_from_parts}
-use Rattle.causal_model.proofs.Sums.{between, sum_is_small}
-use Rattle.causal_model.proofs.Totals.{sum_of, sum_of-map}
+use Rattle.causal_model.proofs.Events.EventsOfOneMore.{filter_all}
+use Rattle.causal_model.proofs.Answers.ObjectParts.{sum_from_parts}
+use Rattle.causal_model.proofs.Cells.Sums.{between, sum_is_small}
+use Rattle.causal_model.proofs.Theory.Totals.{sum_of, sum_of-map}
 use Rattle.counter_types.specs.Asked.{has_sum}
 use Rattle.counter_types.specs.Laws.{SettledSumsAreInRange}
 

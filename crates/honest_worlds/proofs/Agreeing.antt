@@ -11,21 +11,21 @@ use Rattle.op_base.specs.declared.message.Message.{Message}
 use Rattle.causal_model.specs.Chapter.{is_chapter}
 use Rattle.causal_model.specs.Counts.{count_of, counts}
 use Rattle.causal_model.specs.Stability.{last_tag, known_vector, stable_count, stable_vector, is_stable, carries_operation, unstable_of, unstable_operations, unstable_noops, noop_window}
-use Rattle.causal_model.proofs.Chapters.{IsNext, chapter_induction}
-use Rattle.causal_model.proofs.Counts.{entry-counts, count_of-push_own, count_of-push_other, count_of_grows, entry-next_tag_other}
-use Rattle.causal_model.proofs.Crooks.{IsStraight}
-use Rattle.causal_model.proofs.Early.{IsDeliverable}
-use Rattle.causal_model.proofs.Limits.{numbers_are_counted}
-use Rattle.causal_model.proofs.Finds.{Contains-cons}
-use Rattle.causal_model.proofs.Lists.{induction_at_end, filter-filter, count_by-le-count_by}
+use Rattle.causal_model.proofs.Delivery.Chapters.{IsNext, chapter_induction}
+use Rattle.causal_model.proofs.Delivery.Counts.{entry-counts, count_of-push_own, count_of-push_other, count_of_grows, entry-next_tag_other}
+use Rattle.causal_model.proofs.Delivery.Crooks.{IsStraight}
+use Rattle.causal_model.proofs.States.Early.{IsDeliverable}
+use Rattle.causal_model.proofs.Delivery.Limits.{numbers_are_counted}
+use Rattle.causal_model.proofs.Theory.Finds.{Contains-cons}
+use Rattle.causal_model.proofs.Theory.Lists.{induction_at_end, filter-filter, count_by-le-count_by}
 use Rattle.world_model.proofs.Messages.{AreNumbered, own_are_numbered}
 use mathlib.Core.Bool.{and_assoc}
-use Rattle.causal_model.proofs.Orders.{each_fits, last_tag_is_last}
-use Rattle.causal_model.proofs.Settling.{last_is_next}
-use Rattle.causal_model.proofs.Stability.{entry-stable, last_tag-push}
-use Rattle.causal_model.proofs.Timestamps.{tags_are_counted, entry-zero_tag, next_tag_has_counts}
-use Rattle.causal_model.proofs.Unclosed.{tag_of_has_numbered}
-use Rattle.causal_model.proofs.Windows.{unstable-count, windows_hold}
+use Rattle.causal_model.proofs.Delivery.Orders.{each_fits, last_tag_is_last}
+use Rattle.causal_model.proofs.Delivery.Settling.{last_is_next}
+use Rattle.causal_model.proofs.Delivery.Stability.{entry-stable, last_tag-push}
+use Rattle.causal_model.proofs.Delivery.Timestamps.{tags_are_counted, entry-zero_tag, next_tag_has_counts}
+use Rattle.causal_model.proofs.Delivery.Unclosed.{tag_of_has_numbered}
+use Rattle.causal_model.proofs.Delivery.Windows.{unstable-count, windows_hold}
 use Rattle.honest_worlds.proofs.Lists.{minimum-range-le}
 
 -- ---- messages by their numbers

@@ -15,11 +15,11 @@ use Rattle.causal_model.specs.Order.{happened_before}
 use Rattle.causal_model.specs.Settled.{is_stable_event}
 use Rattle.causal_model.specs.Stability.{last_tag, stable_vector, is_stable}
 use Rattle.causal_model.specs.State.{start}
-use Rattle.causal_model.proofs.Chapters.{is_chapter-push}
-use Rattle.causal_model.proofs.Events.{event_of, before_within, earlier_is_before}
-use Rattle.causal_model.proofs.Lists.{induction_at_end}
-use Rattle.causal_model.proofs.Settling.{next_is_after_stable, stable_stays_stable, stable_count-le-known}
-use Rattle.causal_model.proofs.Stability.{entry-stable}
+use Rattle.causal_model.proofs.Delivery.Chapters.{is_chapter-push}
+use Rattle.causal_model.proofs.Events.Events.{event_of, before_within, earlier_is_before}
+use Rattle.causal_model.proofs.Theory.Lists.{induction_at_end}
+use Rattle.causal_model.proofs.Delivery.Settling.{next_is_after_stable, stable_stays_stable, stable_count-le-known}
+use Rattle.causal_model.proofs.Delivery.Stability.{entry-stable}
 use Rattle.world_model.specs.Regrouping.{next_world}
 use Rattle.world_model.specs.World.{PlainWorld, size_of, epoch_in, replica_of}
 use Rattle.world_model.specs.Worlds.{IsWorld, KeepsWorld}
@@ -37,7 +37,7 @@ use Rattle.honest_worlds.proofs.Growing.{GrowsAt, grows_not, sending_grows, beat
 use Rattle.world_model.specs.Commands.{WorldCommand, CanRun, after_command, CanRunAll}
 use Rattle.world_model.specs.CausallyStable.{delivered_in, newly_delivered}
 use Rattle.honest_worlds.specs.Laws.{StableIsCausallyStable, StableIsEverywhere}
-use Rattle.causal_model.proofs.Orders.{each_fits}
+use Rattle.causal_model.proofs.Delivery.Orders.{each_fits}
 use Rattle.world_model.specs.Commands as world_command
 
 -- ---- what a command makes of a world

@@ -21,12 +21,12 @@ use Rattle.causal_model.specs.Sending.{KeepsRule}
 use Rattle.causal_model.specs.States.{IsState}
 use Rattle.causal_model.specs.declared.note.Note.{Note}
 use Rattle.causal_model.specs.declared.note.Note.TheVariants.{Sent, Kept, Took, Crook, Regroup}
-use Rattle.causal_model.proofs.Early.{All-put_early, IsNew-from_test, fits_member}
-use Rattle.causal_model.proofs.Finds.{found}
-use Rattle.causal_model.proofs.Journals.{accepting_replays}
-use Rattle.causal_model.proofs.Outcomes.{unrefused, steps_of_accepted}
-use Rattle.causal_model.proofs.States.{start_is_state, step_keeps_state, accept_keeps_state}
-use Rattle.causal_model.proofs.Steps.{steps_by}
+use Rattle.causal_model.proofs.States.Early.{All-put_early, IsNew-from_test, fits_member}
+use Rattle.causal_model.proofs.Theory.Finds.{found}
+use Rattle.causal_model.proofs.States.Journals.{accepting_replays}
+use Rattle.causal_model.proofs.States.Outcomes.{unrefused, steps_of_accepted}
+use Rattle.causal_model.proofs.States.States.{start_is_state, step_keeps_state, accept_keeps_state}
+use Rattle.causal_model.proofs.States.Steps.{steps_by}
 use Rattle.world_model.specs.Honest.{IsSentMessage, IsHonest}
 use Rattle.world_model.specs.Journals.{journal_of, world_of_journals, ends_epoch, is_crook, AreJournals, sent_in}
 use Rattle.honest_worlds.specs.Laws.{JournalsAreHonest, JournalsHaveNoCrook, SentNotesAreOwn, SentAreNumbered, OthersWereKept, LegalKeepsRule}
@@ -39,7 +39,7 @@ use Rattle.world_model.proofs.Messages.{AreNumbered, own_are_numbered}
 use Rattle.world_model.proofs.Sent.{messages_fit, is_replicas_chapter}
 use Rattle.honest_worlds.proofs.OnlySent.{keeps_rule-push, HasOnlySent, receives_sent}
 use Rattle.honest_worlds.proofs.Epochs.{none_is_over, no_past}
-use Rattle.causal_model.proofs.Members.{member_of_filter}
+use Rattle.causal_model.proofs.Theory.Members.{member_of_filter}
 use Rattle.world_model.proofs.Worlds.{own_of_more}
 use Rattle.op_base.specs.declared.outcome.Step.TheVariants as step
 

@@ -14,7 +14,7 @@ use Rattle.causal_model.specs.declared.outcome.Beat.{Beat}
 use Rattle.causal_model.specs.declared.outcome.Beat.TheVariants as beat
 use Rattle.causal_model.specs.declared.outcome.Local.{Local}
 use Rattle.causal_model.specs.declared.outcome.Local.TheVariants as local
-use Rattle.causal_model.proofs.Finds.{found}
+use Rattle.causal_model.proofs.Theory.Finds.{found}
 use Rattle.world_model.specs.World.{PlainWorld, size_of, opening, replica_of, sent_by, with_all_sent, local_at, beat_at, sent_message, give_of, give_at}
 use Rattle.world_model.specs.Worlds.{KeepsStore, KeepsWorld}
 use Rattle.world_model.proofs.Commands.{sending_keeps_world}

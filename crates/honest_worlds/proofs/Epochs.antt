@@ -3,8 +3,8 @@ use Rattle.std.proofs.Common.{◌≡◌, ℕ, ◌+◌, ◌<◌, ◌≤◌, ◌�
 use Rattle.std.proofs.lemmas.List.{nil_from_length}
 use Rattle.std.proofs.lemmas.List.Elements.{All-contains, Contains-append_left, Contains-append_right, Contains-append_cases}
 use Rattle.causal_model.specs.History.{History, Event, epoch_of, events, events_from, events_in}
-use Rattle.causal_model.proofs.Elements.{Contains-map}
-use Rattle.causal_model.proofs.Events.{event_of, epochs_are_between}
+use Rattle.causal_model.proofs.Theory.Elements.{Contains-map}
+use Rattle.causal_model.proofs.Events.Events.{event_of, epochs_are_between}
 use Rattle.world_model.specs.Honest.{past_events, IsHonest, history_of, delivered_by}
 use Rattle.world_model.specs.World.{PlainWorld, size_of, epoch_in}
 use Rattle.world_model.specs.Worlds.{IsWorld}

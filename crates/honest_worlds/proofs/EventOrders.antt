@@ -15,15 +15,15 @@ use Rattle.causal_model.specs.Counts.{count_of, counts, is_deliverable}
 use Rattle.causal_model.specs.Crook.{crook_of}
 use Rattle.causal_model.specs.History.{Event, events, is_before}
 use Rattle.causal_model.specs.Order.{same_id, happened_before}
-use Rattle.causal_model.proofs.Counts.{entry-counts, entry-next_tag_other}
-use Rattle.causal_model.proofs.Crooks.{IsStraight, none-from_IsStraight}
-use Rattle.causal_model.proofs.Early.{IsDeliverable, IsDeliverable-from_test}
-use Rattle.causal_model.proofs.Elements.{Contains-map}
-use Rattle.causal_model.proofs.Events.{event_of, before_within, earlier_is_before}
-use Rattle.causal_model.proofs.Limits.{numbers_are_counted}
-use Rattle.causal_model.proofs.Orders.{Sees-from_happened, order_is_transitive, each_fits}
-use Rattle.causal_model.proofs.Settling.{last_is_next}
-use Rattle.causal_model.proofs.Timestamps.{tags_are_counted, next_tag_has_counts}
+use Rattle.causal_model.proofs.Delivery.Counts.{entry-counts, entry-next_tag_other}
+use Rattle.causal_model.proofs.Delivery.Crooks.{IsStraight, none-from_IsStraight}
+use Rattle.causal_model.proofs.States.Early.{IsDeliverable, IsDeliverable-from_test}
+use Rattle.causal_model.proofs.Theory.Elements.{Contains-map}
+use Rattle.causal_model.proofs.Events.Events.{event_of, before_within, earlier_is_before}
+use Rattle.causal_model.proofs.Delivery.Limits.{numbers_are_counted}
+use Rattle.causal_model.proofs.Delivery.Orders.{Sees-from_happened, order_is_transitive, each_fits}
+use Rattle.causal_model.proofs.Delivery.Settling.{last_is_next}
+use Rattle.causal_model.proofs.Delivery.Timestamps.{tags_are_counted, next_tag_has_counts}
 use Rattle.world_model.specs.Honest.{IsSentMessage, past_events, IsHonest, history_of, delivered_by}
 use Rattle.world_model.specs.EventOrder.{IsSentEvent, IsEvent, StandsBefore, EventOrder, stands, through}
 use Rattle.honest_worlds.specs.Laws.{HappenedBeforeIsEventOrder, DeliverableIsAdmissible}

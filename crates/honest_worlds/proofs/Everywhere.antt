@@ -12,13 +12,13 @@ use Rattle.causal_model.specs.Counts.{members, count_of, counts}
 use Rattle.causal_model.specs.Sending.{is_noop_due, beating, own_message}
 use Rattle.causal_model.specs.Stability.{last_tag, known_vector, stable_vector, is_stable, carries_operation, unstable_noops, noop_window}
 use Rattle.causal_model.specs.declared.outcome.Beat.TheVariants as beat
-use Rattle.causal_model.proofs.Chapters.{chapter_induction}
-use Rattle.causal_model.proofs.Counts.{entry-counts}
-use Rattle.causal_model.proofs.Limits.{numbers_are_counted}
-use Rattle.causal_model.proofs.Orders.{last_tag_is_last}
-use Rattle.causal_model.proofs.Sends.{is_noop_due-push}
-use Rattle.causal_model.proofs.Stability.{entry-stable}
-use Rattle.causal_model.proofs.Timestamps.{next_tag_has_counts}
+use Rattle.causal_model.proofs.Delivery.Chapters.{chapter_induction}
+use Rattle.causal_model.proofs.Delivery.Counts.{entry-counts}
+use Rattle.causal_model.proofs.Delivery.Limits.{numbers_are_counted}
+use Rattle.causal_model.proofs.Delivery.Orders.{last_tag_is_last}
+use Rattle.causal_model.proofs.Delivery.Sends.{is_noop_due-push}
+use Rattle.causal_model.proofs.Delivery.Stability.{entry-stable}
+use Rattle.causal_model.proofs.Delivery.Timestamps.{next_tag_has_counts}
 use Rattle.world_model.specs.Honest.{IsSentMessage, IsHonest, delivered_by}
 use Rattle.honest_worlds.specs.Laws.{AreBelowLimit}
 use Rattle.world_model.specs.Settling.{Round, with_beat, after_beat, offers_made, round_of}

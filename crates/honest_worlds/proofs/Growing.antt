@@ -12,8 +12,8 @@ use Rattle.causal_model.specs.State.{State, with_own}
 use Rattle.causal_model.specs.declared.outcome.Beat.{Beat}
 use Rattle.causal_model.specs.declared.outcome.Beat.TheVariants as beat
 use Rattle.causal_model.specs.declared.outcome.Refusal.{Refusal}
-use Rattle.causal_model.proofs.Lists.{fold_has}
-use Rattle.causal_model.proofs.Steps.{steps_by}
+use Rattle.causal_model.proofs.Theory.Lists.{fold_has}
+use Rattle.causal_model.proofs.States.Steps.{steps_by}
 use Rattle.world_model.specs.Offering.{Offered, none_offered, offered_more, outbox_in, offered_between, resend_at}
 use Rattle.world_model.specs.Raw.{read_at, raw_of, raw_at}
 use Rattle.world_model.specs.Settling.{Round, with_offered, after_offer, after_offers, with_beat, after_beat, offers_made, round_of, rounds_within, most_rounds, world_settled}

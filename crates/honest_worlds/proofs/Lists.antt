@@ -6,9 +6,9 @@ use Rattle.std.proofs.lemmas.List.Elements.{All-head, All-tail}
 use Rattle.std.proofs.lemmas.List.Sums.{get_or-le-sum_by, sum_by-cons, sum_by-append}
 use Rattle.causal_model.specs.Counts.{members}
 use Rattle.causal_model.specs.Stability.{minimum}
-use Rattle.causal_model.proofs.Lists.{cond-le-cond, fold_has}
-use Rattle.causal_model.proofs.Finds.{Contains-cons, found}
-use Rattle.causal_model.proofs.Logs.{count_by-either}
+use Rattle.causal_model.proofs.Theory.Lists.{cond-le-cond, fold_has}
+use Rattle.causal_model.proofs.Theory.Finds.{Contains-cons, found}
+use Rattle.causal_model.proofs.Delivery.Logs.{count_by-either}
 use Rattle.std.proofs.lemmas.List.FromFn.{length-range_with_len, get_or-range_with_len}
 
 -- ---- places and counts

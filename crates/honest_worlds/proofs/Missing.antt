@@ -15,14 +15,14 @@ use Rattle.causal_model.specs.State.{State, counted}
 use Rattle.causal_model.specs.Early.{is_again, put_early, stands_before}
 use Rattle.causal_model.specs.Stability.{last_tag, stable_vector, is_stable}
 use Rattle.causal_model.specs.declared.outcome.Refusal.TheVariants as refusal
-use Rattle.causal_model.proofs.Counts.{entry-counts}
-use Rattle.causal_model.proofs.Early.{IsDeliverable, test-from_IsDeliverable, test-from_IsNew}
-use Rattle.causal_model.proofs.Elements.{item_from_list_any}
-use Rattle.causal_model.proofs.Finds.{none_passes}
-use Rattle.causal_model.proofs.Outcomes.{IsUnrefused, steps_of_accepted}
-use Rattle.causal_model.proofs.Settling.{stable_count-le-known}
-use Rattle.causal_model.proofs.Stability.{entry-stable}
-use Rattle.causal_model.proofs.Steps.{steps_of_one_more}
+use Rattle.causal_model.proofs.Delivery.Counts.{entry-counts}
+use Rattle.causal_model.proofs.States.Early.{IsDeliverable, test-from_IsDeliverable, test-from_IsNew}
+use Rattle.causal_model.proofs.Theory.Elements.{item_from_list_any}
+use Rattle.causal_model.proofs.Theory.Finds.{none_passes}
+use Rattle.causal_model.proofs.States.Outcomes.{IsUnrefused, steps_of_accepted}
+use Rattle.causal_model.proofs.Delivery.Settling.{stable_count-le-known}
+use Rattle.causal_model.proofs.Delivery.Stability.{entry-stable}
+use Rattle.causal_model.proofs.States.Steps.{steps_of_one_more}
 use Rattle.world_model.specs.Honest.{IsSentMessage, IsHonest, delivered_by}
 use Rattle.world_model.specs.Offering.{Offered, none_offered, offered_more, outbox_in, offered_between}
 use Rattle.world_model.specs.Settling.{is_delivery}
@@ -31,7 +31,7 @@ use Rattle.honest_worlds.proofs.Lists.{fold_reaches}
 use Rattle.honest_worlds.proofs.Shared.{chapters_agree}
 use Rattle.honest_worlds.proofs.SentMessages.{sent_is_delivered, sender_is_member, are_shared, sent_is_near, known_at_origin, sent_fits, outbox_was_sent}
 use Rattle.honest_worlds.proofs.OnlySent.{HasOnlySent, replica_has_only_sent, taken, accept_has_only_sent, receives_sent}
-use Rattle.causal_model.proofs.Members.{member_of_filter}
+use Rattle.causal_model.proofs.Theory.Members.{member_of_filter}
 
 -- ---- an early message is there once it was put
 

@@ -11,19 +11,19 @@ use Rattle.causal_model.specs.Chapter.{is_chapter}
 use Rattle.causal_model.specs.Counts.{members, count_of, counts}
 use Rattle.causal_model.specs.Sending.{is_noop_due}
 use Rattle.causal_model.specs.Stability.{last_tag, known_vector, stable_count, stable_vector, is_stable, carries_operation, unstable_noops, noop_window}
-use Rattle.causal_model.proofs.Counts.{entry-counts, count_of-push_own}
-use Rattle.causal_model.proofs.Limits.{numbers_are_counted}
-use Rattle.causal_model.proofs.Lists.{induction_at_end, filter-filter, count_by-le-count_by}
-use Rattle.causal_model.proofs.Orders.{last_tag_is_last, IsBelow, seen_is_below}
-use Rattle.causal_model.proofs.Sends.{is_noop_due-push}
-use Rattle.causal_model.proofs.Settling.{last_is_next, stable_count-le-known, stable_stays_stable}
-use Rattle.causal_model.proofs.Stability.{entry-stable, last_tag-push}
-use Rattle.causal_model.proofs.Timestamps.{tags_are_counted, entry-zero_tag, next_tag_has_counts}
-use Rattle.causal_model.proofs.Windows.{unstable-count, windows_hold}
+use Rattle.causal_model.proofs.Delivery.Counts.{entry-counts, count_of-push_own}
+use Rattle.causal_model.proofs.Delivery.Limits.{numbers_are_counted}
+use Rattle.causal_model.proofs.Theory.Lists.{induction_at_end, filter-filter, count_by-le-count_by}
+use Rattle.causal_model.proofs.Delivery.Orders.{last_tag_is_last, IsBelow, seen_is_below}
+use Rattle.causal_model.proofs.Delivery.Sends.{is_noop_due-push}
+use Rattle.causal_model.proofs.Delivery.Settling.{last_is_next, stable_count-le-known, stable_stays_stable}
+use Rattle.causal_model.proofs.Delivery.Stability.{entry-stable, last_tag-push}
+use Rattle.causal_model.proofs.Delivery.Timestamps.{tags_are_counted, entry-zero_tag, next_tag_has_counts}
+use Rattle.causal_model.proofs.Delivery.Windows.{unstable-count, windows_hold}
 use mathlib.Core.Bool.{and_assoc, and-false}
 use Rattle.std.proofs.lemmas.List.FromFn.{length-range_with_len, get_or-range_with_len}
-use Rattle.causal_model.proofs.Elements.{list_any-from_item}
-use Rattle.causal_model.proofs.Members.{member_here, member_later, member_cases}
+use Rattle.causal_model.proofs.Theory.Elements.{list_any-from_item}
+use Rattle.causal_model.proofs.Theory.Members.{member_here, member_later, member_cases}
 use Rattle.honest_worlds.proofs.Lists.{split_at, Split, count_by-split, split_count, count_by-le-on, count_by_none, count_by-le-kinds, item-le-sum_by, sum_by-add, member_there, first_passing, least_is_no_less}
 use Rattle.honest_worlds.proofs.Agreeing.{last_tag_has_of, Agree, own_of_both, stable_is_received}
 use Rattle.honest_worlds.proofs.Shared.{front_is_chapter, later_is_above, deliverable_from_next, AreShared, fits_of, at_origin, chapters_agree, parts_agree}

@@ -15,13 +15,13 @@ use Rattle.causal_model.specs.State.{State, counted}
 use Rattle.causal_model.specs.Early.{has_id}
 use Rattle.causal_model.specs.States.{IsState}
 use Rattle.causal_model.specs.declared.outcome.Refusal.{Refusal}
-use Rattle.causal_model.proofs.Crooks.{none-from_IsStraight}
-use Rattle.causal_model.proofs.Early.{IsDeliverable-from_test, IsNew-from_test, All-put_early}
-use Rattle.causal_model.proofs.Finds.{found}
-use Rattle.causal_model.proofs.Histories.{IsHistory-from_test}
-use Rattle.causal_model.proofs.Outcomes.{IsUnrefused, unrefused, steps_of_accepted, steps_of_refused}
-use Rattle.causal_model.proofs.States.{accept_keeps_state, step_keeps_state}
-use Rattle.causal_model.proofs.Steps.{steps_by, none_is_next_after_steps}
+use Rattle.causal_model.proofs.Delivery.Crooks.{none-from_IsStraight}
+use Rattle.causal_model.proofs.States.Early.{IsDeliverable-from_test, IsNew-from_test, All-put_early}
+use Rattle.causal_model.proofs.Theory.Finds.{found}
+use Rattle.causal_model.proofs.Events.Histories.{IsHistory-from_test}
+use Rattle.causal_model.proofs.States.Outcomes.{IsUnrefused, unrefused, steps_of_accepted, steps_of_refused}
+use Rattle.causal_model.proofs.States.States.{accept_keeps_state, step_keeps_state}
+use Rattle.causal_model.proofs.States.Steps.{steps_by, none_is_next_after_steps}
 use Rattle.world_model.specs.Honest.{IsSentMessage, IsHonest}
 use Rattle.world_model.specs.Settling.{is_delivery}
 use Rattle.world_model.specs.World.{PlainWorld, size_of, replica_of}

@@ -3,7 +3,7 @@ use Rattle.std.proofs.Common.{◌≡◌, ◌≢◌, ℕ, ◌<◌, ◌≤◌, All
 use Rattle.std.proofs.lemmas.Bool.{and_parts}
 use Rattle.std.proofs.lemmas.List.Elements.{All-nil}
 use Rattle.causal_model.specs.History.{Event, events}
-use Rattle.causal_model.proofs.Events.{events_of_chapters}
+use Rattle.causal_model.proofs.Events.Events.{events_of_chapters}
 use Rattle.world_model.specs.Honest.{IsSentMessage, past_events, IsHonest, history_of}
 use Rattle.world_model.specs.Regrouping.{last_epoch, is_at_rest, next_world}
 use Rattle.world_model.specs.Settling.{is_quiescent}

@@ -16,15 +16,15 @@ use Rattle.causal_model.specs.Early.{is_again}
 use Rattle.causal_model.specs.Stability.{last_tag, stable_count, carries_operation, unstable_of, noop_window, stable_vector, is_stable}
 use Rattle.causal_model.specs.declared.outcome.Receive.TheVariants as receive
 use Rattle.causal_model.specs.declared.outcome.Refusal.TheVariants as refusal
-use Rattle.causal_model.proofs.Chapters.{IsNext}
-use Rattle.causal_model.proofs.Counts.{entry-counts}
-use Rattle.causal_model.proofs.Early.{IsDeliverable, test-from_IsNear}
-use Rattle.causal_model.proofs.Limits.{numbers_are_counted}
-use Rattle.causal_model.proofs.Outcomes.{accepted_is_accepted}
-use Rattle.causal_model.proofs.Settling.{stable_count-le-known}
-use Rattle.causal_model.proofs.Numbered.{unstable_are_numbered}
-use Rattle.causal_model.proofs.Timestamps.{tags_are_counted, entry-zero_tag}
-use Rattle.causal_model.proofs.Windows.{windows_hold}
+use Rattle.causal_model.proofs.Delivery.Chapters.{IsNext}
+use Rattle.causal_model.proofs.Delivery.Counts.{entry-counts}
+use Rattle.causal_model.proofs.States.Early.{IsDeliverable, test-from_IsNear}
+use Rattle.causal_model.proofs.Delivery.Limits.{numbers_are_counted}
+use Rattle.causal_model.proofs.States.Outcomes.{accepted_is_accepted}
+use Rattle.causal_model.proofs.Delivery.Settling.{stable_count-le-known}
+use Rattle.causal_model.proofs.Delivery.Numbered.{unstable_are_numbered}
+use Rattle.causal_model.proofs.Delivery.Timestamps.{tags_are_counted, entry-zero_tag}
+use Rattle.causal_model.proofs.Delivery.Windows.{windows_hold}
 use Rattle.world_model.specs.Honest.{history_of, IsSentMessage, IsHonest, delivered_by}
 use Rattle.honest_worlds.specs.Laws.{SentIsNear}
 use Rattle.world_model.specs.World.{replica_of, PlainWorld, size_of, replica_of, sent_by}

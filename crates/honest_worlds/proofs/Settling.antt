@@ -11,9 +11,9 @@ use Rattle.causal_model.specs.Counts.{count_of, counts}
 use Rattle.causal_model.specs.History.{Event, events, is_all_stable}
 use Rattle.causal_model.specs.State.{start, counted}
 use Rattle.causal_model.specs.Stability.{stable_vector, is_stable, carries_operation}
-use Rattle.causal_model.proofs.Counts.{length-counts, entry-counts}
-use Rattle.causal_model.proofs.Limits.{numbers_are_counted}
-use Rattle.causal_model.proofs.Regrouping.{regroup_keeps_items}
+use Rattle.causal_model.proofs.Delivery.Counts.{length-counts, entry-counts}
+use Rattle.causal_model.proofs.Delivery.Limits.{numbers_are_counted}
+use Rattle.causal_model.proofs.Events.Regrouping.{regroup_keeps_items}
 use Rattle.world_model.specs.Regrouping.{is_at_rest}
 use Rattle.world_model.specs.Settling.{round_of, rounds_within, most_rounds, world_settled, is_quiescent}
 use Rattle.world_model.specs.World.{PlainWorld, size_of, replica_of}

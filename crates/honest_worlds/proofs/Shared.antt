@@ -9,13 +9,13 @@ use Rattle.op_base.specs.declared.message.Message.{Message}
 use Rattle.causal_model.specs.Chapter.{is_chapter, follows}
 use Rattle.causal_model.specs.Counts.{count_of, counts}
 use Rattle.causal_model.specs.Order.{same_id}
-use Rattle.causal_model.proofs.Apart.{ids_are_apart}
-use Rattle.causal_model.proofs.Chapters.{IsNext, follows-append}
-use Rattle.causal_model.proofs.Counts.{entry-counts}
-use Rattle.causal_model.proofs.Early.{IsDeliverable}
-use Rattle.causal_model.proofs.Lists.{induction_at_end}
-use Rattle.causal_model.proofs.Orders.{each_fits}
-use Rattle.causal_model.proofs.Settling.{last_is_next}
+use Rattle.causal_model.proofs.Delivery.Apart.{ids_are_apart}
+use Rattle.causal_model.proofs.Delivery.Chapters.{IsNext, follows-append}
+use Rattle.causal_model.proofs.Delivery.Counts.{entry-counts}
+use Rattle.causal_model.proofs.States.Early.{IsDeliverable}
+use Rattle.causal_model.proofs.Theory.Lists.{induction_at_end}
+use Rattle.causal_model.proofs.Delivery.Orders.{each_fits}
+use Rattle.causal_model.proofs.Delivery.Settling.{last_is_next}
 use Rattle.honest_worlds.proofs.Agreeing.{Agree}
 
 -- ---- fronts of a chapter

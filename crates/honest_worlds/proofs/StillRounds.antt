@@ -8,8 +8,8 @@ use Rattle.op_base.specs.declared.message.Message.{Message}
 use Rattle.causal_model.specs.Counts.{members, count_of, counts}
 use Rattle.causal_model.specs.declared.outcome.Beat.{Beat}
 use Rattle.causal_model.specs.declared.outcome.Beat.TheVariants as beat
-use Rattle.causal_model.proofs.Early.{IsDeliverable}
-use Rattle.causal_model.proofs.Lists.{fold_has}
+use Rattle.causal_model.proofs.States.Early.{IsDeliverable}
+use Rattle.causal_model.proofs.Theory.Lists.{fold_has}
 use Rattle.world_model.specs.Honest.{IsSentMessage, IsHonest, delivered_by}
 use Rattle.world_model.specs.Offering.{offered_between}
 use Rattle.world_model.specs.Settling.{Round, is_delivery, with_offered, after_offer, after_offers, with_beat, after_beat, offers_made, round_of}

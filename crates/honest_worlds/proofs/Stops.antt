@@ -26,7 +26,7 @@ use Rattle.causal_model.specs.declared.outcome.Beat.TheVariants as beat
 use Rattle.causal_model.specs.declared.outcome.Local.{Local}
 use Rattle.causal_model.specs.declared.outcome.Local.TheVariants as local
 use Rattle.causal_model.specs.declared.outcome.Receive.{Receive}
-use Rattle.causal_model.proofs.Journals.{groups_grow, receiving_notes_one_group, receiving_replays}
+use Rattle.causal_model.proofs.States.Journals.{groups_grow, receiving_notes_one_group, receiving_replays}
 use Rattle.world_model.specs.Honest.{IsSentMessage, IsHonest}
 use Rattle.world_model.specs.Journals.{journal_of, world_of_journals, ends_epoch, sent_in, KeepsSent}
 use Rattle.world_model.specs.Records.{record_of}

@@ -9,7 +9,7 @@ use Rattle.op_base.specs.declared.name.Kind.TheVariants as kinds
 use Rattle.op_base.specs.declared.name.ObjectId.{ObjectId}
 use Rattle.op_base.specs.declared.tag.ElementId.{ElementId}
 use Rattle.causal_model.specs.Elements.{same_element}
-use Rattle.causal_model.proofs.Rules.{object_from_same}
+use Rattle.causal_model.proofs.Answers.Rules.{object_from_same}
 use Rattle.list_type.specs.Chained.{Chained, Stands, row_at}
 use Rattle.list_type.specs.ListFields.{elements_in, elements_of_row, AreListed}
 use Rattle.list_type.specs.declared.lists.Content.{Content}

@@ -17,7 +17,7 @@ use Rattle.causal_model.specs.KeptElements.{KeptElement, kept_elements, tombs_of
 use Rattle.causal_model.specs.ListSteps.{had_seen, takes, is_shown}
 use Rattle.causal_model.specs.Log.{log_of, message_of}
 use Rattle.causal_model.specs.Parts.{is_on}
-use Rattle.causal_model.proofs.ShownLists.{own_entries_tell, values_from_kept, ids_from_kept, tombs_are_from_kept}
+use Rattle.causal_model.proofs.Lists.ShownLists.{own_entries_tell, values_from_kept, ids_from_kept, tombs_are_from_kept}
 use Rattle.list_type.specs.Chained.{first_slot, row_at, Stands, IsHeld, OfSlot, OfPlace, IsParted}
 use Rattle.list_type.specs.Heads.{takes_by}
 use Rattle.list_type.specs.Listed.{Listed, AreListsOf}

@@ -23,9 +23,9 @@ use Rattle.causal_model.specs.KeptElements.{KeptElement, kept_elements}
 use Rattle.causal_model.specs.ListSteps.{put_down, at_depth, put_behind, put_at, is_open, insertion_of, insertion_in, new_element, kept_put, kept_with}
 use Rattle.causal_model.specs.Log.{log_of, message_of}
 use Rattle.causal_model.specs.Parts.{is_on}
-use Rattle.causal_model.proofs.KeptOfOneMore.{element_itself}
-use Rattle.causal_model.proofs.Rules.{object_from_same}
-use Rattle.causal_model.proofs.ShownLists.{own_entries_tell}
+use Rattle.causal_model.proofs.Lists.KeptOfOneMore.{element_itself}
+use Rattle.causal_model.proofs.Answers.Rules.{object_from_same}
+use Rattle.causal_model.proofs.Lists.ShownLists.{own_entries_tell}
 use Rattle.list_type.specs.Chained.{Chained}
 use Rattle.list_type.specs.Heads.{head_of}
 use Rattle.list_type.specs.Listed.{Listed, AreListsOf, AreListsMoved}

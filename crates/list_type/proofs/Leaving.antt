@@ -12,7 +12,7 @@ use Rattle.op_base.specs.declared.name.ObjectId.{ObjectId}
 use Rattle.op_base.specs.declared.tag.ElementId.{ElementId}
 use Rattle.causal_model.specs.Elements.{same_element}
 use Rattle.causal_model.specs.ListSteps.{keep, pruned}
-use Rattle.causal_model.proofs.KeptOfOneMore.{one_element, element_itself}
+use Rattle.causal_model.proofs.Lists.KeptOfOneMore.{one_element, element_itself}
 use Rattle.list_type.specs.Chained.{Chained, last_or, row_at, Stands, IsHeld}
 use Rattle.list_type.specs.Depths.{put_before}
 use Rattle.list_type.specs.ListFields.{element_in, elements_in, StandsIn, AreListed}

@@ -13,7 +13,7 @@ use Rattle.op_base.specs.declared.tag.ElementId.{ElementId}
 use Rattle.causal_model.specs.Elements.{same_element}
 use Rattle.causal_model.specs.ListSteps.{had_seen}
 use Rattle.causal_model.specs.Log.{message_of}
-use Rattle.causal_model.proofs.KeptOfOneMore.{one_element}
+use Rattle.causal_model.proofs.Lists.KeptOfOneMore.{one_element}
 use Rattle.list_type.specs.Deletions.{group_of, is_in, is_group, is_of, IsLast, AreLinked}
 use Rattle.list_type.specs.Removals.{deletes_by, is_deletion}
 use Rattle.list_type.specs.declared.deletions.Deletions.{Deletions}

@@ -17,9 +17,9 @@ use Rattle.op_base.specs.declared.name.ObjectId.{ObjectId}
 use Rattle.op_base.specs.declared.tag.ElementId.{ElementId}
 use Rattle.causal_model.specs.Elements.{same_element}
 use Rattle.causal_model.specs.KeptElements.{KeptElement}
-use Rattle.causal_model.proofs.Elements.{list_any-map}
-use Rattle.causal_model.proofs.KeptOfOneMore.{one_element, element_itself}
-use Rattle.causal_model.proofs.Members.{pairs_head, pairs_tail}
+use Rattle.causal_model.proofs.Theory.Elements.{list_any-map}
+use Rattle.causal_model.proofs.Lists.KeptOfOneMore.{one_element, element_itself}
+use Rattle.causal_model.proofs.Theory.Members.{pairs_head, pairs_tail}
 use Rattle.list_type.specs.Chained.{Chained, Stands, row_at}
 use Rattle.list_type.specs.ListFields.{element_in, elements_in, elements_of_row, AreListed, StandsIn}
 use Rattle.list_type.specs.declared.lists.Content.{Content}

@@ -10,7 +10,7 @@ use Rattle.op_base.specs.declared.name.ObjectId.{ObjectId}
 use Rattle.op_base.specs.declared.tag.ElementId.{ElementId}
 use Rattle.causal_model.specs.Elements.{same_element}
 use Rattle.causal_model.specs.ListSteps.{put_down}
-use Rattle.causal_model.proofs.KeptOfOneMore.{one_element, element_itself}
+use Rattle.causal_model.proofs.Lists.KeptOfOneMore.{one_element, element_itself}
 use Rattle.list_type.specs.Chained.{Chained, last_slot, row_at, passed, from_unpassed, Stands, IsParted, IsPlace, OfPlace}
 use Rattle.list_type.specs.Putting.{ranks_above, IsAhead, IsPutBehind}
 use Rattle.list_type.specs.ListFields.{element_in, elements_in, elements_of_row, AreListed, StandsIn}

@@ -21,9 +21,9 @@ use Rattle.causal_model.specs.History.{History, with_message, is_history, epoch_
 use Rattle.causal_model.specs.KeptElements.{KeptElement}
 use Rattle.causal_model.specs.ListSteps.{keep, pruned, had_seen, marked, kept_without, kept_moved}
 use Rattle.causal_model.specs.Log.{stripped_of, message_of}
-use Rattle.causal_model.proofs.KeptOfOneMore.{one_element, element_itself, others_move_nothing}
-use Rattle.causal_model.proofs.Rules.{object_from_same}
-use Rattle.causal_model.proofs.ShownLists.{kept_moves_by_entry}
+use Rattle.causal_model.proofs.Lists.KeptOfOneMore.{one_element, element_itself, others_move_nothing}
+use Rattle.causal_model.proofs.Answers.Rules.{object_from_same}
+use Rattle.causal_model.proofs.Lists.ShownLists.{kept_moves_by_entry}
 use Rattle.list_type.specs.Chained.{row_at}
 use Rattle.list_type.specs.Heads.{head_of}
 use Rattle.list_type.specs.Listed.{Listed, AreListsMoved, AreWithin}

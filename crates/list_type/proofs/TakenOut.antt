@@ -14,7 +14,7 @@ use Rattle.op_base.specs.declared.tag.ElementId.{ElementId}
 use Rattle.causal_model.specs.Elements.{takes_out}
 use Rattle.causal_model.specs.ListSteps.{had_seen}
 use Rattle.causal_model.specs.Log.{message_of}
-use Rattle.causal_model.proofs.Elements.{list_any-or}
+use Rattle.causal_model.proofs.Theory.Elements.{list_any-or}
 use Rattle.list_type.specs.Heads.{takes_by}
 use Rattle.list_type.specs.Removals.{is_clear, is_deletion, clears_by, deletes_by, seen_below, is_cleared}
 use Rattle.list_type.specs.declared.removals.Clears.{Clears}

@@ -11,10 +11,10 @@ use Rattle.op_base.specs.declared.operation.Op.TheVariants as op
 use Rattle.op_base.specs.declared.operation.Update.{Update}
 use Rattle.causal_model.specs.Journal.{IsLegal, local_notes}
 use Rattle.causal_model.specs.Sending.{local_messages, local_rule}
-use Rattle.causal_model.proofs.ListsOfOneMore.{take-all}
-use Rattle.causal_model.proofs.Counts.{length-next_tag}
-use Rattle.causal_model.proofs.Histories.{IsHistory-from_test}
-use Rattle.causal_model.proofs.Journals.{legal_is_state}
+use Rattle.causal_model.proofs.Lists.ListsOfOneMore.{take-all}
+use Rattle.causal_model.proofs.Delivery.Counts.{length-next_tag}
+use Rattle.causal_model.proofs.Events.Histories.{IsHistory-from_test}
+use Rattle.causal_model.proofs.States.Journals.{legal_is_state}
 use Rattle.causal_model.specs.declared.note.Note.{Note}
 use Rattle.causal_model.specs.declared.note.Note.TheVariants as note
 use Rattle.causal_model.specs.declared.outcome.Local.{Local}

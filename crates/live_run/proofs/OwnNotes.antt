@@ -21,8 +21,8 @@ use Rattle.causal_model.specs.declared.note.Note.{Note}
 use Rattle.causal_model.specs.declared.note.Note.TheVariants.{Sent, Kept, Took, Crook, Regroup}
 use Rattle.causal_model.specs.declared.outcome.Beat.TheVariants as beat
 use Rattle.causal_model.specs.declared.outcome.Local.TheVariants as local
-use Rattle.causal_model.proofs.Journals.{accepting_replays, group_keeps_state}
-use Rattle.causal_model.proofs.States.{start_is_state}
+use Rattle.causal_model.proofs.States.Journals.{accepting_replays, group_keeps_state}
+use Rattle.causal_model.proofs.States.States.{start_is_state}
 use Rattle.replica_lock.specs.Rules.{outbox_in}
 use Rattle.world_model.specs.Worlds.{own_of}
 use Rattle.world_model.proofs.Received.{receives}

@@ -12,7 +12,7 @@ use Rattle.std.proofs.lemmas.List.Elements.{All-nil, All-cons, All-weaker, All-h
 use Rattle.std.proofs.lemmas.List.Kept.{AllPairs-cons}
 use Rattle.op_base.specs.Order.{text_cmp}
 use Rattle.op_base.specs.declared.name.ObjectId.{ObjectId}
-use Rattle.causal_model.proofs.Members.{pairs_head, pairs_tail}
+use Rattle.causal_model.proofs.Theory.Members.{pairs_head, pairs_tail}
 use Rattle.live_run.specs.Inputs.{object_text, put_object, ObjectsRise}
 
 abbrev IsBefore : ObjectId → ObjectId → Type 0

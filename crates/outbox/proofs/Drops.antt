@@ -4,7 +4,7 @@ use Rattle.std.proofs.lemmas.Bool.{cases_eq, cond-true, cond-false, eq-eqb, ne_e
 use Rattle.op_base.specs.declared.message.Message.{Message}
 use Rattle.causal_model.specs.Sending.{outbox_of}
 use Rattle.causal_model.specs.Stability.{stable_vector}
-use Rattle.causal_model.proofs.Logs.{outbox_of-push}
+use Rattle.causal_model.proofs.Delivery.Logs.{outbox_of-push}
 use Rattle.outbox.specs.Sent.{Sent, unstable_in}
 use Rattle.outbox.specs.Standing.{SendsNext, DropsAfter}
 

@@ -9,9 +9,9 @@ use Rattle.causal_model.specs.Chapter.{is_chapter}
 use Rattle.causal_model.specs.Counts.{count_of}
 use Rattle.causal_model.specs.Sending.{outbox_of}
 use Rattle.causal_model.specs.Stability.{is_stable, stable_vector, unstable_messages}
-use Rattle.causal_model.proofs.Limits.{numbers_are_counted}
-use Rattle.causal_model.proofs.Numbered.{next_follows_unstable}
-use Rattle.causal_model.proofs.Settling.{last_is_next}
+use Rattle.causal_model.proofs.Delivery.Limits.{numbers_are_counted}
+use Rattle.causal_model.proofs.Delivery.Numbered.{next_follows_unstable}
+use Rattle.causal_model.proofs.Delivery.Settling.{last_is_next}
 use Rattle.outbox.specs.Sent.{ComesAfter, room_of}
 
 pub next_is_pushed : (n w me : ℕ) (ms : List Message) (m : Message) → me < n → 1 ≤ w → IsTrue (is_chapter n w me (ms ++ m ∷ [])) → m.origin ≡ me

@@ -8,7 +8,7 @@ use Rattle.op_base.specs.Message.{number}
 use Rattle.op_base.specs.Timestamp.{entry}
 use Rattle.op_base.specs.declared.message.Message.{Message}
 use Rattle.causal_model.specs.Stability.{is_stable}
-use Rattle.causal_model.proofs.ItemMaps.{filter_all_of}
+use Rattle.causal_model.proofs.Cells.ItemMaps.{filter_all_of}
 use Rattle.outbox.specs.Sent.{ComesAfter, unstable_in}
 
 -- a list of which the first ones fail a test, and the others pass, passes it without the first ones

@@ -21,8 +21,8 @@ use Rattle.op_base.specs.declared.outcome.Cell.{Cell}
 use Rattle.op_base.specs.declared.outcome.Item.{Item}
 use Rattle.op_base.proofs.Orders.{items_tied}
 use Rattle.causal_model.specs.Items.{zero_cell, is_at, cell_in, Rise, IsItem}
-use Rattle.causal_model.proofs.ItemMaps.{AllPairs-head, AllPairs-tail}
-use Rattle.causal_model.proofs.Places.{places_total, is_equal}
+use Rattle.causal_model.proofs.Cells.ItemMaps.{AllPairs-head, AllPairs-tail}
+use Rattle.causal_model.proofs.Cells.Places.{places_total, is_equal}
 use Rattle.part_queries.specs.Finds.{puts_in, takes_out, or_put, or_taken, is_put, is_taken, with_mark, AreListed, IsBehind}
 use Rattle.part_queries.specs.declared.found.Found.{Found}
 use Rattle.part_queries.proofs.Finds.{or_none}

@@ -15,7 +15,7 @@ use Rattle.std.proofs.lemmas.List.Folds.{list_any-append}
 use Rattle.std.proofs.lemmas.List.Kept.{AllPairs-cons}
 use Rattle.std.proofs.lemmas.List.Sorted.{Contains-permutation, IsPermutation-sym}
 use Rattle.op_base.specs.Order.{text_cmp}
-use Rattle.causal_model.proofs.Members.{pairs_head, pairs_tail, list_any_members}
+use Rattle.causal_model.proofs.Theory.Members.{pairs_head, pairs_tail, list_any_members}
 use Rattle.part_queries.specs.declared.found.Found.{Found}
 use Rattle.part_queries.specs.declared.marks.Marks.{Marks}
 

@@ -11,9 +11,9 @@ use Rattle.causal_model.specs.History.{History, events, is_history}
 use Rattle.causal_model.specs.Items.{cell_in}
 use Rattle.causal_model.specs.Query.{TextsRise, values_that}
 use Rattle.causal_model.specs.Parts.{has, has_by_parts, ArePartsOf}
-use Rattle.causal_model.proofs.Elements.{item_from_list_any, list_any-from_item}
-use Rattle.causal_model.proofs.ObjectParts.{has_from_parts}
-use Rattle.causal_model.proofs.Values.{values_rise, values_are_exact, only_named_are_in, one_list_of_texts}
+use Rattle.causal_model.proofs.Theory.Elements.{item_from_list_any, list_any-from_item}
+use Rattle.causal_model.proofs.Answers.ObjectParts.{has_from_parts}
+use Rattle.causal_model.proofs.Answers.Values.{values_rise, values_are_exact, only_named_are_in, one_list_of_texts}
 
 -- ---- a rising list of what is in by an object's part of a history is the answer over the history
 

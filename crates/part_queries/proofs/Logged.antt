@@ -10,7 +10,7 @@ use Rattle.op_base.specs.declared.operation.Act.{Act}
 use Rattle.causal_model.specs.Acts.{acts_on}
 use Rattle.causal_model.specs.Log.{message_of}
 use Rattle.causal_model.specs.Parts.{has_logged}
-use Rattle.causal_model.proofs.Elements.{list_any-map}
+use Rattle.causal_model.proofs.Theory.Elements.{list_any-map}
 
 -- whether an entry does such an act to an object
 abbrev pub does : ObjectId → (Act → Bool) → Entry → Bool

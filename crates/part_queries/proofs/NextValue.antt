@@ -16,8 +16,8 @@ use Rattle.op_base.specs.declared.name.Kind.{Kind}
 use Rattle.op_base.specs.declared.name.Kind.TheVariants.{AwSet, RwSet, EwFlag, DwFlag, MvReg, Counter, RCounter}
 use Rattle.op_base.specs.declared.name.Kind.TheVariants as kinds
 use Rattle.causal_model.specs.Parts.{is_in}
-use Rattle.causal_model.proofs.Elements.{item_from_list_any}
-use Rattle.causal_model.proofs.Members.{pairs_head, pairs_tail}
+use Rattle.causal_model.proofs.Theory.Elements.{item_from_list_any}
+use Rattle.causal_model.proofs.Theory.Members.{pairs_head, pairs_tail}
 use Rattle.part_queries.specs.Finds.{puts_in, takes_out, or_put, or_taken, with_mark, AreRising, AreListed, AreNone, IsBehind}
 use Rattle.part_queries.specs.declared.found.Found.{Found}
 use Rattle.part_queries.specs.declared.marks.Marks.{Marks}

@@ -17,7 +17,7 @@ use Rattle.causal_model.specs.declared.outcome.Beat.{Beat}
 use Rattle.causal_model.specs.declared.outcome.Beat.TheVariants as beat_of_replica
 use Rattle.causal_model.specs.declared.outcome.Local.{Local}
 use Rattle.causal_model.specs.declared.outcome.Local.TheVariants as local
-use Rattle.causal_model.proofs.Chapters.{chapter_induction}
+use Rattle.causal_model.proofs.Delivery.Chapters.{chapter_induction}
 use Rattle.replica_core.specs.Standing.{Fields, Standing}
 use Rattle.replica_core.specs.Rules.{fields_of, StandsFor, Unchanged}
 use Rattle.replica_core.proofs.Stands.{chapter_of, unchanged_stands}

@@ -6,7 +6,7 @@ use Rattle.op_base.specs.Message.{fits, number}
 use Rattle.op_base.specs.declared.message.Entry.{Entry}
 use Rattle.op_base.specs.declared.message.Message.{Message}
 use Rattle.causal_model.specs.Log.{message_of}
-use Rattle.causal_model.proofs.Early.{fits_member}
+use Rattle.causal_model.proofs.States.Early.{fits_member}
 use Rattle.polog.specs.Order.{Each}
 use Rattle.polog.proofs.Sweeps.{next-has}
 

@@ -13,7 +13,7 @@ use Rattle.op_base.specs.Order.{object_cmp}
 use Rattle.op_base.specs.declared.message.Entry.{Entry}
 use Rattle.op_base.specs.declared.name.ObjectId.{ObjectId}
 use Rattle.causal_model.specs.Log.{message_of}
-use Rattle.causal_model.proofs.Rules.{object_from_same}
+use Rattle.causal_model.proofs.Answers.Rules.{object_from_same}
 use Rattle.polog.specs.Value.{is_of}
 use Rattle.polog.specs.Order.{Each, Pairwise, place, in_order, items_of}
 use Rattle.polog.specs.Rows.{StandsBefore, IsLaid, arrived}

@@ -12,7 +12,7 @@ use Rattle.op_base.specs.Order.{object_cmp}
 use Rattle.op_base.specs.declared.name.ObjectId.{ObjectId}
 use Rattle.op_base.specs.Object.{kind_place, same_object}
 use Rattle.op_base.proofs.Orders.{items_tied}
-use Rattle.causal_model.proofs.Rules.{object_from_same}
+use Rattle.causal_model.proofs.Answers.Rules.{object_from_same}
 use Rattle.polog.specs.Order.{Each, Pairwise}
 
 -- ---- places in a list

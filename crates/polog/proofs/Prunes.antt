@@ -11,7 +11,7 @@ use Rattle.op_base.specs.declared.operation.Op.TheVariants as op
 use Rattle.op_base.specs.declared.operation.Update.{Update}
 use Rattle.causal_model.specs.Log.{is_covered_by, message_of}
 use Rattle.causal_model.specs.Order.{happened_before}
-use Rattle.causal_model.proofs.Rules.{object_from_same}
+use Rattle.causal_model.proofs.Answers.Rules.{object_from_same}
 use Rattle.polog.specs.Marks.{is_looked_at, look_of, mark_of, mark_of_named, IsReached, Reaches, RestStays}
 use Rattle.polog.specs.Order.{Each}
 use Rattle.polog.specs.Value.{is_of, stays}

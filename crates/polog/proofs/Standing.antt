@@ -15,8 +15,8 @@ use Rattle.causal_model.specs.Chapter.{is_chapter}
 use Rattle.causal_model.specs.Order.{happened_before}
 use Rattle.causal_model.specs.Parts.{is_on}
 use Rattle.causal_model.specs.Stability.{stable_vector, is_stable}
-use Rattle.causal_model.proofs.Logs.{kept_log-push}
-use Rattle.causal_model.proofs.Rooms.{log_has_room}
+use Rattle.causal_model.proofs.Delivery.Logs.{kept_log-push}
+use Rattle.causal_model.proofs.Delivery.Rooms.{log_has_room}
 use Rattle.polog.specs.Value.{Log, with_entries, with_entry, with_stripped, without_stable, without_first, stays, is_of, is_settled}
 use Rattle.polog.proofs.Firsts.{others-left, all-left}
 use Rattle.polog.specs.Standing.{IsLogOf, IsPruned, IsLogged, IsStripped, IsStripping, HandsOut, KeepsStripping}

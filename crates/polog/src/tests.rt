@@ -18,7 +18,7 @@ impl TypeRule for LastOfObject {
     ghost use Rattle.std.specs.Prelude.{true, IsTrue};
     ghost use Rattle.std.proofs.Common.{subst, sym, refl};
     ghost use Rattle.op_base.specs.Object.{same_object};
-    ghost use Rattle.causal_model.proofs.Rules.{object_from_same};
+    ghost use Rattle.causal_model.proofs.Answers.Rules.{object_from_same};
 
     ghost keeps = { λ _ _. true };
 

@@ -8,7 +8,7 @@ use Rattle.causal_model.specs.Counts.{is_deliverable, is_carried}
 use Rattle.causal_model.specs.Early.{has_id, put_early, without}
 use Rattle.causal_model.specs.Receiving.{next_of, next_early, with_early, state_with}
 use Rattle.causal_model.specs.State.{State, counted}
-use Rattle.causal_model.proofs.Steps.{has_own_id}
+use Rattle.causal_model.proofs.States.Steps.{has_own_id}
 use Rattle.causal_buffer.specs.Standing.{KeepKeepsState}
 use Rattle.replica_core.specs.Rules.{StandsFor, fields_of}
 use Rattle.replica_core.specs.Standing.{Standing}

@@ -11,9 +11,9 @@ use Rattle.causal_model.specs.Covering.{store_keeps, store_covers}
 use Rattle.causal_model.specs.Log.{message_of}
 use Rattle.causal_model.specs.State.{State}
 use Rattle.causal_model.specs.Stability.{carries_operation, unstable_of, noop_window}
-use Rattle.causal_model.proofs.Early.{all_early_is_bounded}
-use Rattle.causal_model.proofs.Logs.{log_is_bounded}
-use Rattle.causal_model.proofs.Settling.{few_are_unstable}
+use Rattle.causal_model.proofs.States.Early.{all_early_is_bounded}
+use Rattle.causal_model.proofs.Delivery.Logs.{log_is_bounded}
+use Rattle.causal_model.proofs.Delivery.Settling.{few_are_unstable}
 use Rattle.causal_buffer.proofs.Kept.{most_is_small}
 use Rattle.tag_window.specs.History.{held_message}
 use Rattle.tag_window.specs.declared.held.Held.{Held}

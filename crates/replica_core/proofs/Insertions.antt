@@ -22,9 +22,9 @@ use Rattle.causal_model.specs.Early.{stands_before, put_early, has_id, without}
 use Rattle.causal_model.specs.Elements.{puts_at}
 use Rattle.causal_model.specs.Log.{is_kept, is_covered_by, kept_log, pruned_log}
 use Rattle.causal_model.specs.Order.{happened_before}
-use Rattle.causal_model.proofs.Finds.{filtered_pass_fewer}
-use Rattle.causal_model.proofs.ItemMaps.{filter_all_of}
-use Rattle.causal_model.proofs.Rules.{object_from_same}
+use Rattle.causal_model.proofs.Theory.Finds.{filtered_pass_fewer}
+use Rattle.causal_model.proofs.Cells.ItemMaps.{filter_all_of}
+use Rattle.causal_model.proofs.Answers.Rules.{object_from_same}
 use Rattle.replica_core.specs.Insertions.{is_insertion, element_room, insertions}
 
 -- ---- how many there are

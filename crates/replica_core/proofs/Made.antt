@@ -4,7 +4,7 @@ use Rattle.std.proofs.lemmas.List.{append-nil}
 use Rattle.op_base.specs.declared.outcome.Step.{Step}
 use Rattle.causal_model.specs.Receiving.{next_of, state_with, steps}
 use Rattle.causal_model.specs.State.{State}
-use Rattle.causal_model.proofs.Steps.{steps_of_none, steps_of_one_more}
+use Rattle.causal_model.proofs.States.Steps.{steps_of_none, steps_of_one_more}
 use Rattle.replica_core.specs.Rules.{StandsFor, SameSettings}
 use Rattle.replica_core.specs.Steps.{HasStepped, IsStepOf}
 use Rattle.replica_core.specs.declared.replica.Replica.{Replica}

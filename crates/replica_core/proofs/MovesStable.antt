@@ -16,11 +16,11 @@ use Rattle.causal_model.specs.Covering.{store_keeps, store_covers}
 use Rattle.causal_model.specs.History.{History, with_message}
 use Rattle.causal_model.specs.Order.{happened_before}
 use Rattle.causal_model.specs.Stability.{stable_count, stable_vector, is_stable}
-use Rattle.causal_model.proofs.Histories.{IsHistory-from_test}
-use Rattle.causal_model.proofs.ItemMaps.{filter_all_of}
-use Rattle.causal_model.proofs.Lists.{filter_none}
-use Rattle.causal_model.proofs.Logs.{kept_log-push}
-use Rattle.causal_model.proofs.Settling.{last_is_next}
+use Rattle.causal_model.proofs.Events.Histories.{IsHistory-from_test}
+use Rattle.causal_model.proofs.Cells.ItemMaps.{filter_all_of}
+use Rattle.causal_model.proofs.Theory.Lists.{filter_none}
+use Rattle.causal_model.proofs.Delivery.Logs.{kept_log-push}
+use Rattle.causal_model.proofs.Delivery.Settling.{last_is_next}
 use Rattle.polog.specs.Standing.{IsLogOf, IsLogged, KeepsStripped}
 use Rattle.polog.specs.Value.{Log, without_stable, is_settled}
 use Rattle.stable_state.specs.Shelf.{Shelved}

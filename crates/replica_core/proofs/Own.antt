@@ -12,10 +12,10 @@ use Rattle.causal_model.specs.Counts.{count_of, next_tag, is_carried}
 use Rattle.causal_model.specs.State.{with_own, State}
 use Rattle.causal_model.specs.Sending.{HasRoom, own_message, RuleGives}
 use Rattle.causal_model.specs.States.{IsState}
-use Rattle.causal_model.proofs.Counts.{length-next_tag, number-own_message}
-use Rattle.causal_model.proofs.Journals.{IsSent, given_is_sent}
-use Rattle.causal_model.proofs.Limits.{counts_are_within, own_message_is_carried}
-use Rattle.causal_model.proofs.States.{own_keeps_state}
+use Rattle.causal_model.proofs.Delivery.Counts.{length-next_tag, number-own_message}
+use Rattle.causal_model.proofs.States.Journals.{IsSent, given_is_sent}
+use Rattle.causal_model.proofs.Delivery.Limits.{counts_are_within, own_message_is_carried}
+use Rattle.causal_model.proofs.States.States.{own_keeps_state}
 use Rattle.replica_core.specs.Rules.{StandsFor, SameSettings, IsDraft, fields_of}
 use Rattle.replica_core.specs.Standing.{Fields, Standing}
 use Rattle.replica_core.specs.declared.replica.Replica.{Replica}

@@ -12,7 +12,7 @@ use Rattle.op_base.specs.declared.operation.Op.{Op}
 use Rattle.op_base.specs.declared.operation.Op.TheVariants as op
 use Rattle.causal_model.specs.Acts.{is_clear, same_value, value_of}
 use Rattle.causal_model.specs.Covering.{covers_act, store_keeps, store_covers}
-use Rattle.causal_model.proofs.Rules.{object_from_same, covers_one_object}
+use Rattle.causal_model.proofs.Answers.Rules.{object_from_same, covers_one_object}
 use Rattle.polog.specs.Marks.{IsReached, Reaches}
 use Rattle.polog.specs.declared.reach.Reach.TheVariants.{Nothing, Value, Object}
 use Rattle.replica_core.specs.Reach.{reach_in, reach_of}

@@ -11,7 +11,7 @@ use Rattle.causal_model.specs.State.{State}
 use Rattle.causal_model.specs.declared.outcome.Receive.{Receive}
 use Rattle.causal_model.specs.declared.outcome.Receive.TheVariants as receive
 use Rattle.causal_model.specs.declared.outcome.Refusal.{Refusal}
-use Rattle.causal_model.proofs.Outcomes.{accepted_is_accepted, unrefused}
+use Rattle.causal_model.proofs.States.Outcomes.{accepted_is_accepted, unrefused}
 use Rattle.replica_core.specs.Rules.{StandsFor, Unchanged}
 use Rattle.replica_core.specs.Steps.{HasStepped}
 use Rattle.replica_core.specs.declared.replica.Replica.{Replica}

@@ -7,10 +7,10 @@ use Rattle.causal_model.specs.History.{is_all_stable}
 use Rattle.causal_model.specs.Journal.{regrouped}
 use Rattle.causal_model.specs.State.{State}
 use Rattle.causal_model.specs.KeptElements.{KeptElement}
-use Rattle.causal_model.proofs.Begin.{counts-none}
-use Rattle.causal_model.proofs.KeptOfOneMore.{regroup_keeps_lists}
-use Rattle.causal_model.proofs.Regrouping.{regroup_keeps_items}
-use Rattle.causal_model.proofs.States.{regroup_keeps_state}
+use Rattle.causal_model.proofs.Delivery.Begin.{counts-none}
+use Rattle.causal_model.proofs.Lists.KeptOfOneMore.{regroup_keeps_lists}
+use Rattle.causal_model.proofs.Events.Regrouping.{regroup_keeps_items}
+use Rattle.causal_model.proofs.States.States.{regroup_keeps_state}
 use Rattle.stability_matrix.specs.Rows.{Known}
 use Rattle.stability_matrix.specs.Standing.{IsMatrixOf}
 use Rattle.stable_state.specs.Shelf.{Shelved}

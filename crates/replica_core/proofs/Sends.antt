@@ -12,7 +12,7 @@ use Rattle.causal_model.specs.Sending.{own_message, RuleGives, sending, beating,
 use Rattle.causal_model.specs.Stability.{unstable_operations, unstable_noops, noop_window}
 use Rattle.causal_model.specs.declared.outcome.Beat.TheVariants as beat
 use Rattle.causal_model.specs.declared.outcome.Local.TheVariants as local
-use Rattle.causal_model.proofs.Limits.{counts_are_within}
+use Rattle.causal_model.proofs.Delivery.Limits.{counts_are_within}
 use Rattle.replica_core.specs.Rules.{IsDraft}
 use Rattle.replica_core.specs.Standing.{Fields, Standing}
 use Rattle.replica_core.specs.declared.replica.Replica.{Replica}

@@ -14,10 +14,10 @@ use Rattle.causal_model.specs.Covering.{store_keeps, store_covers}
 use Rattle.causal_model.specs.History.{History, with_message, is_history, epoch_of}
 use Rattle.causal_model.specs.ListSteps.{pruned}
 use Rattle.causal_model.specs.Parts.{is_on}
-use Rattle.causal_model.proofs.KeptOfOneMore.{kept_stays_pruned, others_move_nothing}
-use Rattle.causal_model.proofs.Rules.{object_from_same}
-use Rattle.causal_model.proofs.ShownLists.{kept_moves_by_entry}
-use Rattle.causal_model.proofs.MovedSums.{moved_sums_are_bounded}
+use Rattle.causal_model.proofs.Lists.KeptOfOneMore.{kept_stays_pruned, others_move_nothing}
+use Rattle.causal_model.proofs.Answers.Rules.{object_from_same}
+use Rattle.causal_model.proofs.Lists.ShownLists.{kept_moves_by_entry}
+use Rattle.causal_model.proofs.Cells.MovedSums.{moved_sums_are_bounded}
 use Rattle.polog.specs.Standing.{IsLogOf, HandsOut, KeepsHandingOut}
 use Rattle.polog.specs.Value.{Log, with_stripped}
 use Rattle.stable_state.specs.Laws.{HasRange}

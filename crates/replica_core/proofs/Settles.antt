@@ -25,12 +25,12 @@ use Rattle.causal_model.specs.Covering.{store_keeps, store_covers}
 use Rattle.causal_model.specs.History.{History, with_message}
 use Rattle.causal_model.specs.Items.{cell_in}
 use Rattle.causal_model.specs.Order.{happened_before}
-use Rattle.causal_model.proofs.Histories.{IsHistory-from_test, IsLimited-from_test}
-use Rattle.causal_model.proofs.KeptOfOneMore.{new_id_is_fresh}
-use Rattle.causal_model.proofs.Lengths.{chapter_is_bounded}
-use Rattle.causal_model.proofs.MovedCells.{counter_is_not_kept}
-use Rattle.causal_model.proofs.MovedSums.{moved_sums_are_bounded}
-use Rattle.causal_model.proofs.Settling.{last_is_next}
+use Rattle.causal_model.proofs.Events.Histories.{IsHistory-from_test, IsLimited-from_test}
+use Rattle.causal_model.proofs.Lists.KeptOfOneMore.{new_id_is_fresh}
+use Rattle.causal_model.proofs.Delivery.Lengths.{chapter_is_bounded}
+use Rattle.causal_model.proofs.Cells.MovedCells.{counter_is_not_kept}
+use Rattle.causal_model.proofs.Cells.MovedSums.{moved_sums_are_bounded}
+use Rattle.causal_model.proofs.Delivery.Settling.{last_is_next}
 use Rattle.polog.specs.Standing.{IsPruned, IsLogged, KeepsPruned}
 use Rattle.polog.specs.Value.{Log, with_entries, with_entry, stays}
 use Rattle.polog.proofs.Standing.{logged-is, has-room}

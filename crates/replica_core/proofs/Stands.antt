@@ -12,10 +12,10 @@ use Rattle.causal_model.specs.Chapter.{is_chapter}
 use Rattle.causal_model.specs.Counts.{count_of, counts, are_carried}
 use Rattle.causal_model.specs.State.{State}
 use Rattle.causal_model.specs.Stability.{known_vector}
-use Rattle.causal_model.proofs.Counts.{length-counts, entry-counts}
+use Rattle.causal_model.proofs.Delivery.Counts.{length-counts, entry-counts}
 use Rattle.causal_model.specs.KeptElements.{KeptElement}
-use Rattle.causal_model.proofs.Histories.{IsHistory-from_test, IsLimited-from_test}
-use Rattle.causal_model.proofs.Lengths.{chapter_is_bounded}
+use Rattle.causal_model.proofs.Events.Histories.{IsHistory-from_test, IsLimited-from_test}
+use Rattle.causal_model.proofs.Delivery.Lengths.{chapter_is_bounded}
 use Rattle.stable_state.specs.Shelf.{Shelved}
 use Rattle.causal_model.specs.States.{IsState}
 use Rattle.causal_buffer.specs.Buffer.{Buffer, AreAhead, AreNear}

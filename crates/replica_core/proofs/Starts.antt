@@ -5,8 +5,8 @@ use Rattle.op_base.specs.declared.name.ObjectId.{ObjectId}
 use Rattle.causal_model.specs.Covering.{store_keeps, store_covers}
 use Rattle.causal_model.specs.History.{no_history}
 use Rattle.causal_model.specs.State.{start}
-use Rattle.causal_model.proofs.Begin.{counts-none}
-use Rattle.causal_model.proofs.States.{start_is_state}
+use Rattle.causal_model.proofs.Delivery.Begin.{counts-none}
+use Rattle.causal_model.proofs.States.States.{start_is_state}
 use Rattle.stability_matrix.specs.Rows.{Known}
 use Rattle.stability_matrix.specs.Standing.{IsMatrixOf}
 use Rattle.tag_window.specs.Window.{Window}

@@ -13,11 +13,11 @@ use Rattle.causal_model.specs.State.{with_own, State, counted}
 use Rattle.causal_model.specs.Sending.{outbox_of, is_noop_due}
 use Rattle.causal_model.specs.Stability.{stable_vector, noop_window}
 use Rattle.causal_model.specs.States.{IsState}
-use Rattle.causal_model.proofs.Chapters.{IsNext}
-use Rattle.causal_model.proofs.Counts.{counts-push}
-use Rattle.causal_model.proofs.Histories.{IsHistory-from_test}
-use Rattle.causal_model.proofs.Sends.{is_noop_due-push}
-use Rattle.causal_model.proofs.Settling.{last_is_next}
+use Rattle.causal_model.proofs.Delivery.Chapters.{IsNext}
+use Rattle.causal_model.proofs.Delivery.Counts.{counts-push}
+use Rattle.causal_model.proofs.Events.Histories.{IsHistory-from_test}
+use Rattle.causal_model.proofs.Delivery.Sends.{is_noop_due-push}
+use Rattle.causal_model.proofs.Delivery.Settling.{last_is_next}
 use Rattle.stability_matrix.specs.Rows.{Known}
 use Rattle.stability_matrix.specs.Standing.{IsMatrixOf}
 use Rattle.tag_window.specs.Window.{Window, held_of, IsNextNumber}

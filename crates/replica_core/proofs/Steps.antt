@@ -8,7 +8,7 @@ use Rattle.op_base.specs.declared.message.Message.{Message}
 use Rattle.causal_model.specs.Chapter.{is_admissible, is_next, is_chapter}
 use Rattle.causal_model.specs.Counts.{counts, next_tag, is_deliverable}
 use Rattle.causal_model.specs.Crook.{crook_of}
-use Rattle.causal_model.proofs.Chapters.{is_chapter-push}
+use Rattle.causal_model.proofs.Delivery.Chapters.{is_chapter-push}
 
 -- what the last message of a chapter was before it was delivered
 module _ (n w me : ℕ) (messages : List Message) (m : Message) (chapter : IsTrue (is_chapter n w me (messages ++ m ∷ []))) where

@@ -22,10 +22,10 @@ use Rattle.causal_model.specs.Receiving.{next_of, is_old, is_far, crook_after, s
 use Rattle.causal_model.specs.Early.{has_id, without}
 use Rattle.causal_model.specs.Stability.{last_tag, known_vector, stable_count, stable_vector}
 use Rattle.causal_model.specs.States.{IsState}
-use Rattle.causal_model.proofs.Early.{StandsBefore, IsNew-from_test, fits_member}
-use Rattle.causal_model.proofs.Finds.{found, fewer_pass}
-use Rattle.causal_model.proofs.States.{step_keeps_state}
-use Rattle.causal_model.proofs.Steps.{has_own_id}
+use Rattle.causal_model.proofs.States.Early.{StandsBefore, IsNew-from_test, fits_member}
+use Rattle.causal_model.proofs.Theory.Finds.{found, fewer_pass}
+use Rattle.causal_model.proofs.States.States.{step_keeps_state}
+use Rattle.causal_model.proofs.States.Steps.{has_own_id}
 use Rattle.stability_matrix.specs.Standing.{IsMatrixOf, StableAfter}
 use Rattle.tag_window.specs.Check.{verdict}
 use Rattle.tag_window.specs.History.{IsWindowOf}

@@ -19,7 +19,7 @@ use Rattle.causal_model.specs.declared.outcome.Receive.{Receive}
 use Rattle.causal_model.specs.declared.outcome.Receive.TheVariants as receive
 use Rattle.causal_model.specs.declared.outcome.Refusal.{Refusal}
 use Rattle.causal_model.specs.declared.outcome.Refusal.TheVariants as refusal
-use Rattle.causal_model.proofs.Outcomes.{notes_of_refused}
+use Rattle.causal_model.proofs.States.Outcomes.{notes_of_refused}
 use Rattle.op_base.specs.declared.outcome.Step.{Step}
 use Rattle.world_model.specs.Stops.{is_send}
 use Rattle.replica_keeper.specs.Called.{HasNoted}

@@ -14,7 +14,7 @@ use Rattle.causal_model.specs.declared.note.Note.TheVariants.{Sent, Kept}
 use Rattle.causal_model.specs.declared.outcome.Local.{Local}
 use Rattle.causal_model.specs.declared.outcome.Local.TheVariants as local
 use Rattle.causal_model.specs.declared.outcome.Beat.{Beat}
-use Rattle.causal_model.proofs.Outcomes.{notes_of_accepted}
+use Rattle.causal_model.proofs.States.Outcomes.{notes_of_accepted}
 use Rattle.replica_core.specs.Rules.{StandsFor, local_of}
 use Rattle.replica_node.specs.Nodes.{state_by}
 use Rattle.replica_node.specs.Rules.{noting}

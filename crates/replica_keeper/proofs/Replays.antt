@@ -10,7 +10,7 @@ use Rattle.causal_model.specs.State.{State}
 use Rattle.causal_model.specs.declared.note.Note.{Note}
 use Rattle.causal_model.specs.declared.note.Note.TheVariants.{Sent, Kept}
 use Rattle.causal_model.specs.declared.outcome.Refusal.{Refusal}
-use Rattle.causal_model.proofs.Outcomes.{notes_of_accepted, notes_of_refused}
+use Rattle.causal_model.proofs.States.Outcomes.{notes_of_accepted, notes_of_refused}
 use Rattle.frame_codec.specs.Grammar.{frame_of}
 use Rattle.frame_codec.specs.Message.{frame_read}
 use Rattle.frame_codec.specs.declared.fault.FrameFault.{FrameFault}

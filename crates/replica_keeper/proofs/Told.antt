@@ -19,7 +19,7 @@ use Rattle.causal_model.specs.Sending.{RuleGives}
 use Rattle.causal_model.specs.State.{State}
 use Rattle.causal_model.specs.declared.note.Note.{Note}
 use Rattle.causal_model.specs.declared.note.Note.TheVariants.{Sent, Kept}
-use Rattle.causal_model.proofs.Outcomes.{notes_of_accepted}
+use Rattle.causal_model.proofs.States.Outcomes.{notes_of_accepted}
 use Rattle.frame_codec.specs.Grammar.{frame_of, number_field, text_field, place_field, argument_field, operation_fields}
 use Rattle.frame_codec.specs.Message.{frame_read}
 use Rattle.frame_codec.specs.declared.version.Version.TheVariants.{Two}

@@ -14,8 +14,8 @@ use Rattle.causal_model.specs.State.{State}
 use Rattle.causal_model.specs.Stability.{is_stable, stable_vector}
 use Rattle.causal_model.specs.States.{IsState}
 use Rattle.causal_model.specs.declared.note.Note.{Note}
-use Rattle.causal_model.proofs.Chapters.{chapter_induction}
-use Rattle.causal_model.proofs.Histories.{IsHistory-from_test, IsLimited-from_test}
+use Rattle.causal_model.proofs.Delivery.Chapters.{chapter_induction}
+use Rattle.causal_model.proofs.Events.Histories.{IsHistory-from_test, IsLimited-from_test}
 use Rattle.replica_node.specs.Nodes.{state_by}
 use Rattle.replica_lock.specs.Rules.{outbox_in, state_in, IsOutbox}
 use Rattle.replica_lock.specs.Turns.{NotedNode, NotedTurn, Fits}

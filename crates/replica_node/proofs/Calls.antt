@@ -10,8 +10,8 @@ use Rattle.causal_model.specs.Receiving.{with_early, steps, refusal_of, receive_
 use Rattle.causal_model.specs.State.{State, start}
 use Rattle.causal_model.specs.declared.note.Note.{Note}
 use Rattle.causal_model.specs.declared.note.Note.TheVariants.{Kept}
-use Rattle.causal_model.proofs.Journals.{receiving_replays, legal_grows}
-use Rattle.causal_model.proofs.Outcomes.{notes_of_accepted}
+use Rattle.causal_model.proofs.States.Journals.{receiving_replays, legal_grows}
+use Rattle.causal_model.proofs.States.Outcomes.{notes_of_accepted}
 use Rattle.replica_core.specs.Rules.{StandsFor, Unchanged}
 use Rattle.replica_core.proofs.Stands.{unchanged_stands}
 use Rattle.replica_core.specs.declared.replica.Replica.{Replica}

@@ -4,7 +4,7 @@ use Rattle.op_base.specs.declared.message.Message.{Message}
 use Rattle.causal_model.specs.Early.{stands_before, put_early}
 use Rattle.causal_model.specs.Receiving.{with_early, steps}
 use Rattle.causal_model.specs.State.{State}
-use Rattle.causal_model.proofs.Steps.{steps_take_messages_out}
+use Rattle.causal_model.proofs.States.Steps.{steps_take_messages_out}
 
 length-put_early : (m : Message) (early : List Message) → length (put_early m early) ≡ length early + 1
 length-put_early m [] = omega arith

@@ -13,10 +13,10 @@ use Rattle.causal_model.specs.Sending.{own_message, RuleGives}
 use Rattle.causal_model.specs.State.{State}
 use Rattle.causal_model.specs.States.{IsState}
 use Rattle.causal_model.specs.declared.note.Note.TheVariants.{Sent}
-use Rattle.causal_model.proofs.Counts.{length-next_tag, number-own_message}
-use Rattle.causal_model.proofs.Histories.{IsHistory-from_test, IsLimited-from_test}
-use Rattle.causal_model.proofs.Journals.{IsSent, given_is_sent}
-use Rattle.causal_model.proofs.Limits.{own_message_is_carried, counts_are_within}
+use Rattle.causal_model.proofs.Delivery.Counts.{length-next_tag, number-own_message}
+use Rattle.causal_model.proofs.Events.Histories.{IsHistory-from_test, IsLimited-from_test}
+use Rattle.causal_model.proofs.States.Journals.{IsSent, given_is_sent}
+use Rattle.causal_model.proofs.Delivery.Limits.{own_message_is_carried, counts_are_within}
 use Rattle.replica_core.specs.Rules.{StandsFor, IsDraft}
 use Rattle.replica_core.specs.declared.replica.Replica.{Replica}
 

@@ -6,7 +6,7 @@ use Rattle.causal_model.specs.Journal.{regrouped, IsGroup, regrouped_as, IsLegal
 use Rattle.causal_model.specs.State.{State}
 use Rattle.causal_model.specs.declared.note.Note.{Note}
 use Rattle.causal_model.specs.declared.note.Note.TheVariants.{Regroup}
-use Rattle.causal_model.proofs.Histories.{IsHistory-from_test}
+use Rattle.causal_model.proofs.Events.Histories.{IsHistory-from_test}
 use Rattle.replica_core.specs.Rules.{StandsFor}
 use Rattle.replica_core.specs.declared.replica.Replica.{Replica}
 use Rattle.replica_node.specs.Epochs.{IsNextOf}

@@ -3,8 +3,8 @@ use Rattle.std.proofs.Common.{ℕ, ◌+◌, ◌*◌, ◌≤◌, ◌&&◌, nat_lt
 use Rattle.std.proofs.lemmas.Bool.{and_parts, leb-true}
 use Rattle.causal_model.specs.State.{State, counted}
 use Rattle.causal_model.specs.Stability.{noop_window}
-use Rattle.causal_model.proofs.Early.{all_early_is_bounded}
-use Rattle.causal_model.proofs.Histories.{IsHistory-from_test}
+use Rattle.causal_model.proofs.States.Early.{all_early_is_bounded}
+use Rattle.causal_model.proofs.Events.Histories.{IsHistory-from_test}
 use Rattle.replica_core.specs.Numbers.{is_from_to, are_numbers}
 use Rattle.replica_core.specs.Standing.{Fields, Standing}
 

@@ -8,8 +8,8 @@ use Rattle.causal_model.specs.declared.outcome.Local.TheVariants as local
 use Rattle.causal_model.specs.Stability.{unstable_operations}
 use Rattle.causal_model.specs.Counts.{count_of}
 use Rattle.causal_model.specs.Covering.{store_keeps, store_covers}
-use Rattle.causal_model.proofs.Histories.{present_is_chapter}
-use Rattle.causal_model.proofs.Logs.{log_is_bounded}
+use Rattle.causal_model.proofs.Events.Histories.{present_is_chapter}
+use Rattle.causal_model.proofs.Delivery.Logs.{log_is_bounded}
 use Rattle.script_lang.specs.Commands.{line_of}
 use Rattle.script_lang.specs.declared.command.Command.{Command}
 use Rattle.script_lang.specs.declared.command.Command.TheVariants as command

@@ -10,7 +10,7 @@ use Rattle.op_base.specs.declared.message.Message.{Message}
 use Rattle.op_base.specs.declared.operation.Update.{Update}
 use Rattle.op_base.specs.declared.operation.Op.{Op}
 use Rattle.op_base.specs.declared.operation.Op.TheVariants as op
-use Rattle.causal_model.proofs.Counts.{length-counts, length-next_tag}
+use Rattle.causal_model.proofs.Delivery.Counts.{length-counts, length-next_tag}
 use Rattle.causal_model.specs.State.{start}
 use Rattle.causal_model.specs.Follows.{Follows}
 use Rattle.causal_model.specs.Sending.{own_message, is_beat, local_messages, beat_messages}

@@ -9,9 +9,9 @@ use Rattle.op_base.specs.Timestamp.{entry, zero_tag}
 use Rattle.op_base.specs.declared.message.Message.{Message}
 use Rattle.causal_model.specs.Counts.{members, count_of, counts, next_tag}
 use Rattle.causal_model.specs.Stability.{known_vector, last_tag, minimum, stable_vector}
-use Rattle.causal_model.proofs.Counts.{entry-counts}
-use Rattle.causal_model.proofs.Stability.{known_vector-push}
-use Rattle.causal_model.proofs.Begin.{known_vector-none, stable_vector-none}
+use Rattle.causal_model.proofs.Delivery.Counts.{entry-counts}
+use Rattle.causal_model.proofs.Delivery.Stability.{known_vector-push}
+use Rattle.causal_model.proofs.Delivery.Begin.{known_vector-none, stable_vector-none}
 use Rattle.stability_matrix.specs.Rows.{Known, row_of, stable_of, noted}
 use Rattle.stability_matrix.specs.Standing.{IsMatrixOf, ComesNext, KeepsKnown, KeepsKnownOfOwn, StableAfter}
 

@@ -10,7 +10,7 @@ use Rattle.op_base.specs.declared.outcome.Cell.{Cell}
 use Rattle.op_base.specs.declared.outcome.Item.{Item}
 use Rattle.op_base.proofs.Orders.{items_tied}
 use Rattle.causal_model.specs.Items.{zero_cell, is_at, cell_in}
-use Rattle.causal_model.proofs.Places.{is_equal, places_total}
+use Rattle.causal_model.proofs.Cells.Places.{is_equal, places_total}
 use Rattle.stable_state.specs.Picked.{is_place}
 
 -- an object and a value are at themselves

@@ -16,8 +16,8 @@ use Rattle.op_base.specs.declared.operation.Update.{Update}
 use Rattle.op_base.specs.declared.outcome.Item.{Item}
 use Rattle.causal_model.specs.Acts.{is_clear, value_of, same_value}
 use Rattle.causal_model.specs.CellSteps.{covers_place, covers_value}
-use Rattle.causal_model.proofs.KindCells.{place_parts}
-use Rattle.causal_model.proofs.Rules.{object_from_same}
+use Rattle.causal_model.proofs.Cells.KindCells.{place_parts}
+use Rattle.causal_model.proofs.Answers.Rules.{object_from_same}
 use Rattle.stable_state.specs.Picked.{ArePicked, is_place, is_set}
 
 -- where two tests agree, the same items pass

@@ -23,9 +23,9 @@ use Rattle.causal_model.specs.History.{History, with_message, is_history}
 use Rattle.causal_model.specs.Items.{cell_in, Rise, AreFilled}
 use Rattle.causal_model.specs.Query.{IsWithin}
 use Rattle.causal_model.specs.Settled.{settled_cell, settled_items}
-use Rattle.causal_model.proofs.ItemMaps.{same_cells_same_list}
-use Rattle.causal_model.proofs.MovedCells.{cell_is_moved, counter_kind}
-use Rattle.causal_model.proofs.Places.{items_are_cells, items_are_filled, items_rise}
+use Rattle.causal_model.proofs.Cells.ItemMaps.{same_cells_same_list}
+use Rattle.causal_model.proofs.Cells.MovedCells.{cell_is_moved, counter_kind}
+use Rattle.causal_model.proofs.Cells.Places.{items_are_cells, items_are_filled, items_rise}
 use Rattle.stable_state.specs.Picked.{is_place, names_place}
 use Rattle.stable_state.specs.Settling.{settled_by}
 use Rattle.stable_state.specs.Shelf.{Shelved}

@@ -12,7 +12,7 @@ use Rattle.op_base.specs.declared.name.ObjectId.{ObjectId}
 use Rattle.op_base.specs.declared.outcome.Cell.{Cell}
 use Rattle.op_base.specs.declared.outcome.Item.{Item}
 use Rattle.causal_model.specs.Items.{is_filled, Rise}
-use Rattle.causal_model.proofs.Elements.{AllPairs-append}
+use Rattle.causal_model.proofs.Theory.Elements.{AllPairs-append}
 use Rattle.slab.specs.Slab.{Slab, get, ContainsKey, slab_len, with_value, Updates}
 use Rattle.stable_state.specs.Places.{with_cell}
 use Rattle.stable_state.specs.Slots.{no_item, item_in, items_in, IsOrdered, AreCopied}

@@ -19,8 +19,8 @@ use Rattle.op_base.specs.declared.name.ObjectId.{ObjectId}
 use Rattle.op_base.specs.declared.outcome.Item.{Item}
 use Rattle.op_base.proofs.Orders.{items_tied}
 use Rattle.causal_model.specs.Items.{is_at, Rise}
-use Rattle.causal_model.proofs.Elements.{AllPairs-append}
-use Rattle.causal_model.proofs.Places.{places_total}
+use Rattle.causal_model.proofs.Theory.Elements.{AllPairs-append}
+use Rattle.causal_model.proofs.Cells.Places.{places_total}
 use Rattle.slab.specs.Slab.{Slab, get, ContainsKey}
 use Rattle.stable_state.specs.Places.{is_before, is_up_to, IsParted, RisesWithOneAt, IsGapFor, IsSpan}
 use Rattle.stable_state.specs.Slots.{no_item, item_in, items_in}

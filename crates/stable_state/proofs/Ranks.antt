@@ -15,7 +15,7 @@ use Rattle.op_base.specs.Name.{is_key, is_key_byte}
 use Rattle.op_base.specs.Object.{kind_place}
 use Rattle.op_base.specs.Order.{text_cmp, item_cmp}
 use Rattle.op_base.specs.declared.name.ObjectId.{ObjectId}
-use Rattle.causal_model.proofs.Places.{places_total}
+use Rattle.causal_model.proofs.Cells.Places.{places_total}
 use Rattle.stable_state.specs.Ranks.{item_text, rank_of, rank_cmp, IsNamed}
 
 -- ---- the number of a text's first bytes, by the text

@@ -10,7 +10,7 @@ use Rattle.std.specs.declared.cmp.Ordering.TheVariants.{Less, Equal}
 use Rattle.op_base.specs.Order.{item_cmp}
 use Rattle.op_base.specs.declared.outcome.Item.{Item}
 use Rattle.causal_model.specs.Items.{Rise}
-use Rattle.causal_model.proofs.Places.{places_total}
+use Rattle.causal_model.proofs.Cells.Places.{places_total}
 use Rattle.slab.specs.Slab.{Slab, get, ContainsKey}
 use Rattle.stable_state.specs.Slots.{no_item, item_in, items_in}
 

@@ -14,11 +14,11 @@ use Rattle.op_base.specs.Order.{item_cmp, object_cmp}
 use Rattle.op_base.specs.declared.name.ObjectId.{ObjectId}
 use Rattle.op_base.specs.declared.outcome.Item.{Item}
 use Rattle.causal_model.specs.Items.{zero_cell, is_at, is_filled, cell_in, Rise, AreFilled}
-use Rattle.causal_model.proofs.ItemMaps.{filter_all_of}
-use Rattle.causal_model.proofs.KindCells.{place_parts}
-use Rattle.causal_model.proofs.Lists.{filter_none}
-use Rattle.causal_model.proofs.Places.{places_total}
-use Rattle.causal_model.proofs.Rules.{object_from_same}
+use Rattle.causal_model.proofs.Cells.ItemMaps.{filter_all_of}
+use Rattle.causal_model.proofs.Cells.KindCells.{place_parts}
+use Rattle.causal_model.proofs.Theory.Lists.{filter_none}
+use Rattle.causal_model.proofs.Cells.Places.{places_total}
+use Rattle.causal_model.proofs.Answers.Rules.{object_from_same}
 use Rattle.stable_state.specs.Picked.{ArePicked, is_place}
 use Rattle.stable_state.specs.Places.{IsGapFor, IsSpan}
 use Rattle.stable_state.specs.Shelf.{without_span}

@@ -12,7 +12,7 @@ use Rattle.op_base.specs.declared.name.ObjectId.{ObjectId}
 use Rattle.op_base.specs.declared.outcome.Cell.{Cell}
 use Rattle.op_base.specs.declared.outcome.Item.{Item}
 use Rattle.causal_model.specs.Items.{is_at, cell_in}
-use Rattle.causal_model.proofs.Elements.{item_from_list_any, list_any-from_item, list_any-map}
+use Rattle.causal_model.proofs.Theory.Elements.{item_from_list_any, list_any-from_item, list_any-map}
 use Rattle.slab.specs.Slab.{Slab, get, Updates}
 use Rattle.stable_state.specs.Places.{IsGapFor}
 use Rattle.stable_state.specs.Shelf.{Shelved, without_span}

@@ -29,15 +29,15 @@ use Rattle.causal_model.specs.Log.{log_of, stripped_of, is_covered_by}
 use Rattle.causal_model.specs.Order.{happened_before}
 use Rattle.causal_model.specs.Settled.{settled_cell}
 use Rattle.causal_model.specs.Stability.{stable_vector, is_stable}
-use Rattle.causal_model.proofs.Elements.{item_from_list_any, list_any-from_item}
-use Rattle.causal_model.proofs.Events.{present_is_followed}
-use Rattle.causal_model.proofs.KindCells.{place_parts}
-use Rattle.causal_model.proofs.Logs.{kept_log-push}
-use Rattle.causal_model.proofs.Members.{member_of_filter}
-use Rattle.causal_model.proofs.MovedCells.{counter_kind}
-use Rattle.causal_model.proofs.Rules.{object_from_same}
-use Rattle.causal_model.proofs.SettledCells.{settled_given, settled_is_given}
-use Rattle.causal_model.proofs.Stripped.{pruned_of}
+use Rattle.causal_model.proofs.Theory.Elements.{item_from_list_any, list_any-from_item}
+use Rattle.causal_model.proofs.Events.Events.{present_is_followed}
+use Rattle.causal_model.proofs.Cells.KindCells.{place_parts}
+use Rattle.causal_model.proofs.Delivery.Logs.{kept_log-push}
+use Rattle.causal_model.proofs.Theory.Members.{member_of_filter}
+use Rattle.causal_model.proofs.Cells.MovedCells.{counter_kind}
+use Rattle.causal_model.proofs.Answers.Rules.{object_from_same}
+use Rattle.causal_model.proofs.Cells.SettledCells.{settled_given, settled_is_given}
+use Rattle.causal_model.proofs.Delivery.Stripped.{pruned_of}
 use Rattle.stable_state.specs.Picked.{is_place, names_place}
 use Rattle.stable_state.specs.Settling.{remove_wins}
 use Rattle.stable_state.proofs.Cells.{same_place}

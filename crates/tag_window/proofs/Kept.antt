@@ -13,9 +13,9 @@ use Rattle.causal_model.specs.Chapter.{is_chapter, is_next, is_admissible}
 use Rattle.causal_model.specs.Counts.{counts, is_deliverable}
 use Rattle.causal_model.specs.Crook.{first_some, regress_of, unclosed_of, overrun_of, noop_overrun_of, crook_of}
 use Rattle.causal_model.specs.Stability.{stable_vector, is_stable, unstable_messages, unstable_of}
-use Rattle.causal_model.proofs.Chapters.{is_chapter-push}
-use Rattle.causal_model.proofs.Lists.{filter-filter}
-use Rattle.causal_model.proofs.Unclosed.{unstable_messages-push}
+use Rattle.causal_model.proofs.Delivery.Chapters.{is_chapter-push}
+use Rattle.causal_model.proofs.Theory.Lists.{filter-filter}
+use Rattle.causal_model.proofs.Delivery.Unclosed.{unstable_messages-push}
 use Rattle.tag_window.specs.declared.held.Held.{Held}
 use Rattle.tag_window.specs.Window.{Window, held_of}
 use Rattle.tag_window.specs.History.{held_message, IsWindowOf, IsWindowWith}

@@ -6,7 +6,7 @@ use Rattle.std.proofs.lemmas.Bool.{cases_eq, cond-true, cond-false, lt-ltb, fals
 use Rattle.std.proofs.lemmas.List.{get_or-map, length-map, map-set, same_lists, set-get_or, get_or-set_same, get_or-set_other, length-set, get_or-replicate, length-replicate}
 use Rattle.std.proofs.lemmas.List.Elements.{All-nil, All-push, All-weaker}
 use Rattle.std.proofs.Math.Nat.{min-le_left, min-le_right}
-use Rattle.causal_model.proofs.ItemMaps.{filter_all_of}
+use Rattle.causal_model.proofs.Cells.ItemMaps.{filter_all_of}
 use Rattle.op_base.specs.Timestamp.{entry, zero_tag}
 use Rattle.causal_model.specs.Counts.{members}
 use Rattle.causal_model.specs.Crook.{first_some}

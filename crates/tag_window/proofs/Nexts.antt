@@ -8,8 +8,8 @@ use Rattle.op_base.specs.Timestamp.{entry}
 use Rattle.op_base.specs.declared.message.Message.{Message}
 use Rattle.causal_model.specs.Chapter.{is_chapter}
 use Rattle.causal_model.specs.Stability.{noop_window, unstable_messages, unstable_of}
-use Rattle.causal_model.proofs.Numbered.{next_follows_unstable}
-use Rattle.causal_model.proofs.Settling.{last_is_next}
+use Rattle.causal_model.proofs.Delivery.Numbered.{next_follows_unstable}
+use Rattle.causal_model.proofs.Delivery.Settling.{last_is_next}
 use Rattle.tag_window.specs.declared.held.Held.{Held}
 use Rattle.tag_window.specs.Window.{Window, held_of, IsNextNumber}
 use Rattle.tag_window.specs.History.{held_message, IsWindowOf}

@@ -5,7 +5,7 @@ use Rattle.std.proofs.lemmas.Bool.{cases_eq, cases_lt, cond-true, cond-false, eq
 use Rattle.std.proofs.lemmas.List.{get_or_default, get_or_append_left, get_or_push, get_or-drop, drop_more}
 use Rattle.std.proofs.lemmas.List.Elements.{All-push, All-drop, All-from_get_or, All-head, All-tail}
 use Rattle.std.proofs.lemmas.List.Sums.{sum_by_push, sum_by-cons}
-use Rattle.causal_model.proofs.ItemMaps.{filter_all_of}
+use Rattle.causal_model.proofs.Cells.ItemMaps.{filter_all_of}
 use Rattle.op_base.specs.Timestamp.{entry, zero_tag}
 use Rattle.tag_window.specs.declared.held.Held.{Held}
 use Rattle.tag_window.specs.Window.{IsNextNumber}

@@ -11,14 +11,14 @@ use Rattle.op_base.specs.declared.message.Message.{Message}
 use Rattle.causal_model.specs.Chapter.{is_chapter}
 use Rattle.causal_model.specs.Counts.{members, count_of, counts}
 use Rattle.causal_model.specs.Stability.{last_tag, known_vector, minimum, stable_count, stable_vector, is_stable, unstable_messages, unstable_of}
-use Rattle.causal_model.proofs.Chapters.{chapter_induction}
-use Rattle.causal_model.proofs.Counts.{entry-counts, count_of-push_own, count_of-push_other}
-use Rattle.causal_model.proofs.ItemMaps.{filter_all_of}
-use Rattle.causal_model.proofs.Limits.{numbers_are_counted}
-use Rattle.causal_model.proofs.Lists.{filter-filter}
-use Rattle.causal_model.proofs.Settling.{stable_count-le-known}
-use Rattle.causal_model.proofs.Stability.{last_tag-push, known_vector-push, entry-stable}
-use Rattle.causal_model.proofs.Timestamps.{entry-zero_tag}
+use Rattle.causal_model.proofs.Delivery.Chapters.{chapter_induction}
+use Rattle.causal_model.proofs.Delivery.Counts.{entry-counts, count_of-push_own, count_of-push_other}
+use Rattle.causal_model.proofs.Cells.ItemMaps.{filter_all_of}
+use Rattle.causal_model.proofs.Delivery.Limits.{numbers_are_counted}
+use Rattle.causal_model.proofs.Theory.Lists.{filter-filter}
+use Rattle.causal_model.proofs.Delivery.Settling.{stable_count-le-known}
+use Rattle.causal_model.proofs.Delivery.Stability.{last_tag-push, known_vector-push, entry-stable}
+use Rattle.causal_model.proofs.Delivery.Timestamps.{entry-zero_tag}
 use mathlib.Core.Bool.{and_comm}
 
 -- the last timestamp of a member has the count of its messages

@@ -17,9 +17,9 @@ use Rattle.causal_model.specs.Chapter.{is_chapter}
 use Rattle.causal_model.specs.Counts.{members, counts, is_deliverable}
 use Rattle.causal_model.specs.Crook.{first_some, first_below, tag_of, regress_of, unclosed_at, unclosed_of, overrun_of, noop_overrun_of, crook_of}
 use Rattle.causal_model.specs.Stability.{last_tag, stable_vector, is_stable, carries_operation, unstable_messages, unstable_of, unstable_operations, unstable_noops, noop_window}
-use Rattle.causal_model.proofs.Crooks.{from_rises}
-use Rattle.causal_model.proofs.Timestamps.{entry-zero_tag}
-use Rattle.causal_model.proofs.Unclosed.{window_tells_unclosed, seen_before_is_closed, unstable_messages-push}
+use Rattle.causal_model.proofs.Delivery.Crooks.{from_rises}
+use Rattle.causal_model.proofs.Delivery.Timestamps.{entry-zero_tag}
+use Rattle.causal_model.proofs.Delivery.Unclosed.{window_tells_unclosed, seen_before_is_closed, unstable_messages-push}
 use Rattle.tag_window.specs.declared.held.Held.{Held}
 use Rattle.tag_window.specs.Window.{Window, held_of, is_of_kind, held_count}
 use Rattle.tag_window.specs.Queue.{tag_held}

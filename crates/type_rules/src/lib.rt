@@ -20,7 +20,7 @@ pub struct StoreRule;
 
 impl TypeRule for StoreRule {
     ghost use Rattle.causal_model.specs.Covering.{store_keeps, store_covers};
-    ghost use Rattle.causal_model.proofs.Rules.{covers_one_object, covers_kept_alone, covers_transitively};
+    ghost use Rattle.causal_model.proofs.Answers.Rules.{covers_one_object, covers_kept_alone, covers_transitively};
 
     ghost keeps = { λ _. store_keeps };
 

@@ -10,7 +10,7 @@ use Rattle.std.proofs.lemmas.List.Elements.{All-nil, All-cons, All-weaker, All-h
 use Rattle.std.proofs.lemmas.List.Kept.{AllPairs-cons}
 use Rattle.op_base.specs.Order.{text_cmp}
 use Rattle.causal_model.specs.Query.{TextsRise, put_value}
-use Rattle.causal_model.proofs.Members.{no_member, member_here, member_later, member_cases, pairs_head, pairs_tail}
+use Rattle.causal_model.proofs.Theory.Members.{no_member, member_here, member_later, member_cases, pairs_head, pairs_tail}
 use Rattle.workload.specs.Summary.{in_byte_order}
 
 abbrev IsBefore : List ℕ → List ℕ → Type 0

@@ -4,7 +4,7 @@ use Rattle.std.specs.Cmp.Lexicographic.{bytes_decides, nat_list_eq_equiv}
 use Rattle.std.proofs.lemmas.List.{take_more, map-append, length-map, length-take}
 use Rattle.std.proofs.lemmas.List.Sums.{sum_by-cons, sum_by-append, count_by-le-length}
 use Rattle.op_base.specs.Name.{same_text}
-use Rattle.causal_model.proofs.Members.{no_member, member_here, member_later, member_cases}
+use Rattle.causal_model.proofs.Theory.Members.{no_member, member_here, member_later, member_cases}
 use Rattle.workload.specs.Counts.{count_in, from_1}
 use Rattle.workload.specs.Summary.{times}
 

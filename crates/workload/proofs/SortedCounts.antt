@@ -20,7 +20,7 @@ use Rattle.std.proofs.lemmas.Option.{slice_get-get_or, slice_get_within, get_or_
 use Rattle.op_base.specs.Name.{same_text}
 use Rattle.op_base.specs.Order.{text_cmp}
 use Rattle.causal_model.specs.Query.{TextsRise}
-use Rattle.causal_model.proofs.Values.{one_list_of_texts}
+use Rattle.causal_model.proofs.Answers.Values.{one_list_of_texts}
 use Rattle.workload.specs.Counts.{count_in}
 use Rattle.workload.specs.Summary.{times, in_byte_order, counts_of}
 use Rattle.workload.proofs.ByteOrder.{in_byte_order-rises, in_byte_order-members}

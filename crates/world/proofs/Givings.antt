@@ -17,7 +17,7 @@ use Rattle.op_base.specs.declared.operation.Op.{Op}
 use Rattle.op_base.specs.declared.operation.Op.TheVariants as op
 use Rattle.causal_model.specs.Counts.{is_carried}
 use Rattle.causal_model.specs.Early.{has_id}
-use Rattle.causal_model.proofs.Finds.{found}
+use Rattle.causal_model.proofs.Theory.Finds.{found}
 use Rattle.frame_codec.specs.Grammar.{frame_of, IsArgument, IsOperation, IsFrame}
 use Rattle.frame_codec.proofs.Codes.{op_code_most}
 use Rattle.frame_codec.specs.declared.version.Version.TheVariants.{Two}

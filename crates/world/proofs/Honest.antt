@@ -11,7 +11,7 @@ use Rattle.causal_model.specs.Receiving.{steps_of}
 use Rattle.causal_model.specs.Stability.{unstable_noops}
 use Rattle.causal_model.specs.declared.outcome.Receive.{Receive}
 use Rattle.causal_model.specs.declared.outcome.Receive.TheVariants as receive
-use Rattle.causal_model.proofs.Lists.{fold_has}
+use Rattle.causal_model.proofs.Theory.Lists.{fold_has}
 use Rattle.world_model.specs.Honest.{IsHonest, IsSentMessage}
 use Rattle.world_model.specs.Offering.{none_offered, offered, outbox_in, offered_between, resent_of, resend_at}
 use Rattle.world_model.specs.Settling.{Round, is_delivery, after_offer, after_offers, after_beat, offers_made, world_settled}

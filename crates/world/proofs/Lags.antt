@@ -12,7 +12,7 @@ use Rattle.causal_model.specs.Counts.{members}
 use Rattle.causal_model.specs.State.{State}
 use Rattle.causal_model.specs.Sending.{outbox_of}
 use Rattle.causal_model.specs.Stability.{known_vector, stable_vector, is_stable, unstable_noops}
-use Rattle.causal_model.proofs.Histories.{IsHistory-from_test}
+use Rattle.causal_model.proofs.Events.Histories.{IsHistory-from_test}
 use Rattle.stability_matrix.specs.Rows.{row_of}
 use Rattle.world_model.specs.Offering.{outbox_in}
 use Rattle.world_model.specs.Showing.{lagging}

@@ -10,7 +10,7 @@ use Rattle.causal_model.specs.History.{epoch_of}
 use Rattle.causal_model.specs.Log.{log_of, kept_log, message_of}
 use Rattle.causal_model.specs.Covering.{store_keeps, store_covers}
 use Rattle.causal_model.specs.State.{State, start}
-use Rattle.causal_model.proofs.Histories.{IsLimited-from_test}
+use Rattle.causal_model.proofs.Events.Histories.{IsLimited-from_test}
 use Rattle.replica_core.specs.Numbers.{is_from_to}
 use Rattle.world_model.specs.World.{PlainWorld, size_of, replica_of, epoch_in}
 use Rattle.world_model.specs.Showing.{log_at}

@@ -23,8 +23,8 @@ use Rattle.causal_model.specs.State.{State, start, counted}
 use Rattle.causal_model.specs.declared.note.Note.TheVariants.{Kept}
 use Rattle.causal_model.specs.declared.outcome.Refusal.{Refusal}
 use Rattle.causal_model.specs.declared.outcome.Refusal.TheVariants as refusal
-use Rattle.causal_model.proofs.Journals.{accepting_replays}
-use Rattle.causal_model.proofs.Outcomes.{steps_of_accepted, accepted_is_accepted, steps_of_refused, refused_is_not_accepted}
+use Rattle.causal_model.proofs.States.Journals.{accepting_replays}
+use Rattle.causal_model.proofs.States.Outcomes.{steps_of_accepted, accepted_is_accepted, steps_of_refused, refused_is_not_accepted}
 use Rattle.outbox.specs.Sent.{AreAbove}
 use Rattle.replica_node.specs.Nodes.{state_by}
 use Rattle.world_model.specs.Offering.{Offered, offered, offered_more, none_offered}

@@ -14,9 +14,9 @@ use Rattle.causal_model.specs.Receiving.{steps, with_early}
 use Rattle.causal_model.specs.State.{State, start}
 use Rattle.causal_model.specs.declared.note.Note.{Note}
 use Rattle.causal_model.specs.declared.note.Note.TheVariants.{Sent, Kept, Took, Crook, Regroup}
-use Rattle.causal_model.proofs.Early.{All-put_early}
-use Rattle.causal_model.proofs.Finds.{found}
-use Rattle.causal_model.proofs.Outcomes.{unrefused}
+use Rattle.causal_model.proofs.States.Early.{All-put_early}
+use Rattle.causal_model.proofs.Theory.Finds.{found}
+use Rattle.causal_model.proofs.States.Outcomes.{unrefused}
 
 -- of a note that sent a message
 abbrev Tells : (Message → Type 0) → Note → Type 0

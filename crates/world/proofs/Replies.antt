@@ -17,7 +17,7 @@ use Rattle.causal_model.specs.declared.outcome.Beat.TheVariants as beat
 use Rattle.causal_model.specs.declared.outcome.Local.{Local}
 use Rattle.causal_model.specs.declared.outcome.Local.TheVariants as local
 use Rattle.causal_model.specs.declared.outcome.Receive.{Receive}
-use Rattle.causal_model.proofs.Journals.{sending_replays, beating_replays, receiving_replays}
+use Rattle.causal_model.proofs.States.Journals.{sending_replays, beating_replays, receiving_replays}
 use Rattle.frame_codec.specs.Grammar.{frame_of}
 use Rattle.frame_codec.specs.declared.version.Version.TheVariants.{Two}
 use Rattle.replica_node.specs.Nodes.{state_by}

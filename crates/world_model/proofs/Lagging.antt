@@ -11,10 +11,10 @@ use Rattle.causal_model.specs.Chapter.{is_chapter}
 use Rattle.causal_model.specs.Counts.{members, count_of, counts}
 use Rattle.causal_model.specs.Sending.{outbox_of}
 use Rattle.causal_model.specs.Stability.{last_tag, known_vector, minimum, stable_count}
-use Rattle.causal_model.proofs.Counts.{entry-counts}
-use Rattle.causal_model.proofs.Finds.{found, none_passes}
-use Rattle.causal_model.proofs.Histories.{IsHistory-from_test}
-use Rattle.causal_model.proofs.Numbered.{unstable_are_numbered}
+use Rattle.causal_model.proofs.Delivery.Counts.{entry-counts}
+use Rattle.causal_model.proofs.Theory.Finds.{found, none_passes}
+use Rattle.causal_model.proofs.Events.Histories.{IsHistory-from_test}
+use Rattle.causal_model.proofs.Delivery.Numbered.{unstable_are_numbered}
 use Rattle.world_model.specs.Laws.{NoneLagsIsAllStable, LaggingIsAnother}
 use Rattle.world_model.specs.Showing.{lagging}
 use Rattle.world_model.specs.World.{replica_of}

@@ -9,7 +9,7 @@ use Rattle.op_base.specs.declared.message.Message.{Message}
 use Rattle.op_base.specs.declared.tag.MessageId.{MessageId}
 use Rattle.causal_model.specs.Chapter.{is_chapter}
 use Rattle.causal_model.specs.Early.{has_id}
-use Rattle.causal_model.proofs.Chapters.{chapter_induction}
+use Rattle.causal_model.proofs.Delivery.Chapters.{chapter_induction}
 
 -- each message of a chapter is one of the store
 pub chapter_fits : (n w me : ℕ) (ms : List Message) → IsTrue (is_chapter n w me ms) → All (λ m. IsTrue (fits n m)) ms

@@ -14,11 +14,11 @@ use Rattle.causal_model.specs.Receiving.{next_of, is_old, crook_after, messages_
 use Rattle.causal_model.specs.State.{State, counted}
 use Rattle.causal_model.specs.States.{IsState}
 use Rattle.causal_model.specs.declared.outcome.Refusal.{Refusal}
-use Rattle.causal_model.proofs.Early.{IsNew-from_test}
-use Rattle.causal_model.proofs.Finds.{found}
-use Rattle.causal_model.proofs.Outcomes.{steps_of_accepted, steps_of_refused, unrefused}
-use Rattle.causal_model.proofs.States.{accept_keeps_state, step_keeps_state}
-use Rattle.causal_model.proofs.Steps.{steps_by, none_is_next_after_steps}
+use Rattle.causal_model.proofs.States.Early.{IsNew-from_test}
+use Rattle.causal_model.proofs.Theory.Finds.{found}
+use Rattle.causal_model.proofs.States.Outcomes.{steps_of_accepted, steps_of_refused, unrefused}
+use Rattle.causal_model.proofs.States.States.{accept_keeps_state, step_keeps_state}
+use Rattle.causal_model.proofs.States.Steps.{steps_by, none_is_next_after_steps}
 use Rattle.world_model.specs.Settling.{is_delivery}
 use Rattle.world_model.specs.Worlds.{IsReplica, own_of}
 

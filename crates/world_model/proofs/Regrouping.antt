@@ -11,9 +11,9 @@ use Rattle.causal_model.specs.Log.{log_of}
 use Rattle.causal_model.specs.Query.{answer}
 use Rattle.causal_model.specs.Settled.{settled_items}
 use Rattle.causal_model.specs.State.{State, start}
-use Rattle.causal_model.proofs.Histories.{IsLimited-from_test}
-use Rattle.causal_model.proofs.Regrouping.{regroup_keeps_events, regroup_keeps_items}
-use Rattle.causal_model.proofs.States.{regroup_keeps_state}
+use Rattle.causal_model.proofs.Events.Histories.{IsLimited-from_test}
+use Rattle.causal_model.proofs.Events.Regrouping.{regroup_keeps_events, regroup_keeps_items}
+use Rattle.causal_model.proofs.States.States.{regroup_keeps_state}
 use Rattle.world_model.specs.Laws.{RegroupingKeepsStore, NextEpochBegins, NextEpochShowsTheSame, RefusedChangesNothing, ChangesAreRefused}
 use Rattle.world_model.specs.Regrouping.{last_epoch, is_at_rest, next_replica, next_world, regroup_at, is_regrouped}
 use Rattle.world_model.specs.Settling.{is_quiescent}

@@ -10,8 +10,8 @@ use Rattle.causal_model.specs.Counts.{members}
 use Rattle.causal_model.specs.State.{with_own, State, start}
 use Rattle.causal_model.specs.declared.outcome.Beat.{Beat}
 use Rattle.causal_model.specs.declared.outcome.Beat.TheVariants as beat
-use Rattle.causal_model.proofs.Lengths.{chapter_is_bounded}
-use Rattle.causal_model.proofs.Lists.{fold_has}
+use Rattle.causal_model.proofs.Delivery.Lengths.{chapter_is_bounded}
+use Rattle.causal_model.proofs.Theory.Lists.{fold_has}
 use Rattle.world_model.specs.Laws.{SettlingKeepsWorld, SettlingEnds, MoreRoundsAreNone}
 use Rattle.world_model.specs.Offering.{offered_between}
 use Rattle.world_model.specs.Settling.{Round, is_delivery, with_offered, after_offer, after_offers, with_beat, after_beat, offers_made, round_of, rounds_within, most_rounds}

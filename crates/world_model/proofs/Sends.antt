@@ -12,7 +12,7 @@ use Rattle.causal_model.specs.State.{State, with_own}
 use Rattle.causal_model.specs.declared.note.Note.TheVariants.{Sent}
 use Rattle.causal_model.specs.declared.outcome.Beat.TheVariants as beat
 use Rattle.causal_model.specs.declared.outcome.Local.TheVariants as local
-use Rattle.causal_model.proofs.Journals.{group_keeps_state}
+use Rattle.causal_model.proofs.States.Journals.{group_keeps_state}
 use Rattle.world_model.specs.Worlds.{IsReplica}
 
 -- what is sent after messages is the own message of an update, or of a no-op

@@ -10,8 +10,8 @@ use Rattle.causal_model.specs.Chapter.{is_chapter}
 use Rattle.causal_model.specs.Counts.{is_carried, are_carried}
 use Rattle.causal_model.specs.State.{State}
 use Rattle.causal_model.specs.Early.{has_id}
-use Rattle.causal_model.proofs.Finds.{found}
-use Rattle.causal_model.proofs.Histories.{IsHistory-from_test, IsLimited-from_test}
+use Rattle.causal_model.proofs.Theory.Finds.{found}
+use Rattle.causal_model.proofs.Events.Histories.{IsHistory-from_test, IsLimited-from_test}
 use Rattle.world_model.specs.Laws.{SentAreOwn, SentIsNumbered}
 use Rattle.world_model.specs.World.{PlainWorld, size_of, replica_of, sent_by, sent_message}
 use Rattle.world_model.specs.Worlds.{IsReplica, own_of, IsWorld}

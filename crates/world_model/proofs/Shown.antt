@@ -5,7 +5,7 @@ use Rattle.std.proofs.lemmas.List.Elements.{All-from_get_or}
 use Rattle.std.proofs.lemmas.List.Sums.{AllPass-from_list_all, list_all-from_AllPass}
 use Rattle.causal_model.specs.History.{is_history}
 use Rattle.causal_model.specs.State.{State, start, counted}
-use Rattle.causal_model.proofs.SameEvents.{same_events_answer_alike}
+use Rattle.causal_model.proofs.Events.SameEvents.{same_events_answer_alike}
 use Rattle.world_model.specs.Laws.{SettledIsEqualCounts, SameEventsAnswerAlike}
 use Rattle.world_model.specs.Showing.{seen_at}
 use Rattle.world_model.specs.World.{replica_of}

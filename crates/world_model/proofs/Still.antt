@@ -15,8 +15,8 @@ use Rattle.causal_model.specs.State.{State, start, counted}
 use Rattle.causal_model.specs.declared.outcome.Beat.{Beat}
 use Rattle.causal_model.specs.declared.outcome.Beat.TheVariants as beat
 use Rattle.causal_model.specs.declared.outcome.Receive.TheVariants.{Old}
-use Rattle.causal_model.proofs.Counts.{entry-counts}
-use Rattle.causal_model.proofs.Limits.{numbers_are_counted}
+use Rattle.causal_model.proofs.Delivery.Counts.{entry-counts}
+use Rattle.causal_model.proofs.Delivery.Limits.{numbers_are_counted}
 use Rattle.world_model.specs.Laws.{SettledIsStill}
 use Rattle.world_model.specs.Offering.{Offered, offered, offered_more, none_offered, offered_between, outbox_in}
 use Rattle.world_model.specs.Settling.{Round, with_offered, after_offer, after_offers, with_beat, after_beat, offers_made, world_settled, is_quiescent}

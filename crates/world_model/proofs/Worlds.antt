@@ -6,7 +6,7 @@ use Rattle.std.proofs.lemmas.List.FromFn.{length-map-range_with_len, get_or-map-
 use Rattle.op_base.specs.declared.message.Message.{Message}
 use Rattle.causal_model.specs.History.{epoch_of}
 use Rattle.causal_model.specs.State.{with_own, State, start}
-use Rattle.causal_model.proofs.States.{start_is_state}
+use Rattle.causal_model.proofs.States.States.{start_is_state}
 use Rattle.world_model.specs.Laws.{OpeningIsWorld, OpeningHasSize}
 use Rattle.world_model.specs.World.{PlainWorld, size_of, epoch_in, opening, replica_of, sent_by, with_state, with_sent}
 use Rattle.world_model.specs.Worlds.{IsReplica, own_of, IsWorld, KeepsWorld}

@@ -1,5 +1,5 @@
 use Rattle.std.proofs.Common.{◌≡◌, ◌-◌, sym, subst, ◌∙◌, slice_index_or, arith}
-use Rattle.causal_model.proofs.Rules.{object_from_same}
+use Rattle.causal_model.proofs.Answers.Rules.{object_from_same}
 use Rattle.part_queries.proofs.Cells.{all_of_object, item_is}
 use Rattle.part_queries.proofs.listing.are_all_of.Goals as goal
 

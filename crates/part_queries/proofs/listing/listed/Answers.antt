@@ -8,7 +8,7 @@ use Rattle.op_base.specs.declared.outcome.Cell.{Cell}
 use Rattle.causal_model.specs.Items.{Rise, cell_in}
 use Rattle.causal_model.specs.Parts.{is_in}
 use Rattle.causal_model.specs.Query.{TextsRise}
-use Rattle.causal_model.proofs.Rules.{object_from_same}
+use Rattle.causal_model.proofs.Answers.Rules.{object_from_same}
 use Rattle.part_queries.specs.Finds.{is_put, is_taken, or_put, or_taken, with_mark, AreRising, AreListed, AreNone}
 use Rattle.part_queries.proofs.NextValue.{listed_all, slice_from, rising_from}
 use Rattle.part_queries.proofs.Cells.{listed_but_item, listed_past_item, later_behind, rise_of_rest, item_before, item_is, same_itself}

@@ -2,7 +2,7 @@ use Rattle.std.proofs.Common.{◌≡◌, sym, ◌∙◌, map, option_copied}
 use Rattle.causal_model.specs.Items.{cell_in}
 use Rattle.causal_model.specs.Log.{message_of}
 use Rattle.causal_model.specs.Parts.{is_in, has_by_parts}
-use Rattle.causal_model.proofs.ObjectParts.{has_from_parts}
+use Rattle.causal_model.proofs.Answers.ObjectParts.{has_from_parts}
 use Rattle.part_queries.proofs.membership.has.Goals as goal
 
 pub returns-clause-of : goal.returns-clause-of

@@ -5,7 +5,7 @@ use Rattle.causal_model.specs.Acts.{acts_on}
 use Rattle.causal_model.specs.CellSteps.{puts_in}
 use Rattle.causal_model.specs.Covering.{store_keeps, store_covers}
 use Rattle.causal_model.specs.History.{History, with_message}
-use Rattle.causal_model.proofs.KeptOfOneMore.{kept_of_one_more}
+use Rattle.causal_model.proofs.Lists.KeptOfOneMore.{kept_of_one_more}
 use Rattle.list_type.specs.Shown.{shown as lists_shown}
 use Rattle.polog.specs.Value.{Log}
 use Rattle.stable_state.specs.Shown.{shown}

@@ -1,7 +1,7 @@
 use Rattle.std.proofs.Common.{◌≡◌, ◌++◌, ◌∷◌, [], All, IsTrue, refl, sym, ap, ap₂, subst, ◌∙◌, if◌then◌else◌}
 use Rattle.std.proofs.lemmas.Bool.{eq-eqb, ne_eqb}
 use Rattle.op_base.specs.Message.{fits}
-use Rattle.causal_model.proofs.Settling.{last_is_next}
+use Rattle.causal_model.proofs.Delivery.Settling.{last_is_next}
 use Rattle.outbox.specs.Sent.{ComesAfter}
 use Rattle.replica_core.specs.Steps.{IsSender}
 use Rattle.replica_core.specs.declared.step.Sender.TheVariants as sender

@@ -3,7 +3,7 @@ use Rattle.causal_model.specs.Journal.{step_note, receive_notes}
 use Rattle.causal_model.specs.Receiving.{is_accepted, accepted, receive_by, receive_rule, refusal_of}
 use Rattle.causal_model.specs.declared.note.Note.TheVariants as notes
 use Rattle.causal_model.specs.declared.outcome.Receive.TheVariants as receive
-use Rattle.causal_model.proofs.Outcomes.{notes_of_refused, notes_of_accepted}
+use Rattle.causal_model.proofs.States.Outcomes.{notes_of_refused, notes_of_accepted}
 use Rattle.replica_node.specs.Nodes.{state_by}
 use Rattle.replica_node.proofs.Noted.{unnoted_follows}
 use Rattle.store_io.specs.Keeping.{LeavesOnly}

@@ -3,7 +3,7 @@ use Rattle.std.specs.Prelude.{map}
 use Rattle.causal_model.specs.Acts.{acts_on}
 use Rattle.causal_model.specs.CellSteps.{is_put_in, puts_in}
 use Rattle.causal_model.specs.Log.{message_of}
-use Rattle.causal_model.proofs.Elements.{list_any-map}
+use Rattle.causal_model.proofs.Theory.Elements.{list_any-map}
 use Rattle.stable_state.proofs.items.does_wait.Goals as goal
 
 pub returns-else-not-can_lose_mark : goal.returns-else-not-can_lose_mark

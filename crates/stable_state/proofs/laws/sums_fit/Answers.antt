@@ -2,7 +2,7 @@ use Rattle.std.proofs.Common.{◌+◌, length}
 use Rattle.causal_model.specs.Acts.{value_of}
 use Rattle.causal_model.specs.CellSteps.{cell_absorbed, cell_moved}
 use Rattle.causal_model.specs.Log.{stripped_of, message_of}
-use Rattle.causal_model.proofs.MovedSums.{moved_sums_are_bounded}
+use Rattle.causal_model.proofs.Cells.MovedSums.{moved_sums_are_bounded}
 use Rattle.stable_state.proofs.Moves.{absorbed_more, moved_at_once, sum_fits}
 use Rattle.stable_state.proofs.laws.sums_fit.Goals as goal
 

@@ -5,7 +5,7 @@ use Rattle.op_base.specs.Message.{number, fits}
 use Rattle.causal_model.specs.Receiving.{is_far}
 use Rattle.causal_model.specs.Early.{is_again, put_early}
 use Rattle.causal_model.specs.Stability.{noop_window}
-use Rattle.causal_model.proofs.Early.{All-put_early, IsNew-from_test, IsNear-from_test, fits_member}
+use Rattle.causal_model.proofs.States.Early.{All-put_early, IsNew-from_test, IsNear-from_test, fits_member}
 use Rattle.causal_buffer.specs.Buffer.{Buffer, with_messages, AreAhead, AreNear}
 use Rattle.std.specs.List.{flat_map}
 use Rattle.causal_buffer.proofs.Places.{length-put_early}

@@ -8,7 +8,7 @@ use Rattle.op_base.specs.Message.{id_of, fits}
 use Rattle.op_base.specs.declared.tag.MessageId.{MessageId}
 use Rattle.causal_model.specs.Counts.{is_deliverable}
 use Rattle.causal_model.specs.Early.{has_id}
-use Rattle.causal_model.proofs.Finds.{found}
+use Rattle.causal_model.proofs.Theory.Finds.{found}
 use Rattle.causal_buffer.specs.Buffer.{Buffer}
 use Rattle.causal_buffer.specs.Queue.{messages, is_ready}
 use Rattle.causal_buffer.proofs.Kept.{kept_at, ready_by_id, none_ready, next_is_told}

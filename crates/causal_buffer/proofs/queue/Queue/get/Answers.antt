@@ -1,7 +1,7 @@
 use Rattle.std.proofs.Common.{◌≡◌, ◌+◌, refl, sym, ap, ◌∙◌, arith}
 use Rattle.std.specs.Option.{option_copied}
 use Rattle.causal_model.specs.Early.{has_id}
-use Rattle.causal_model.proofs.Finds.{none_found}
+use Rattle.causal_model.proofs.Theory.Finds.{none_found}
 use Rattle.causal_buffer.specs.Queue.{messages}
 use Rattle.causal_buffer.proofs.Places.{below_from, found_at, none_has_id}
 use Rattle.causal_buffer.proofs.queue.Queue.get.Goals as goal

@@ -4,7 +4,7 @@ use Rattle.std.specs.List.{find}
 use Rattle.std.proofs.lemmas.List.{length-set}
 use Rattle.op_base.specs.Message.{number, id_of}
 use Rattle.causal_model.specs.Early.{put_early, has_id}
-use Rattle.causal_model.proofs.Early.{All-put_early}
+use Rattle.causal_model.proofs.States.Early.{All-put_early}
 use Rattle.causal_buffer.specs.Queue.{ArePlaces, standing, messages}
 use Rattle.causal_buffer.specs.Row.{Row}
 use Rattle.causal_buffer.proofs.Places.{nones, begun, places_begun, standing_begun, are_put, standing_put, inside, is_empty, standing_few, length-put_early}

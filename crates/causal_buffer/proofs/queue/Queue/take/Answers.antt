@@ -4,7 +4,7 @@ use Rattle.std.proofs.lemmas.List.{length-set}
 use Rattle.std.proofs.lemmas.List.Elements.{All-filter}
 use Rattle.op_base.specs.Message.{number}
 use Rattle.causal_model.specs.Early.{has_id, without}
-use Rattle.causal_model.proofs.Finds.{none_found}
+use Rattle.causal_model.proofs.Theory.Finds.{none_found}
 use Rattle.causal_buffer.specs.Queue.{ArePlaces, standing, messages}
 use Rattle.causal_buffer.specs.Row.{Row}
 use Rattle.causal_buffer.proofs.Parts.{all_stay}

@@ -1,7 +1,7 @@
-use Rattle.causal_model.proofs.ObjectParts.{has_from_parts, sum_from_parts}
-use Rattle.causal_model.proofs.Parts.{uncovered_is_settled_or_pending, pending_is_logged}
-use Rattle.causal_model.proofs.PartsOfKinds.{has_by_settled_and_logged}
-use Rattle.causal_model.proofs.PartsOfSums.{rcounter_by_settled_and_logged}
+use Rattle.causal_model.proofs.Answers.ObjectParts.{has_from_parts, sum_from_parts}
+use Rattle.causal_model.proofs.Answers.Parts.{uncovered_is_settled_or_pending, pending_is_logged}
+use Rattle.causal_model.proofs.Answers.PartsOfKinds.{has_by_settled_and_logged}
+use Rattle.causal_model.proofs.Answers.PartsOfSums.{rcounter_by_settled_and_logged}
 use Rattle.causal_model.proofs.laws.answers.answers_come_from_parts.Goals as goal
 
 pub returns-clause-uncovered : goal.returns-clause-uncovered

@@ -1,5 +1,5 @@
-use Rattle.causal_model.proofs.MovedSums.{moved_sums_are_bounded}
-use Rattle.causal_model.proofs.Sums.{sums_are_bounded}
+use Rattle.causal_model.proofs.Cells.MovedSums.{moved_sums_are_bounded}
+use Rattle.causal_model.proofs.Cells.Sums.{sums_are_bounded}
 use Rattle.causal_model.proofs.laws.answers.sums_are_bounded.Goals as goal
 
 pub returns-clause-events : goal.returns-clause-events

@@ -1,4 +1,4 @@
-use Rattle.causal_model.proofs.Values.{values_rise, values_are_exact, only_named_are_in, one_list_of_texts}
+use Rattle.causal_model.proofs.Answers.Values.{values_rise, values_are_exact, only_named_are_in, one_list_of_texts}
 use Rattle.causal_model.proofs.laws.answers.values_are_exactly_those_that_pass.Goals as goal
 
 pub returns-clause-rise : goal.returns-clause-rise

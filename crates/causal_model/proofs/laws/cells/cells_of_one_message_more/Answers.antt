@@ -1,5 +1,5 @@
-use Rattle.causal_model.proofs.MovedCells.{cell_is_moved}
-use Rattle.causal_model.proofs.SettledMarks.{cell_of_one_more}
+use Rattle.causal_model.proofs.Cells.MovedCells.{cell_is_moved}
+use Rattle.causal_model.proofs.Cells.SettledMarks.{cell_of_one_more}
 use Rattle.causal_model.proofs.laws.cells.cells_of_one_message_more.Goals as goal
 
 pub returns-clause-cell : goal.returns-clause-cell

@@ -1,4 +1,4 @@
-use Rattle.causal_model.proofs.Places.{items_are_cells, items_are_filled, items_rise}
+use Rattle.causal_model.proofs.Cells.Places.{items_are_cells, items_are_filled, items_rise}
 use Rattle.causal_model.proofs.laws.cells.items_are_the_cells.Goals as goal
 
 pub returns-clause-cells : goal.returns-clause-cells

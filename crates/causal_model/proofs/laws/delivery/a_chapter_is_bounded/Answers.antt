@@ -1,5 +1,5 @@
-use Rattle.causal_model.proofs.Lengths.{chapter_is_bounded}
-use Rattle.causal_model.proofs.Limits.{numbers_are_counted, counts_are_within}
+use Rattle.causal_model.proofs.Delivery.Lengths.{chapter_is_bounded}
+use Rattle.causal_model.proofs.Delivery.Limits.{numbers_are_counted, counts_are_within}
 use Rattle.causal_model.proofs.laws.delivery.a_chapter_is_bounded.Goals as goal
 
 pub returns-clause-numbers : goal.returns-clause-numbers

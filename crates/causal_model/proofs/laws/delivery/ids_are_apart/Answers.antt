@@ -1,4 +1,4 @@
-use Rattle.causal_model.proofs.Apart.{ids_are_apart}
+use Rattle.causal_model.proofs.Delivery.Apart.{ids_are_apart}
 use Rattle.causal_model.proofs.laws.delivery.ids_are_apart.Goals as goal
 
 pub returns : goal.returns

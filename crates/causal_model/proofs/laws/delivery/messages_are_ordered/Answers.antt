@@ -1,4 +1,4 @@
-use Rattle.causal_model.proofs.Orders.{never_before_itself, order_is_transitive, order_is_asymmetric, order_goes_forward}
+use Rattle.causal_model.proofs.Delivery.Orders.{never_before_itself, order_is_transitive, order_is_asymmetric, order_goes_forward}
 use Rattle.causal_model.proofs.laws.delivery.messages_are_ordered.Goals as goal
 
 pub returns-clause-irreflexive : goal.returns-clause-irreflexive

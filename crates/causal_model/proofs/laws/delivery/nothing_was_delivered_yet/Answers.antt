@@ -1,5 +1,5 @@
 use Rattle.std.proofs.Common.{refl}
-use Rattle.causal_model.proofs.Begin.{counts-none, known_vector-none, stable_vector-none}
+use Rattle.causal_model.proofs.Delivery.Begin.{counts-none, known_vector-none, stable_vector-none}
 use Rattle.causal_model.proofs.laws.delivery.nothing_was_delivered_yet.Goals as goal
 
 pub returns : goal.returns

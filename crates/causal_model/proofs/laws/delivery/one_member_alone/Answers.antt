@@ -1,4 +1,4 @@
-use Rattle.causal_model.proofs.Alone.{counts_alone, none_unstable_alone}
+use Rattle.causal_model.proofs.Delivery.Alone.{counts_alone, none_unstable_alone}
 use Rattle.causal_model.proofs.laws.delivery.one_member_alone.Goals as goal
 
 pub returns-clause-counts : goal.returns-clause-counts

@@ -1,7 +1,7 @@
-use Rattle.causal_model.proofs.Counts.{counts-push}
-use Rattle.causal_model.proofs.Logs.{is_uncovered-push, last_is_uncovered, outbox_of-push, kept_log-push}
-use Rattle.causal_model.proofs.Sends.{is_noop_due-push}
-use Rattle.causal_model.proofs.Stability.{last_tag-push, known_vector-push, stable_count-push}
+use Rattle.causal_model.proofs.Delivery.Counts.{counts-push}
+use Rattle.causal_model.proofs.Delivery.Logs.{is_uncovered-push, last_is_uncovered, outbox_of-push, kept_log-push}
+use Rattle.causal_model.proofs.Delivery.Sends.{is_noop_due-push}
+use Rattle.causal_model.proofs.Delivery.Stability.{last_tag-push, known_vector-push, stable_count-push}
 use Rattle.causal_model.proofs.laws.delivery.one_message_more.Goals as goal
 
 pub returns-clause-counts : goal.returns-clause-counts

@@ -1,4 +1,4 @@
-use Rattle.causal_model.proofs.Settling.{stable_stays_stable, next_is_after_stable}
+use Rattle.causal_model.proofs.Delivery.Settling.{stable_stays_stable, next_is_after_stable}
 use Rattle.causal_model.proofs.laws.delivery.stable_messages_stay_behind.Goals as goal
 
 pub returns-clause-stays : goal.returns-clause-stays

@@ -1,4 +1,4 @@
-use Rattle.causal_model.proofs.Rules.{covers_one_object, covers_kept_alone, covers_transitively}
+use Rattle.causal_model.proofs.Answers.Rules.{covers_one_object, covers_kept_alone, covers_transitively}
 use Rattle.causal_model.proofs.laws.delivery.the_table_meets_the_laws_of_rules.Goals as goal
 
 pub returns-clause-one_object : goal.returns-clause-one_object

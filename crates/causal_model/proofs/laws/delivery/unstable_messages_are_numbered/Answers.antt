@@ -1,4 +1,4 @@
-use Rattle.causal_model.proofs.Numbered.{unstable_are_numbered, stable_is_counted, found_by_number, next_follows_unstable}
+use Rattle.causal_model.proofs.Delivery.Numbered.{unstable_are_numbered, stable_is_counted, found_by_number, next_follows_unstable}
 use Rattle.causal_model.proofs.laws.delivery.unstable_messages_are_numbered.Goals as goal
 
 pub returns-clause-numbered : goal.returns-clause-numbered

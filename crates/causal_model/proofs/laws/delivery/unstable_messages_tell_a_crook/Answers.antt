@@ -1,4 +1,4 @@
-use Rattle.causal_model.proofs.Unclosed.{window_tells_unclosed, seen_before_is_closed, unstable_messages-push}
+use Rattle.causal_model.proofs.Delivery.Unclosed.{window_tells_unclosed, seen_before_is_closed, unstable_messages-push}
 use Rattle.causal_model.proofs.laws.delivery.unstable_messages_tell_a_crook.Goals as goal
 
 pub returns-clause-unclosed : goal.returns-clause-unclosed

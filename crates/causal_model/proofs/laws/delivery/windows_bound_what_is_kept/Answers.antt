@@ -1,6 +1,6 @@
-use Rattle.causal_model.proofs.Logs.{log_is_bounded}
-use Rattle.causal_model.proofs.Rooms.{room_for_next, log_has_room}
-use Rattle.causal_model.proofs.Settling.{few_are_unstable}
+use Rattle.causal_model.proofs.Delivery.Logs.{log_is_bounded}
+use Rattle.causal_model.proofs.Delivery.Rooms.{room_for_next, log_has_room}
+use Rattle.causal_model.proofs.Delivery.Settling.{few_are_unstable}
 use Rattle.causal_model.proofs.laws.delivery.windows_bound_what_is_kept.Goals as goal
 
 pub returns-clause-unstable : goal.returns-clause-unstable

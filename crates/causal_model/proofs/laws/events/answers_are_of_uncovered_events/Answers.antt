@@ -1,4 +1,4 @@
-use Rattle.causal_model.proofs.Uncovered.{has_by_uncovered_events, rcounter_by_uncovered, answers_are_of_uncovered}
+use Rattle.causal_model.proofs.Answers.Uncovered.{has_by_uncovered_events, rcounter_by_uncovered, answers_are_of_uncovered}
 use Rattle.causal_model.proofs.laws.events.answers_are_of_uncovered_events.Goals as goal
 
 pub returns-clause-has : goal.returns-clause-has

@@ -1,4 +1,4 @@
-use Rattle.causal_model.proofs.SameEvents.{same_events_answer_alike}
+use Rattle.causal_model.proofs.Events.SameEvents.{same_events_answer_alike}
 use Rattle.causal_model.proofs.laws.events.equal_events_answer_alike.Goals as goal
 
 pub returns : goal.returns

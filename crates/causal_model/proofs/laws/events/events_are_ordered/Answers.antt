@@ -1,5 +1,5 @@
-use Rattle.causal_model.proofs.Events.{events_are_transitive, events_are_asymmetric, events_go_forward, events_are_apart}
-use Rattle.causal_model.proofs.Lengths.{history_is_bounded}
+use Rattle.causal_model.proofs.Events.Events.{events_are_transitive, events_are_asymmetric, events_go_forward, events_are_apart}
+use Rattle.causal_model.proofs.Delivery.Lengths.{history_is_bounded}
 use Rattle.causal_model.proofs.laws.events.events_are_ordered.Goals as goal
 
 pub returns-clause-transitive : goal.returns-clause-transitive

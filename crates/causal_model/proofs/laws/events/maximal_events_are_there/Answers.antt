@@ -1,4 +1,4 @@
-use Rattle.causal_model.proofs.Maximal.{some_is_maximal, live_goes_up}
+use Rattle.causal_model.proofs.Theory.Maximal.{some_is_maximal, live_goes_up}
 use Rattle.causal_model.proofs.laws.events.maximal_events_are_there.Goals as goal
 
 pub returns-clause-maximal : goal.returns-clause-maximal

@@ -1,5 +1,5 @@
-use Rattle.causal_model.proofs.Events.{uncovered_events_of_one_more, present_is_covered_in_present}
-use Rattle.causal_model.proofs.EventsOfOneMore.{has_settled_of_one_more, has_pending_of_one_more, counter_sum_of_one_more, rcounter_sum_of_one_more}
+use Rattle.causal_model.proofs.Events.Events.{uncovered_events_of_one_more, present_is_covered_in_present}
+use Rattle.causal_model.proofs.Events.EventsOfOneMore.{has_settled_of_one_more, has_pending_of_one_more, counter_sum_of_one_more, rcounter_sum_of_one_more}
 use Rattle.causal_model.proofs.laws.events.one_event_more.Goals as goal
 
 pub returns-clause-uncovered : goal.returns-clause-uncovered

@@ -1,7 +1,7 @@
-use Rattle.causal_model.proofs.KeptLists.{pruned_behind, pruned_in_front}
-use Rattle.causal_model.proofs.KeptOfOneMore.{kept_ids_differ, kept_of_one_more, kept_stays_pruned, others_move_nothing, new_id_is_fresh}
-use Rattle.causal_model.proofs.ListsOfOneMore.{list_of_one_more}
-use Rattle.causal_model.proofs.ShownLists.{kept_moves_by_entry}
+use Rattle.causal_model.proofs.Lists.KeptLists.{pruned_behind, pruned_in_front}
+use Rattle.causal_model.proofs.Lists.KeptOfOneMore.{kept_ids_differ, kept_of_one_more, kept_stays_pruned, others_move_nothing, new_id_is_fresh}
+use Rattle.causal_model.proofs.Lists.ListsOfOneMore.{list_of_one_more}
+use Rattle.causal_model.proofs.Lists.ShownLists.{kept_moves_by_entry}
 use Rattle.causal_model.proofs.laws.lists.elements_of_one_message_more.Goals as goal
 
 pub returns-clause-elements : goal.returns-clause-elements

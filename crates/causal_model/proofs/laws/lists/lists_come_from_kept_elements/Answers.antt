@@ -1,4 +1,4 @@
-use Rattle.causal_model.proofs.ShownLists.{own_entries_tell, values_from_kept, ids_from_kept, tombs_are_from_kept}
+use Rattle.causal_model.proofs.Lists.ShownLists.{own_entries_tell, values_from_kept, ids_from_kept, tombs_are_from_kept}
 use Rattle.causal_model.proofs.laws.lists.lists_come_from_kept_elements.Goals as goal
 
 pub returns-clause-values : goal.returns-clause-values

@@ -1,5 +1,5 @@
 use Rattle.std.proofs.Common.{refl}
-use Rattle.causal_model.proofs.KeptOfOneMore.{regroup_keeps_lists}
+use Rattle.causal_model.proofs.Lists.KeptOfOneMore.{regroup_keeps_lists}
 use Rattle.causal_model.proofs.laws.lists.lists_stay_over_epochs.Goals as goal
 
 pub returns-clause-none : goal.returns-clause-none

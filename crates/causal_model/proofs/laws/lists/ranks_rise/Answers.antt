@@ -1,4 +1,4 @@
-use Rattle.causal_model.proofs.Ranks.{lower_rank_before, ranks_differ}
+use Rattle.causal_model.proofs.Lists.Ranks.{lower_rank_before, ranks_differ}
 use Rattle.causal_model.proofs.laws.lists.ranks_rise.Goals as goal
 
 pub returns-clause-lower : goal.returns-clause-lower

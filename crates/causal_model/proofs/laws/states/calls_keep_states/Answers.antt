@@ -1,7 +1,7 @@
 use Rattle.std.proofs.Common.{sym, ap, subst}
 use Rattle.causal_model.specs.State.{with_own}
 use Rattle.causal_model.specs.States.{IsState}
-use Rattle.causal_model.proofs.States.{start_is_state, step_keeps_state, accept_keeps_state, own_keeps_state, own_makes_none_deliverable, regroup_keeps_state}
+use Rattle.causal_model.proofs.States.States.{start_is_state, step_keeps_state, accept_keeps_state, own_keeps_state, own_makes_none_deliverable, regroup_keeps_state}
 use Rattle.causal_model.proofs.laws.states.calls_keep_states.Goals as goal
 
 pub returns-clause-start : goal.returns-clause-start

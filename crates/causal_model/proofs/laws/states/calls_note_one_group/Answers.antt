@@ -1,4 +1,4 @@
-use Rattle.causal_model.proofs.Journals.{sending_notes_one_group, beating_notes_one_group, receiving_notes_one_group}
+use Rattle.causal_model.proofs.States.Journals.{sending_notes_one_group, beating_notes_one_group, receiving_notes_one_group}
 use Rattle.causal_model.proofs.laws.states.calls_note_one_group.Goals as goal
 
 pub returns-clause-sending : goal.returns-clause-sending

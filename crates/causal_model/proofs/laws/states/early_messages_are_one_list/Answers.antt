@@ -1,4 +1,4 @@
-use Rattle.causal_model.proofs.Early.{next_is_of_the_lowest, equal_sets_are_equal_lists, early_is_bounded, all_early_is_bounded}
+use Rattle.causal_model.proofs.States.Early.{next_is_of_the_lowest, equal_sets_are_equal_lists, early_is_bounded, all_early_is_bounded}
 use Rattle.causal_model.proofs.laws.states.early_messages_are_one_list.Goals as goal
 
 pub returns-clause-lowest : goal.returns-clause-lowest

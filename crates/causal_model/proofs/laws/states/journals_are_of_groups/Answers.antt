@@ -1,4 +1,4 @@
-use Rattle.causal_model.proofs.Journals.{sending_replays, beating_replays, receiving_replays, group_keeps_state, groups_grow, legal_is_state, legal_grows}
+use Rattle.causal_model.proofs.States.Journals.{sending_replays, beating_replays, receiving_replays, group_keeps_state, groups_grow, legal_is_state, legal_grows}
 use Rattle.causal_model.proofs.laws.states.journals_are_of_groups.Goals as goal
 
 pub returns-clause-sending : goal.returns-clause-sending

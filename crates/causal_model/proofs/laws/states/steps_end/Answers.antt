@@ -1,4 +1,4 @@
-use Rattle.causal_model.proofs.Steps.{steps_of_none, steps_of_one_more, none_is_next_after_steps, steps_take_messages_out}
+use Rattle.causal_model.proofs.States.Steps.{steps_of_none, steps_of_one_more, none_is_next_after_steps, steps_take_messages_out}
 use Rattle.causal_model.proofs.laws.states.steps_end.Goals as goal
 
 pub returns-clause-none : goal.returns-clause-none

@@ -4,7 +4,7 @@ use Rattle.std.specs.Ordering.{is_le}
 use Rattle.op_base.specs.Order.{object_cmp}
 use Rattle.op_base.specs.declared.message.Entry.{Entry}
 use Rattle.causal_model.specs.Log.{message_of}
-use Rattle.causal_model.proofs.Elements.{list_any-map}
+use Rattle.causal_model.proofs.Theory.Elements.{list_any-map}
 use Rattle.polog.specs.Value.{is_of}
 use Rattle.polog.specs.Order.{Pairwise}
 use Rattle.polog.proofs.Laid.{by-object, of-object, any-arrived}

@@ -5,8 +5,8 @@ use Rattle.op_base.specs.Message.{number}
 use Rattle.op_base.specs.declared.message.Message.{Message}
 use Rattle.causal_model.specs.State.{State}
 use Rattle.causal_model.specs.Stability.{stable_vector, is_stable, unstable_messages, unstable_operations}
-use Rattle.causal_model.proofs.Events.{present_is_followed}
-use Rattle.causal_model.proofs.Orders.{each_fits}
+use Rattle.causal_model.proofs.Events.Events.{present_is_followed}
+use Rattle.causal_model.proofs.Delivery.Orders.{each_fits}
 use Rattle.replica_core.specs.Rules.{fields_of}
 use Rattle.replica_core.specs.Standing.{Fields, Standing}
 use Rattle.replica_core.proofs.AllSettled.{all_by_members, none_where_all}

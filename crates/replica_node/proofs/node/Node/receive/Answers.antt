@@ -3,7 +3,7 @@ use Rattle.std.proofs.lemmas.Bool.{false≢true}
 use Rattle.causal_model.specs.Journal.{receive_notes}
 use Rattle.causal_model.specs.Receiving.{accepted, is_accepted, receive_by, receive_rule, refusal_of, steps, with_early}
 use Rattle.causal_model.specs.declared.outcome.Receive.TheVariants as receive
-use Rattle.causal_model.proofs.Outcomes.{notes_of_accepted, notes_of_refused, accepted_is_accepted}
+use Rattle.causal_model.proofs.States.Outcomes.{notes_of_accepted, notes_of_refused, accepted_is_accepted}
 use Rattle.replica_node.specs.Nodes.{state_by}
 use Rattle.replica_node.proofs.Noted.{noted_follows, unnoted_follows, lacking_follows}
 use Rattle.replica_node.proofs.node.Node.receive.Goals as goal
