@@ -146,9 +146,6 @@ module _ (passes : ElementId → Bool) (old : List Slots) (row : ℕ) where
       next_stands : Stands now row marked slot start.node start.rest
       next_stands = record { within = inside; here = marking_parted.here ∙ ap (λ xs. marked ++ xs) start.is }
 
-      pub marking_held : IsHeld now slot
-      marking_held = (row, marked, start.node, start.rest, next_stands)
-
       pub mark_goes_on : (new : List Slots) → OfSlot now slot (λ r before node after. new ≡ set now r (before ++ node_gone_where passes (slot, node) ∷ after)) → IsMarking new (Some slot) (count + 1)
       mark_goes_on new made =
           let x : ℕ × Node Content = (slot, start.node) in

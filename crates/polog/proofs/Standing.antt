@@ -17,7 +17,7 @@ use Rattle.causal_model.specs.Parts.{is_on}
 use Rattle.causal_model.specs.Stability.{stable_vector, is_stable}
 use Rattle.causal_model.proofs.Delivery.Logs.{kept_log-push}
 use Rattle.causal_model.proofs.Delivery.Rooms.{log_has_room}
-use Rattle.polog.specs.Value.{Log, with_entries, with_entry, with_stripped, without_stable, without_first, stays, is_of, is_settled}
+use Rattle.polog.specs.Value.{Log, with_entries, with_entry, with_stripped, without_stable, without_first, stays, is_of, is_stable_entry}
 use Rattle.polog.proofs.Firsts.{others-left, all-left}
 use Rattle.polog.specs.Standing.{IsLogOf, IsPruned, IsLogged, IsStripped, IsStripping, HandsOut, KeepsStripping}
 
@@ -111,20 +111,20 @@ module _ (keeps : Update → Bool) (covers : Update → Update → Bool) (n me :
         (next.0, record { of_store = stands.of_store; holds = stands.holds; few = stands.few; within = next.1; waiting = sym next.2 })
 
     module _ (log : Log) (stable : List ℕ) (stands : IsStripping keeps covers n me ms m stable log) where
-      taken-is : IsStripping keeps covers n me ms m stable (with_entries log (without_first (is_settled stable) log.entries))
+      taken-is : IsStripping keeps covers n me ms m stable (with_entries log (without_first (is_stable_entry stable) log.entries))
       taken-is =
           let stays : Message → Bool = λ e. not (is_stable stable e) in
           record {
             of_store = stands.of_store;
-            holds = sym (map-filter message_of stays (without_first (is_settled stable) log.entries)) ∙ ap (map message_of) (others-left (is_settled stable) log.entries)
+            holds = sym (map-filter message_of stays (without_first (is_stable_entry stable) log.entries)) ∙ ap (map message_of) (others-left (is_stable_entry stable) log.entries)
                 ∙ map-filter message_of stays log.entries ∙ stands.holds;
             few = stands.few;
             handed_out = stands.handed_out;
           }
 
-      all-taken-is : find (is_settled stable) log.entries ≡ None → IsLogOf keeps covers n me (ms ++ m ∷ []) (with_entries log (without_first (is_settled stable) log.entries))
+      all-taken-is : find (is_stable_entry stable) log.entries ≡ None → IsLogOf keeps covers n me (ms ++ m ∷ []) (with_entries log (without_first (is_stable_entry stable) log.entries))
       all-taken-is none =
-          let left = all-left (is_settled stable) log.entries none in
+          let left = all-left (is_stable_entry stable) log.entries none in
           let few = stands.few in
           record {
             of_store = stands.of_store;
@@ -140,8 +140,8 @@ module _ (keeps : Update → Bool) (covers : Update → Update → Bool) (n me :
       ∙ map-filter message_of (is_on object) log.entries ∙ ap (filter (is_on object)) stands.holds
 
 -- the first that is stable is taken out
-pub keeps-stripping : (stable : List ℕ) (next : Option Entry) (old new : Log) → next ≡ find (is_settled stable) old.entries
-    → new ≡ with_entries old (without_first (is_settled stable) old.entries) → KeepsStripping stable next old new
+pub keeps-stripping : (stable : List ℕ) (next : Option Entry) (old new : Log) → next ≡ find (is_stable_entry stable) old.entries
+    → new ≡ with_entries old (without_first (is_stable_entry stable) old.entries) → KeepsStripping stable next old new
 keeps-stripping stable next old new taken others keeps covers n me ms m stands = (
   subst (IsStripping keeps covers n me ms m stable) (sym others) (taken-is keeps covers n me ms m old stable stands),
   λ none. subst (IsLogOf keeps covers n me (ms ++ m ∷ [])) (sym others) (all-taken-is keeps covers n me ms m old stable stands (sym taken ∙ none)),

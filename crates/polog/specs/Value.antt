@@ -27,13 +27,13 @@ abbrev pub with_entry : Log → Entry → Log
 with_entry log entry = record { n = log.n; room = log.room; pushed = log.pushed + 1; entries = log.entries ++ entry ∷ []; stripped = log.stripped }
 
 -- whether an entry is stable where these are the stable counts
-abbrev pub is_settled : List ℕ → Entry → Bool
-is_settled stable entry = is_stable stable (message_of entry)
+abbrev pub is_stable_entry : List ℕ → Entry → Bool
+is_stable_entry stable entry = is_stable stable (message_of entry)
 
 -- a log whose stable entries were stripped, where these are the stable counts
 abbrev pub without_stable : Log → List ℕ → Log
 without_stable log stable =
-    record { n = log.n; room = log.room; pushed = log.pushed; entries = filter (λ e. not (is_settled stable e)) log.entries; stripped = filter (is_settled stable) log.entries }
+    record { n = log.n; room = log.room; pushed = log.pushed; entries = filter (λ e. not (is_stable_entry stable e)) log.entries; stripped = filter (is_stable_entry stable) log.entries }
 
 -- a log with other stripped entries left
 abbrev pub with_stripped : Log → List Entry → Log

@@ -9,7 +9,7 @@ ghost use Rattle.op_base.specs.declared.message.Entry.{Entry};
 ghost use Rattle.op_base.specs.declared.name.ObjectId.{ObjectId};
 ghost use Rattle.op_base.specs.declared.operation.Update.{Update};
 ghost use Rattle.causal_model.specs.Log.{message_of};
-ghost use Rattle.polog.specs.Value.{Log, with_entries, with_entry, with_stripped, without_stable, without_first, is_settled, is_of, stays};
+ghost use Rattle.polog.specs.Value.{Log, with_entries, with_entry, with_stripped, without_stable, without_first, is_stable_entry, is_of, stays};
 ghost use Rattle.polog.specs.Marks.{Reaches};
 ghost use Rattle.polog.specs.Order.{Pairwise};
 ghost use Rattle.polog.specs.Standing.{IsLogOf, KeepsPruned, KeepsLogged, KeepsStripped, KeepsHandingOut, KeepsStripping, AreLoggedOf, TellWhatIsLogged};
@@ -18,7 +18,7 @@ use crate::ids::{numbered_ids, without_numbers};
 use crate::reach::{Reach, look_of};
 use crate::rows::Rows;
 use crate::search::{count_through, span, span_of};
-use crate::sweep::{first_settled, keep_unstable, move_tail, prune_span, sort, sort_falling};
+use crate::sweep::{first_stable, keep_unstable, move_tail, prune_span, sort, sort_falling};
 use causal_model::TypeRule;
 use op_base::{Entry, IdList, Message, NoMemory, ObjectId, Op, Tag};
 use std::alloc::Global;
@@ -166,13 +166,13 @@ impl Polog {
     /// where none is.
     pub fn strip_one(&mut self, stable: &Tag) -> Option<Entry>
         requires { length stable.now ≡ self.old.n }
-        ensures taken { result ≡ find (is_settled stable.now) self.old.entries }
-        ensures others { self.new ≡ with_entries self.old (without_first (is_settled stable.now) self.old.entries) }
+        ensures taken { result ≡ find (is_stable_entry stable.now) self.old.entries }
+        ensures others { self.new ≡ with_entries self.old (without_first (is_stable_entry stable.now) self.old.entries) }
         // where the log had the last message that a member delivered, and these are the counts with it, it loses nothing
         // else; where the result is `None`, the log is that of what the member delivered, up to that message
         ensures of { KeepsStripping stable.now result self.old self.new }
     {
-        let at = first_settled(&self.rows, stable)?;
+        let at = first_stable(&self.rows, stable)?;
         Some(self.rows.remove(at))
     }
 

@@ -22,7 +22,7 @@ use Rattle.causal_model.proofs.Theory.Lists.{filter_none}
 use Rattle.causal_model.proofs.Delivery.Logs.{kept_log-push}
 use Rattle.causal_model.proofs.Delivery.Settling.{last_is_next}
 use Rattle.polog.specs.Standing.{IsLogOf, IsLogged, KeepsStripped}
-use Rattle.polog.specs.Value.{Log, without_stable, is_settled}
+use Rattle.polog.specs.Value.{Log, without_stable, is_stable_entry}
 use Rattle.stable_state.specs.Shelf.{Shelved}
 use Rattle.stable_state.specs.Standing.{AreAbsorbed}
 use Rattle.list_type.specs.Listed.{Listed, AreListsMoved}
@@ -39,9 +39,9 @@ same_numbers xs ys behind others t =
 -- what is stripped leaves as many entries less
 pub parted_entries : (stable : List ℕ) (log stripped : Log) → stripped ≡ without_stable log stable → length stripped.stripped + length stripped.entries ≡ length log.entries
 parted_entries stable log stripped taken =
-    let parted = length-filter_both (is_settled stable) (λ e. not (is_settled stable e)) (λ e. refl) log.entries in
-    let gone : length stripped.stripped ≡ length (filter (is_settled stable) log.entries) = ap (λ (l : Log). length l.stripped) taken in
-    let stay : length stripped.entries ≡ length (filter (λ e. not (is_settled stable e)) log.entries) = ap (λ (l : Log). length l.entries) taken in
+    let parted = length-filter_both (is_stable_entry stable) (λ e. not (is_stable_entry stable e)) (λ e. refl) log.entries in
+    let gone : length stripped.stripped ≡ length (filter (is_stable_entry stable) log.entries) = ap (λ (l : Log). length l.stripped) taken in
+    let stay : length stripped.entries ≡ length (filter (λ e. not (is_stable_entry stable e)) log.entries) = ap (λ (l : Log). length l.entries) taken in
     omega arith
 
 -- ---- where nothing becomes stable

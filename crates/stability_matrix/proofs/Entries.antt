@@ -1,8 +1,7 @@
 -- The columns of a matrix, and what noting a message makes of them.
-use Rattle.std.proofs.Common.{◌≡◌, ℕ, ◌<◌, All, List, [], length, take, get_or, set, length-set, refl, sym, ap, ◌∙◌, arith}
+use Rattle.std.proofs.Common.{◌≡◌, ℕ, ◌<◌, All, List, [], length, get_or, set, length-set, refl, sym, ap, ◌∙◌, arith}
 use Rattle.std.proofs.lemmas.Grind.{get_or-set_at, same_number_lists}
-use Rattle.std.proofs.lemmas.List.{length-map, get_or-map, get_or-take, set-get_or}
-use Rattle.std.proofs.Math.Seq.{take-set-lt}
+use Rattle.std.proofs.lemmas.List.{length-map, get_or-map, set-get_or}
 use Rattle.std.proofs.lemmas.List.Elements.{All-set}
 use Rattle.std.proofs.lemmas.List.FromFn.{length-map-range_with_len, get_or-map-range_with_len}
 use Rattle.op_base.specs.Timestamp.{entry}
@@ -36,16 +35,6 @@ noted_own me tag rows l =
     let replaced = set rows me tag in
     let here : row_of replaced me ≡ tag = get_or-set_at rows me me tag [] refl l in
     ap (set replaced me) (ap (λ row. set row me (entry tag me)) here ∙ set-get_or tag me 0 ∙ sym here) ∙ set-get_or replaced me []
-
--- of more rows than count, the first ones are noted
-pub take-noted : (me origin n : ℕ) (tag : List ℕ) (rows : List (List ℕ)) → me < n → origin < n → take n (noted me origin tag rows) ≡ noted me origin tag (take n rows)
-take-noted me origin n tag rows own there =
-    let v = entry tag origin in
-    let replaced = set rows origin tag in
-    let is : take n replaced ≡ set (take n rows) origin tag = take-set-lt n rows origin tag there in
-    take-set-lt n replaced me (set (row_of replaced me) origin v) own
-    ∙ ap (λ row. set (take n replaced) me (set row origin v)) (sym (get_or-take n replaced me [] own))
-    ∙ ap (λ rs. set rs me (set (row_of rs me) origin v)) is
 
 pub square-noted : (me origin : ℕ) (tag : List ℕ) (rows : List (List ℕ)) (n : ℕ) → All (λ row. length row ≡ n) rows → length tag ≡ n → me < length rows → All (λ row. length row ≡ n) (noted me origin tag rows)
 square-noted me origin tag rows n square len own =

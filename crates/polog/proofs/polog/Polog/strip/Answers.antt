@@ -4,7 +4,7 @@ use Rattle.op_base.specs.declared.message.Entry.{Entry}
 use Rattle.polog.specs.Order.{items_of, in_order}
 use Rattle.polog.specs.Rows.{Table, IsLaid, arrived, with_rows}
 use Rattle.polog.specs.Standing.{IsStripped}
-use Rattle.polog.specs.Value.{without_stable, is_settled}
+use Rattle.polog.specs.Value.{without_stable, is_stable_entry}
 use Rattle.polog.proofs.Laid.{apart-from-laid, laid-filter, arrived-filter}
 use Rattle.polog.proofs.Moves.{Apart}
 use Rattle.polog.proofs.Prunes.{length-filter-le}
@@ -28,11 +28,11 @@ sort_falling-requires c =
     let rows = c.self.inside.rows.rows in
     let swept = c.keep_unstable-kept in
     subst Apart (sym c.move_tail.ensures.moved)
-    (moved-apart (is_settled c.args.stable.now) rows swept.new.rows.rows swept.result swept.ensures.moved (apart-from-laid rows c.self.invariant.0.grouped) swept.ensures.kept)
+    (moved-apart (is_stable_entry c.args.stable.now) rows swept.new.rows.rows swept.result swept.ensures.moved (apart-from-laid rows c.self.invariant.0.grouped) swept.ensures.kept)
 
 module _ (c : goal.After-sort_falling) where
   -- the rows that stay
-  kept : c.move_tail.new.rows ≡ with_rows c.self.inside.rows (filter (λ r. not (is_settled c.args.stable.now r.1)) c.self.inside.rows.rows)
+  kept : c.move_tail.new.rows ≡ with_rows c.self.inside.rows (filter (λ r. not (is_stable_entry c.args.stable.now r.1)) c.self.inside.rows.rows)
   kept = c.move_tail.ensures.left ∙ (λ t. record { room = c.keep_unstable-kept.ensures.room t; rows = c.keep_unstable-kept.ensures.kept t })
 
   -- the rows that wait
@@ -44,7 +44,7 @@ module _ (c : goal.After-sort_falling) where
   taken =
       let rows = c.self.inside.rows.rows in
       let swept = c.keep_unstable-kept in
-      let p = is_settled c.args.stable.now in
+      let p = is_stable_entry c.args.stable.now in
       let stays = ap (λ t. arrived t.rows) kept ∙ arrived-filter (λ e. not (p e)) rows in
       let goes = ap (λ items. reverse (items_of items)) leaving
       ∙ waits p rows swept.new.rows.rows swept.result swept.ensures.moved (apart-from-laid rows c.self.invariant.0.grouped) swept.ensures.kept in
@@ -54,7 +54,7 @@ module _ (c : goal.After-sort_falling) where
 pub invariant_of-self : goal.invariant_of-self
 invariant_of-self c =
     let rows = c.self.inside.rows.rows in
-    let p : ℕ × Entry → Bool = λ r. not (is_settled c.args.stable.now r.1) in
+    let p : ℕ × Entry → Bool = λ r. not (is_stable_entry c.args.stable.now r.1) in
     let I : Table → Type 0 = λ t. IsLaid c.self.inside.n c.self.inside.next t.rows × (length t.rows ≤ t.room) × (t.room ≤ vec_capacity c.sort_falling.new.rows) in
     subst I (sym (kept c)) (
       laid-filter c.self.inside.n c.self.inside.next p rows c.self.invariant.0,

@@ -3,7 +3,7 @@ use Rattle.std.proofs.lemmas.List.Edits.{length-remove}
 use Rattle.op_base.specs.declared.message.Entry.{Entry}
 use Rattle.polog.specs.Order.{items_of}
 use Rattle.polog.specs.Rows.{Table, IsLaid, arrived}
-use Rattle.polog.specs.Value.{Log, with_entries, without_first, is_settled}
+use Rattle.polog.specs.Value.{Log, with_entries, without_first, is_stable_entry}
 use Rattle.polog.proofs.Firsts.{none-arrived, first-arrived}
 use Rattle.polog.proofs.Laid.{apart-from-laid, laid-remove}
 use Rattle.polog.proofs.Standing.{keeps-stripping}
@@ -11,12 +11,12 @@ use Rattle.polog.proofs.polog.Polog.strip_one.Goals as goal
 
 pub returns-in_err-at-clause-taken : goal.returns-in_err-at-clause-taken
 returns-in_err-at-clause-taken c =
-    let p = is_settled c.args.stable.now in
+    let p = is_stable_entry c.args.stable.now in
     c.from_residual.ensures ∙ sym (none-arrived p c.self.inside.rows.rows c.in_err-at.ensures).0 ∙ ap (λ log. find p log.entries) c.self.view_is
 
 pub returns-in_err-at-clause-others : goal.returns-in_err-at-clause-others
 returns-in_err-at-clause-others c =
-    let p = is_settled c.args.stable.now in
+    let p = is_stable_entry c.args.stable.now in
     let seen : arrived c.self.inside.rows.rows ≡ c.args.self.now.entries = ap (λ log. log.entries) c.self.view_is in
     ap (with_entries c.args.self.now) (sym seen ∙ sym (none-arrived p c.self.inside.rows.rows c.in_err-at.ensures).1 ∙ ap (without_first p) seen)
 
@@ -31,7 +31,7 @@ invariant_of-self c =
 
 pub returns-clause-taken : goal.returns-clause-taken
 returns-clause-taken c =
-    let p = is_settled c.args.stable.now in
+    let p = is_stable_entry c.args.stable.now in
     let rows = c.self.inside.rows.rows in
     let d : ℕ × Entry = (0, c.remove.result) in
     ap (λ x. Some x) (c.remove.ensures.entry d)
@@ -40,7 +40,7 @@ returns-clause-taken c =
 
 pub returns-clause-others : goal.returns-clause-others
 returns-clause-others c =
-    let p = is_settled c.args.stable.now in
+    let p = is_stable_entry c.args.stable.now in
     let rows = c.self.inside.rows.rows in
     let d : ℕ × Entry = (0, c.remove.result) in
     let made : Table → Log = λ t. record { n = c.self.inside.n; room = t.room; pushed = c.self.inside.next; entries = arrived t.rows; stripped = reverse (items_of c.self.inside.leaving.items) } in
