@@ -51,9 +51,9 @@ value_put (Ins v place) = v
 value_put act = []
 
 -- the value that an operation puts in
-abbrev pub value_in : Op → List ℕ
-value_in op.NoOp = []
-value_in (op.Update u) = value_put u.act
+abbrev pub inserted_value : Op → List ℕ
+inserted_value op.NoOp = []
+inserted_value (op.Update u) = value_put u.act
 
 -- ---- elements
 
@@ -130,7 +130,7 @@ shown_of object events = filter (λ e. not (is_deleted object events e.event)) (
 
 -- the values of a list, in its order
 abbrev pub list_values : ObjectId → List Event → List (List ℕ)
-list_values object events = map (λ e. value_in e.event.message.op) (shown_of object events)
+list_values object events = map (λ e. inserted_value e.event.message.op) (shown_of object events)
 
 -- their ids
 abbrev pub list_ids : ObjectId → List Event → List ElementId

@@ -6,7 +6,7 @@ use Rattle.std.specs.List.{list_any}
 use Rattle.op_base.specs.Name.{same_text}
 use Rattle.op_base.specs.declared.name.ObjectId.{ObjectId}
 use Rattle.op_base.specs.declared.tag.ElementId.{ElementId}
-use Rattle.causal_model.specs.Elements.{Element, element_of, is_deleted, elements_of, value_in, rank_of}
+use Rattle.causal_model.specs.Elements.{Element, element_of, is_deleted, elements_of, inserted_value, rank_of}
 use Rattle.causal_model.specs.History.{History, Event, events}
 use Rattle.causal_model.specs.Settled.{is_stable_event}
 
@@ -39,7 +39,7 @@ pub record KeptElement : Type 0 where
 -- the same of each that is kept
 abbrev pub kept_elements : History → ObjectId → List KeptElement
 kept_elements h object =
-    map (λ e. record { id = element_of e.event; rank = rank_of e.event; depth = length e.path; value = value_in e.event.message.op; gone = is_gone h object e.event }) (kept_of h object)
+    map (λ e. record { id = element_of e.event; rank = rank_of e.event; depth = length e.path; value = inserted_value e.event.message.op; gone = is_gone h object e.event }) (kept_of h object)
 
 -- how many of them aren't shown
 abbrev pub tombs_of : History → ObjectId → ℕ

@@ -29,7 +29,7 @@ pub use laws::{
 };
 pub use note::Note;
 pub use outcome::{Beat, Local, Receive, Refusal};
-pub use room::{MOST_WINDOW, most_noops, most_unstable};
+pub use room::{MOST_LIMIT, MOST_WINDOW, most_noops, most_unstable};
 pub use rule::TypeRule;
 pub use worked::{
     a_clear_leaves_a_concurrent_amount, a_clear_voids_a_stable_remove,

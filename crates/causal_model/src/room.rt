@@ -1,4 +1,4 @@
-//! How many messages of a member may be unstable at once.
+//! How many messages of a member may be unstable at once, and how many it may send.
 
 ghost use Rattle.std.specs.Prelude.{◌≡◌, ◌+◌, ◌≤◌};
 ghost use Rattle.causal_model.specs.Stability.{noop_window};
@@ -7,6 +7,9 @@ use op_base::MOST_MEMBERS;
 
 /// The greatest window: how many operations of a member may be unstable.
 pub const MOST_WINDOW: u8 = 64;
+
+/// The greatest limit: how many messages a member may send in an epoch.
+pub const MOST_LIMIT: u32 = 1_000_000;
 
 /// How many no-ops of a member may be unstable in a store of 1 to 16 members, where so many operations may, 0 to 64.
 pub fn most_noops(n: u8, w: u8) -> u32

@@ -13,7 +13,7 @@ use Rattle.script_lang.specs.declared.live.LiveLine.{LiveLine}
 use Rattle.script_lang.specs.declared.live.LiveLine.TheVariants as line
 use Rattle.turn_lock.specs.Turns.{LockState}
 use Rattle.live_run.specs.Ended.{AreLocks}
-use Rattle.live_run.specs.Inputs.{command_of, commands_in, replica_of_client, works_at}
+use Rattle.live_run.specs.Inputs.{command_in, commands_in, replica_of_client, works_at}
 use Rattle.live_run.specs.Jobs.{IsClientsJob, IsCouriersJob, IsJob}
 use Rattle.live_run.specs.Opening.{AreJobs, IsOfClient, IsOfCourier, IsSplitAt}
 use Rattle.live_run.specs.Posting.{AreMails}
@@ -26,7 +26,7 @@ use Rattle.live_run.proofs.Places.{each_pushed}
 
 -- ---- where a client works
 
-works_below : (n clients c at : ℕ) (l : LiveLine) → LiveLineIsWithin n clients l → at < n → fold (works_at c) at (command_of l) < n
+works_below : (n clients c at : ℕ) (l : LiveLine) → LiveLineIsWithin n clients l → at < n → fold (works_at c) at (command_in l) < n
 works_below n clients c at (line.Run (Client k r)) within low = elim (cases_eq k c) [
   | inl same ↦ subst (λ x. x < n) (sym (cond-true (k == c) r at (eq-eqb k c same))) within.1
   | inr other ↦ subst (λ x. x < n) (sym (cond-false (k == c) r at (ne_eqb k c other))) low
@@ -42,14 +42,14 @@ fold-append f a [] ys = refl
 fold-append f a (x ∷ xs) ys = fold-append f (f a x) xs ys
 
 -- the replica behind one line more
-pub works_on : (c at : ℕ) (lines : List NumberedLine) (l : NumberedLine) → fold (works_at c) at (commands_in (l ∷ lines)) ≡ fold (works_at c) (fold (works_at c) at (command_of l.line)) (commands_in lines)
-works_on c at lines l = fold-append (works_at c) at (command_of l.line) (commands_in lines)
+pub works_on : (c at : ℕ) (lines : List NumberedLine) (l : NumberedLine) → fold (works_at c) at (commands_in (l ∷ lines)) ≡ fold (works_at c) (fold (works_at c) at (command_in l.line)) (commands_in lines)
+works_on c at lines l = fold-append (works_at c) at (command_in l.line) (commands_in lines)
 
 all_below : (n clients c at : ℕ) (lines : List NumberedLine) → All (λ l. LiveLineIsWithin n clients l.line) lines → at < n → fold (works_at c) at (commands_in lines) < n
 all_below n clients c at [] within low = low
 all_below n clients c at (l ∷ lines) within low =
     subst (λ x. x < n) (sym (works_on c at lines l))
-    (all_below n clients c (fold (works_at c) at (command_of l.line)) lines (All-tail (λ (l : NumberedLine). LiveLineIsWithin n clients l.line) l lines within)
+    (all_below n clients c (fold (works_at c) at (command_in l.line)) lines (All-tail (λ (l : NumberedLine). LiveLineIsWithin n clients l.line) l lines within)
     (works_below n clients c at l.line (All-head (λ (l : NumberedLine). LiveLineIsWithin n clients l.line) l lines within) low))
 
 -- it is a member

@@ -13,14 +13,14 @@ use Rattle.script_lang.specs.declared.live.LiveLine.TheVariants.{Skip, Run, Bad,
 use Rattle.live_run.specs.declared.input.NumberedLine.{NumberedLine}
 
 -- the commands among lines, in order
-abbrev pub command_of : LiveLine → List LiveCommand
-command_of (Run command) = command ∷ []
-command_of Skip = []
-command_of (Bad code) = []
-command_of NoMemory = []
+abbrev pub command_in : LiveLine → List LiveCommand
+command_in (Run command) = command ∷ []
+command_in Skip = []
+command_in (Bad code) = []
+command_in NoMemory = []
 
 abbrev pub commands_in : List NumberedLine → List LiveCommand
-commands_in lines = flat_map (λ l. command_of l.line) lines
+commands_in lines = flat_map (λ l. command_in l.line) lines
 
 -- those that client c makes
 abbrev pub is_made_by : ℕ → LiveCommand → Bool
@@ -59,7 +59,7 @@ put_object_of objects (Ask c object) = put_object object objects
 
 -- that a line names, where it is a command
 abbrev pub put_object_of_line : List ObjectId → LiveLine → List ObjectId
-put_object_of_line objects line = fold put_object_of objects (command_of line)
+put_object_of_line objects line = fold put_object_of objects (command_in line)
 
 -- objects in byte order of their texts, none twice
 abbrev pub ObjectsRise : List ObjectId → Type 0

@@ -4,7 +4,7 @@ ghost use Rattle.std.specs.Prelude.{◌≡◌, ℕ, List, [], ◌∷◌, ◌++�
 ghost use Rattle.causal_model.specs.Sending.{local_messages};
 ghost use Rattle.script_lang.specs.declared.live.LiveCommand.{LiveCommand as ALiveCommand};
 ghost use Rattle.script_lang.specs.declared.live.LiveCommand.TheVariants as command;
-ghost use Rattle.live_run.specs.Inputs.{command_of, commands_in, commands_of};
+ghost use Rattle.live_run.specs.Inputs.{command_in, commands_in, commands_of};
 ghost use Rattle.live_run.specs.Made.{local_told, Made};
 ghost use Rattle.live_run.specs.Told.{ok_number};
 ghost use Rattle.live_run.specs.Workers.{IsLiveKey, IsClientDone};
@@ -78,7 +78,7 @@ fn make_line<R: Wait, G: Gate>(
     requires lock { desk.old.done.pass.lock ≡ node.now }
     requires key { IsLiveKey node.now.key }
     ensures lock { desk.new.done.pass.lock ≡ node.now }
-    ensures made { IfOk result (λ done. (commands : List ALiveCommand) → IsClientDone node.now commands desk.old.done → IsClientDone node.now (commands ++ commands_of client.now.number (command_of line.now)) desk.new.done) }
+    ensures made { IfOk result (λ done. (commands : List ALiveCommand) → IsClientDone node.now commands desk.old.done → IsClientDone node.now (commands ++ commands_of client.now.number (command_in line.now)) desk.new.done) }
 {
     match line {
         LiveLine::Run(command) => make_own(rt, alloc, node, desk, client, command),

@@ -1,11 +1,12 @@
 //! The jobs of all workers, with their passes.
 
 ghost use Rattle.std.specs.Prelude.{◌≡◌, ◌+◌, ◌<◌, ◌≤◌, ℕ, List, [], fold, length, All, IfOk, OnOk};
+ghost use Rattle.op_base.specs.declared.tag.TheConstants.{MOST_MEMBERS};
 ghost use Rattle.mailboxes.specs.declared.mailbox.Mailbox.{Mailbox as AMailbox};
 ghost use Rattle.script_lang.specs.Ranges.{LiveLineIsWithin};
 ghost use Rattle.script_lang.specs.declared.live.LiveCommand.{LiveCommand as ALiveCommand};
 ghost use Rattle.live_run.specs.Ended.{AreLocks};
-ghost use Rattle.live_run.specs.Inputs.{command_of, commands_in, replica_of_client, works_at};
+ghost use Rattle.live_run.specs.Inputs.{command_in, commands_in, replica_of_client, works_at};
 ghost use Rattle.live_run.specs.Opening.{AreFirsts, AreJobs, AreOpened};
 ghost use Rattle.live_run.specs.declared.letter.Letter.{Letter as ALetter};
 
@@ -33,7 +34,7 @@ pub(crate) fn jobs_of(
 ) -> Result<Vec<Job>, NoMemory>
     requires locks { (w : ℕ) × AreLocks (length nodes.now) w nodes.now }
     requires some { 1 ≤ length nodes.now }
-    requires few { length nodes.now ≤ 16 }
+    requires few { length nodes.now ≤ MOST_MEMBERS }
     requires within { All (λ l. LiveLineIsWithin (length nodes.now) clients l.line) lines.now }
     requires opened { AreOpened nodes.now openers.old [] }
     requires mailboxes { length mailboxes.now ≡ length nodes.now }
@@ -58,7 +59,7 @@ fn put_clients(
 ) -> Result<(), NoMemory>
     requires locks { (w : ℕ) × AreLocks (length nodes.now) w nodes.now }
     requires some { 1 ≤ length nodes.now }
-    requires few { length nodes.now ≤ 16 }
+    requires few { length nodes.now ≤ MOST_MEMBERS }
     requires within { All (λ l. LiveLineIsWithin (length nodes.now) clients l.line) lines.now }
     requires opened { AreOpened nodes.now openers.old jobs.old.items }
     requires none { jobs.old.items ≡ [] }
@@ -81,7 +82,7 @@ fn put_client(
 ) -> Result<(), NoMemory>
     requires locks { (w : ℕ) × AreLocks (length nodes.now) w nodes.now }
     requires some { 1 ≤ length nodes.now }
-    requires few { length nodes.now ≤ 16 }
+    requires few { length nodes.now ≤ MOST_MEMBERS }
     requires within { (clients : ℕ) × All (λ l. LiveLineIsWithin (length nodes.now) clients l.line) lines.now }
     requires opened { AreOpened nodes.now openers.old jobs.old.items }
     requires first { length jobs.old.items ≡ number }
@@ -108,7 +109,7 @@ fn replica_of(n: u8, c: u8, lines: &[NumberedLine]) -> u8
 
 /// Where a client works behind a line, that worked at a replica before it.
 fn works_at(c: u8, at: u8, line: &LiveLine) -> u8
-    ensures { result ≡ fold (works_at c) at (command_of line.now) }
+    ensures { result ≡ fold (works_at c) at (command_in line.now) }
 {
     match line {
         LiveLine::Run(LiveCommand::Client { c: k, r }) if *k == c => *r,
@@ -126,7 +127,7 @@ fn put_couriers(
     jobs: &mut Vec<Job>,
 ) -> Result<(), NoMemory>
     requires locks { (w : ℕ) × AreLocks (length nodes.now) w nodes.now }
-    requires few { length nodes.now ≤ 16 }
+    requires few { length nodes.now ≤ MOST_MEMBERS }
     requires opened { AreOpened nodes.now openers.old jobs.old.items }
     requires clients { length jobs.old.items < 256 }
     requires mailboxes { length mailboxes.now ≡ length nodes.now }
@@ -154,7 +155,7 @@ fn put_courier(
 ) -> Result<(), NoMemory>
     requires locks { (w : ℕ) × AreLocks (length nodes.now) w nodes.now }
     requires member { me < length nodes.now }
-    requires few { length nodes.now ≤ 16 }
+    requires few { length nodes.now ≤ MOST_MEMBERS }
     requires opened { AreOpened nodes.now openers.old jobs.old.items }
     requires room { length jobs.old.items < 1024 }
     requires mailboxes { length mailboxes.now ≡ length nodes.now }

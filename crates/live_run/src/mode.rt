@@ -1,6 +1,8 @@
 //! A live run, and its text.
 
 ghost use Rattle.std.specs.Prelude.{◌≡◌, ◌<◌, ◌≤◌, ◌++◌, ℕ, List, length, map, take, All, IfOk, OnOk, OnErr};
+ghost use Rattle.op_base.specs.declared.tag.TheConstants.{MOST_MEMBERS};
+ghost use Rattle.causal_model.specs.declared.room.TheConstants.{MOST_WINDOW};
 ghost use Rattle.script_lang.specs.Ranges.{LiveLineIsWithin};
 ghost use Rattle.world_model.specs.Journals.{HaveGrown, world_of_journals};
 ghost use Rattle.live_run.specs.Ended.{AreApartIn, HasEnded, HaveSettled, IsRunOf, notes_of_each};
@@ -45,9 +47,9 @@ pub fn live<R: Threads + Wait + Sync, G: Gate + Sync>(
     out: &mut Text,
 ) -> Result<(), NoMemory>
     requires members { 1 ≤ n }
-    requires few { n ≤ 16 }
+    requires few { n ≤ MOST_MEMBERS }
     requires window { 1 ≤ w }
-    requires narrow { w ≤ 64 }
+    requires narrow { w ≤ MOST_WINDOW }
     requires some { 1 ≤ clients }
     requires workers { clients ≤ 8 }
     requires within { All (λ l. LiveLineIsWithin n clients l.line) lines.now }
@@ -79,9 +81,9 @@ fn put_run<R: Threads + Wait + Sync, G: Gate + Sync>(
     out: &mut Text,
 ) -> Result<(), NoMemory>
     requires some { 1 ≤ plan.now.n }
-    requires few { plan.now.n ≤ 16 }
+    requires few { plan.now.n ≤ MOST_MEMBERS }
     requires window { 1 ≤ w }
-    requires narrow { w ≤ 64 }
+    requires narrow { w ≤ MOST_WINDOW }
     requires workers { plan.now.clients ≤ 8 }
     requires within { All (λ l. LiveLineIsWithin plan.now.n plan.now.clients l.line) lines.now }
     ensures text { OnOk result ((text : List ℕ) × (out.new ≡ out.old ++ text) × IsLiveText plan.now.n w plan.now.clients lines.now text) }
@@ -95,7 +97,7 @@ fn put_run<R: Threads + Wait + Sync, G: Gate + Sync>(
 /// Settles a run.
 fn settle_run(alloc: Global, plan: &Plan, lines: &[NumberedLine], ran: Ran) -> Result<Ran, NoMemory>
     requires some { 1 ≤ plan.now.n }
-    requires few { plan.now.n ≤ 16 }
+    requires few { plan.now.n ≤ MOST_MEMBERS }
     requires within { All (λ l. LiveLineIsWithin plan.now.n plan.now.clients l.line) lines.now }
     requires ended { (w : ℕ) × (1 ≤ w) × HasEnded plan.now.n w plan.now.clients (commands_in lines.now) (map (λ ts. ts.items) ran.told.items) ran.nodes.items }
     ensures { (w : ℕ) → 1 ≤ w → HasEnded plan.now.n w plan.now.clients (commands_in lines.now) (map (λ ts. ts.items) ran.told.items) ran.nodes.items
@@ -130,7 +132,7 @@ fn put_settled(
     out: &mut Text,
 ) -> Result<(), NoMemory>
     requires run { (w : ℕ) × IsRunOf plan.now.n w plan.now.clients (commands_in lines.now) (map (λ ts. ts.items) told.now) nodes.now }
-    requires few { plan.now.n ≤ 16 }
+    requires few { plan.now.n ≤ MOST_MEMBERS }
     ensures ok { (w : ℕ) → OnOk result (out.new ≡ out.old ++ live_text plan.now.n lines.now (world_of_journals plan.now.n w live_limit (notes_of_each nodes.now)) (map (λ ts. ts.items) told.now) (notes_of_each nodes.now)) }
     ensures err { OnErr result (take (length out.old) out.new ≡ out.old) }
 {

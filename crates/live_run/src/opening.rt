@@ -1,6 +1,8 @@
 //! Nodes under locks, from which passes are split.
 
 ghost use Rattle.std.specs.Prelude.{◌≡◌, ◌++◌, ◌∷◌, [], ◌<◌, ◌≤◌, List, true, length, IfOk};
+ghost use Rattle.op_base.specs.declared.tag.TheConstants.{MOST_MEMBERS};
+ghost use Rattle.causal_model.specs.declared.room.TheConstants.{MOST_WINDOW};
 ghost use Rattle.replica_core.specs.Numbers.{are_numbers};
 ghost use Rattle.turn_lock.specs.Turns.{opened};
 ghost use Rattle.live_run.specs.Ended.{AreLocks};
@@ -23,9 +25,9 @@ pub(crate) fn open_nodes(
     n: u8,
     w: u8,
 ) -> Result<(Vec<SharedNode>, Vec<Opener>), NoMemory>
-    requires few { n ≤ 16 }
+    requires few { n ≤ MOST_MEMBERS }
     requires window { 1 ≤ w }
-    requires narrow { w ≤ 64 }
+    requires narrow { w ≤ MOST_WINDOW }
     ensures locks { IfOk result (λ made. AreLocks n w made.0.items) }
     ensures opened { IfOk result (λ made. AreOpened made.0.items made.1.items []) }
 {

@@ -2,6 +2,8 @@
 
 ghost use Rattle.std.specs.Prelude.{◌≡◌, ◌+◌, ◌<◌, ◌≤◌, ℕ, [], length, All, IfOk, OnOk, map};
 ghost use Rattle.std.specs.List.{slice_index_or};
+ghost use Rattle.op_base.specs.declared.tag.TheConstants.{MOST_MEMBERS};
+ghost use Rattle.causal_model.specs.declared.room.TheConstants.{MOST_WINDOW};
 ghost use Rattle.script_lang.specs.Ranges.{LiveLineIsWithin};
 ghost use Rattle.live_run.specs.Ended.{AreLocks, HasEnded};
 ghost use Rattle.live_run.specs.Inputs.{commands_in};
@@ -46,9 +48,9 @@ pub(crate) fn run_workers<R: Threads + Wait + Sync, G: Gate + Sync>(
     gate: &G,
 ) -> Result<Ran, NoMemory>
     requires some { 1 ≤ plan.now.n }
-    requires few { plan.now.n ≤ 16 }
+    requires few { plan.now.n ≤ MOST_MEMBERS }
     requires window { 1 ≤ w }
-    requires narrow { w ≤ 64 }
+    requires narrow { w ≤ MOST_WINDOW }
     requires workers { plan.now.clients ≤ 8 }
     requires within { All (λ l. LiveLineIsWithin plan.now.n plan.now.clients l.line) lines.now }
     ensures { IfOk result (λ ran. HasEnded plan.now.n w plan.now.clients (commands_in lines.now) (map (λ ts. ts.items) ran.told.items) ran.nodes.items) }
@@ -92,7 +94,7 @@ fn work_opened<R: Threads + Wait + Sync, G: Gate + Sync>(
     requires locks { (w : ℕ) × AreLocks (length nodes.now) w nodes.now }
     requires of_each { length nodes.now ≡ plan.now.n }
     requires some { 1 ≤ length nodes.now }
-    requires few { length nodes.now ≤ 16 }
+    requires few { length nodes.now ≤ MOST_MEMBERS }
     requires within { All (λ l. LiveLineIsWithin (length nodes.now) plan.now.clients l.line) lines.now }
     requires opened { AreOpened nodes.now openers.old [] }
     requires mailboxes { length mailboxes.now ≡ length nodes.now }

@@ -1,6 +1,7 @@
 //! The record of a message: the length of its rest, a byte that says how it came, and its frame.
 
 ghost use Rattle.std.specs.Prelude.{◌≡◌, ◌≤◌, ◌∷◌, IsTrue, IfOk};
+ghost use Rattle.op_base.specs.declared.tag.TheConstants.{MOST_MEMBERS};
 ghost use Rattle.op_base.specs.Message.{fits};
 ghost use Rattle.op_base.specs.Valid.{is_valid};
 ghost use Rattle.frame_codec.specs.Grammar.{frame_of};
@@ -20,7 +21,7 @@ pub(crate) const ACCEPTED: u8 = 2;
 /// The record of a message that came in some way, in a store of n members.
 pub(crate) fn record(alloc: Global, way: u8, message: &Message, n: u8) -> Result<Vec<u8>, NoMemory>
     requires fits { IsTrue (fits n message.now) }
-    requires few { n ≤ 16 }
+    requires few { n ≤ MOST_MEMBERS }
     requires valid { IsTrue (is_valid message.now.op) }
     ensures { IfOk result (λ bytes. bytes.items ≡ record_with (way ∷ frame_of versions.Two n 0 message.now)) }
 {

@@ -1,6 +1,7 @@
 //! Commands on a world, and what is replied to them.
 
 ghost use Rattle.std.specs.Prelude.{◌≡◌, ◌<◌, ◌≤◌, IfOk, length, Some};
+ghost use Rattle.op_base.specs.declared.tag.TheConstants.{MOST_MEMBERS};
 ghost use Rattle.op_base.specs.declared.name.Kind.TheVariants as kinds;
 ghost use Rattle.script_lang.specs.Replies.{HasItsEntries};
 ghost use Rattle.script_lang.specs.Ranges.{IsWithin};
@@ -124,7 +125,7 @@ fn settle(alloc: Global, world: &mut World) -> Result<Reply, NoMemory>
 #[inline(never)]
 fn change_members(alloc: Global, world: &mut World, n: u8) -> Result<Reply, NoMemory>
     requires some { 1 ≤ n }
-    requires few { n ≤ 16 }
+    requires few { n ≤ MOST_MEMBERS }
     ensures told { (plain : PlainWorld) → ShowsPlain world.old plain → Told plain (Command.Members n) result world.new }
     ensures entries { IfOk result HasItsEntries }
 {

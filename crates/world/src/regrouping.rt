@@ -2,6 +2,7 @@
 
 ghost use Rattle.std.specs.Prelude.{◌≡◌, ◌≢◌, ◌<◌, ◌≤◌, ◌+◌, ℕ, All, length, map, vec_capacity, IfOk, OnOk, OnErr, IsTrue, if◌then◌else◌};
 ghost use Rattle.std.specs.List.{list_all, slice_index_or};
+ghost use Rattle.op_base.specs.declared.tag.TheConstants.{MOST_MEMBERS};
 ghost use Rattle.causal_model.specs.Follows.{Follows};
 ghost use Rattle.causal_model.specs.History.{is_all_stable};
 ghost use Rattle.honest_worlds.specs.Laws.{AreBelowLimit};
@@ -39,7 +40,7 @@ impl World {
     /// of its journal. After `NoMemory` it shows what it showed.
     pub fn regroup(&mut self, alloc: Global, n: u8) -> Regroup
         requires some { 1 ≤ n }
-        requires few { n ≤ 16 }
+        requires few { n ≤ MOST_MEMBERS }
         ensures answer { Follows ShowsPlain Regroup.NoMemory is_regrouped (regroup_at n) self.old result self.new }
         ensures honest { ShowsHonest self.old → ShowsHonest self.new }
         ensures possible { (plain : PlainWorld) → IsHonest plain → ShowsPlain self.old (world_settled plain) → AreBelowLimit (world_settled plain) → result ≢ Regroup.Unsettled }
@@ -70,7 +71,7 @@ impl World {
     /// Begins the next epoch. All memory is taken before the first change: `NoMemory` leaves the world as it was.
     fn begin_next(&mut self, alloc: Global, n: u8) -> Result<(), NoMemory>
         requires some { 1 ≤ n }
-        requires few { n ≤ 16 }
+        requires few { n ≤ MOST_MEMBERS }
         requires early { (plain : PlainWorld) → ShowsPlain self.old plain → epoch_in plain ≢ last_epoch }
         requires rests { (plain : PlainWorld) → ShowsPlain self.old plain → IsTrue (is_at_rest plain) }
         requires settled { All IsSettled self.old.nodes.items }
@@ -103,7 +104,7 @@ fn are_settled(nodes: &[Node<Journal>]) -> bool
 /// How each of `n` members begins the next epoch, the last first.
 fn next_entrants(alloc: Global, nodes: &[Node<Journal>], n: u8) -> Result<Vec<Entrant>, NoMemory>
     requires some { 1 ≤ length nodes.now }
-    requires few { n ≤ 16 }
+    requires few { n ≤ MOST_MEMBERS }
     requires early { All IsEarly nodes.now }
     requires settled { All IsSettled nodes.now }
     ensures { IfOk result (λ entrants. AreEntrants n nodes.now n entrants.items) }
@@ -119,7 +120,7 @@ fn next_entrants(alloc: Global, nodes: &[Node<Journal>], n: u8) -> Result<Vec<En
 fn next_entrant(alloc: Global, nodes: &[Node<Journal>], q: u8, n: u8) -> Result<Entrant, NoMemory>
     requires some { 1 ≤ length nodes.now }
     requires member { q < n }
-    requires few { n ≤ 16 }
+    requires few { n ≤ MOST_MEMBERS }
     requires early { All IsEarly nodes.now }
     requires settled { All IsSettled nodes.now }
     ensures { IfOk result (IsEntrant n nodes.now q) }
@@ -134,7 +135,7 @@ fn next_entrant(alloc: Global, nodes: &[Node<Journal>], q: u8, n: u8) -> Result<
 /// The node with which a new member `q` of `n` begins the next epoch: it has what a node has, and its notes.
 fn next_node(alloc: Global, node: &Node<Journal>, q: u8, n: u8) -> Result<Node<Journal>, NoMemory>
     requires member { q < n }
-    requires few { n ≤ 16 }
+    requires few { n ≤ MOST_MEMBERS }
     requires early { IsEarly node.now }
     requires settled { IsSettled node.now }
     ensures { IfOk result (IsNextNode n q node.now) }

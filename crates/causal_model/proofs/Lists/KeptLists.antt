@@ -8,7 +8,7 @@ use Rattle.std.proofs.lemmas.List.{length-append}
 use Rattle.std.proofs.lemmas.List.Elements.{All-contains, All-head, All-tail, filter_passes, All-filter}
 use Rattle.std.proofs.lemmas.List.Kept.{AllPairs-filter}
 use Rattle.op_base.specs.Name.{same_text}
-use Rattle.causal_model.specs.Elements.{Element, element_of, rank_of, value_in}
+use Rattle.causal_model.specs.Elements.{Element, element_of, rank_of, inserted_value}
 use Rattle.causal_model.specs.KeptElements.{KeptElement, begins_with}
 use Rattle.causal_model.specs.ListSteps.{keep, pruned}
 use Rattle.causal_model.proofs.Theory.Elements.{item_from_list_any, list_any-from_item, list_any-from_none, same_tests}
@@ -93,7 +93,7 @@ closed_rest bound e es sorted early closed z there front q qs is behind =
 module _ (g : Element → Bool) where
   -- an element as a list keeps it
   abbrev pub seen : Element → KeptElement
-  seen e = record { id = element_of e.event; rank = rank_of e.event; depth = length e.path; value = value_in e.event.message.op; gone = g e }
+  seen e = record { id = element_of e.event; rank = rank_of e.event; depth = length e.path; value = inserted_value e.event.message.op; gone = g e }
 
   -- it is kept for this one
   abbrev pub holds : Element → Element → Bool

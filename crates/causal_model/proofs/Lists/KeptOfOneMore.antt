@@ -20,7 +20,7 @@ use Rattle.op_base.specs.declared.operation.Op.{Op}
 use Rattle.op_base.specs.declared.operation.Op.TheVariants as op
 use Rattle.op_base.specs.declared.tag.ElementId.{ElementId}
 use Rattle.causal_model.specs.Acts.{acts_on}
-use Rattle.causal_model.specs.Elements.{Element, element_of, same_element, puts_at, is_head, is_behind, takes_out, value_put, value_in, is_deleted, past_of, parent_of, rank_of, path_below, path_of, put_element, put_event, elements_of}
+use Rattle.causal_model.specs.Elements.{Element, element_of, same_element, puts_at, is_head, is_behind, takes_out, value_put, inserted_value, is_deleted, past_of, parent_of, rank_of, path_below, path_of, put_element, put_event, elements_of}
 use Rattle.causal_model.specs.History.{History, Event, events, events_from, events_in, epoch_of, with_message, is_before, is_history, is_act_on}
 use Rattle.causal_model.specs.KeptElements.{KeptElement, begins_with, is_gone, kept_elements}
 use Rattle.causal_model.specs.Journal.{regrouped}
@@ -72,7 +72,7 @@ no_insertion object (op.Update u) none passes = by (same_object u.object object)
 
 record Inserts (object : ObjectId) (o : Op) (v : List ℕ) (place : Option ElementId) : Type 0 where
   acts : (passes : Option ElementId → Bool) → acts_on object (puts_at passes) o ≡ passes place
-  value : value_in o ≡ v
+  value : inserted_value o ≡ v
 
 some_insertion : (object : ObjectId) (o : Op) (put : List ℕ × Option ElementId) → insertion_in object o ≡ Some put → Inserts object o put.0 put.1
 some_insertion object op.NoOp put some = absurd (none-some put some)
@@ -312,7 +312,7 @@ module _ (w : ℕ) (h : History) (m : Message) (t : IsTrue (is_history w (with_m
     kept_now : ((z : Element) → Contains was z → begins_with z.path (above ++ rank_of x ∷ []) ≡ true → keeps gone was z ≡ true) → kept_in gone now ≡ put_element new kept
     kept_now over = ap (kept_in gone) now_put ∙ kept_with_one gone new was (elements_in_order w h before_it object) paths_apart fresh over
 
-    seen_new : (v : List ℕ) → value_in m.op ≡ v → seen gone new ≡ at_depth (new_element (epoch_of h) m v) (length (above ++ rank_of x ∷ []))
+    seen_new : (v : List ℕ) → inserted_value m.op ≡ v → seen gone new ≡ at_depth (new_element (epoch_of h) m v) (length (above ++ rank_of x ∷ []))
     seen_new v value = λ i. record { id = element_of x; rank = rank_of x; depth = length (above ++ rank_of x ∷ []); value = value i; gone = fresh i }
 
   -- put at the head

@@ -18,7 +18,7 @@ use Rattle.std.proofs.lemmas.Bool.{eqb-true, eq-eqb, and_from}
 use Rattle.causal_model.specs.Acts.{acts_on}
 use Rattle.causal_model.specs.Order.{same_id}
 use Rattle.causal_model.proofs.Theory.Elements.{list_any-from_item}
-use Rattle.causal_model.specs.Elements.{same_element, puts_at, is_head, is_behind, takes_out, value_in, element_of, is_deleted, past_of, parent_of, rank_of, path_within, path_of, Element, comes_before, put_element, put_event, elements_of, list_values}
+use Rattle.causal_model.specs.Elements.{same_element, puts_at, is_head, is_behind, takes_out, inserted_value, element_of, is_deleted, past_of, parent_of, rank_of, path_within, path_of, Element, comes_before, put_element, put_event, elements_of, list_values}
 use Rattle.causal_model.specs.History.{Event, is_before, is_act_on}
 use Rattle.causal_model.proofs.Theory.Members.{no_member, member_here, member_later, member_cases, member_from_filter, filter_within, list_any_members, pairs_head, pairs_tail, one_rising_list}
 use Rattle.causal_model.proofs.Lists.PathOrder.{Before, before_then, never_both, one_before, Before-from_test, test-from_Before, last, last_behind}
@@ -263,5 +263,5 @@ module _ (object : ObjectId) (es gs : List Event) (same : (x : Event) → (Conta
 
   pub same_list_values : AllPairs Ranked es → AllPairs Ranked gs → length es ≡ length gs → list_values object es ≡ list_values object gs
   same_list_values ranked too len =
-      ap (map (λ e. value_in e.event.message.op)) (filter_agree (λ e. not (is_deleted object es e.event)) (λ e. not (is_deleted object gs e.event)) (λ e. ap not (same_deleted e.event)) (elements_of object es)
+      ap (map (λ e. inserted_value e.event.message.op)) (filter_agree (λ e. not (is_deleted object es e.event)) (λ e. not (is_deleted object gs e.event)) (λ e. ap not (same_deleted e.event)) (elements_of object es)
       ∙ ap (filter (λ e. not (is_deleted object gs e.event))) (same_elements ranked too len))
