@@ -66,6 +66,9 @@ impl Replica {
 
     /// The message by which an update would be sent now, for `commit`; or what `local` answers in its place: `Busy`, `End`, or
     /// `NoMemory` where there is none for the update's copy.
+    ///
+    /// It is always inlined, since a message that is handed on would be moved once more.
+    #[inline(always)]
     pub fn draft(&self, alloc: Global, update: &Update) -> Result<Message, Local>
         ensures answer { Follows StandsFor Local.NoMemory is_sent (λ s. ((local_rule self.now.w self.now.limit update.now s).0, s)) self.now (local_of result) self.now }
         ensures unsent { IfErr result (λ answer. is_sent answer ≡ false) }
