@@ -1,8 +1,8 @@
 -- The table of codes: which kind and verb each has, what argument, and which code an act has.
-use Rattle.std.proofs.Common.{◌≡◌, ℕ, zero, suc, ◌+◌, ◌<◌, ◌≤◌, Bool, true, false, not, ◌&&◌, ◌||◌, List, length, drop, refl, ap, ◌∙◌, arith, inl, inr, subst}
+use Rattle.std.proofs.Common.{◌≡◌, ℕ, zero, suc, ◌+◌, ◌<◌, ◌≤◌, Bool, true, false, ◌&&◌, ◌||◌, List, length, drop, refl, ap, arith, inl, inr, subst}
 use Rattle.std.specs.Prelude.{Option, Some, None, IsTrue, is_some, nat_lt, nat_le, ◌==◌, unwrap_or, if◌then◌else◌}
 use Rattle.std.proofs.lemmas.Bool.{cases_lt, false≢true, and_parts}
-use Rattle.op_base.specs.Operation.{act_code, has_act, is_element, is_place}
+use Rattle.op_base.specs.Operation.{act_code, has_act, is_element, is_place, verb_of}
 use Rattle.op_base.specs.declared.name.Kind.{Kind}
 use Rattle.op_base.specs.declared.name.Kind.TheVariants.{AwSet, RwSet, EwFlag, DwFlag, MvReg, Counter, RCounter}
 use Rattle.op_base.specs.declared.name.Kind.TheVariants as kinds
@@ -12,12 +12,13 @@ use Rattle.op_base.specs.declared.operation.Op.{Op}
 use Rattle.op_base.specs.declared.operation.Op.TheVariants as op
 use Rattle.op_base.specs.declared.tag.ElementId.{ElementId}
 use Rattle.op_base.specs.Code.{op_code}
-use Rattle.frame_codec.specs.declared.fields.Verb.{Verb}
-use Rattle.frame_codec.specs.declared.fields.Verb.TheVariants.{Add, Rmv, Clear, Enable, Disable, Write, Inc, Dec, Ins, Del}
+use Rattle.op_base.specs.declared.verb.Verb.{Verb}
+use Rattle.op_base.specs.declared.verb.Verb.TheVariants.{Ins, Del}
+use Rattle.op_base.specs.Verb.{operation_of}
 use Rattle.frame_codec.specs.declared.version.Version.{Version}
 use Rattle.frame_codec.specs.Grammar.{is_sent}
-use Rattle.frame_codec.specs.Fault.{byte_at, id_at, is_id_field, is_place_field, takes_value, takes_place, takes_amount, takes_id, behind_text, is_text_field, is_whole_argument, behind_whole}
-use Rattle.frame_codec.specs.Reading.{row_of, place_at, act_at, is_argument, behind_act}
+use Rattle.frame_codec.specs.Fault.{byte_at, element_at, is_id_field, is_place_field, behind_text, is_text_field}
+use Rattle.frame_codec.specs.Reading.{place_at, act_at, is_argument}
 
 -- a fact of each of so many numbers, from i upwards
 abbrev Each : (ℕ → Type 0) → ℕ → ℕ → Type 0
@@ -39,39 +40,26 @@ each_code P each code low high = each_at P 1 22 code low (omega arith) each
 -- a place and an id that are whole can be had
 place_passes : (bytes : List ℕ) → is_place_field bytes ≡ true → is_place (place_at bytes) ≡ true
 place_passes bytes h = by (byte_at bytes 0 == 0) (and_parts (nat_lt 0 (length bytes)) _ h).1 where
-  by : (b : Bool) → (b || (byte_at bytes 0 == 1 && is_id_field (drop 1 bytes))) ≡ true → is_place (if b then None else Some (id_at (drop 1 bytes))) ≡ true
+  by : (b : Bool) → (b || (byte_at bytes 0 == 1 && is_id_field (drop 1 bytes))) ≡ true → is_place (if b then None else Some (element_at (drop 1 bytes))) ≡ true
   by true t = refl
-  by false t = (and_parts (nat_le 9 (length (drop 1 bytes))) (is_element (id_at (drop 1 bytes))) (and_parts (byte_at bytes 0 == 1) (is_id_field (drop 1 bytes)) t).1).1
+  by false t = (and_parts (nat_le 9 (length (drop 1 bytes))) (is_element (element_at (drop 1 bytes))) (and_parts (byte_at bytes 0 == 1) (is_id_field (drop 1 bytes)) t).1).1
 
 ins_code : (version : Version) (bytes : List ℕ) → is_argument version Ins bytes ≡ true → act_code kinds.List (act_at version Ins bytes) ≡ Some 20
 ins_code version bytes h = ap (λ b. if b then Some 20 else None) (place_passes (behind_text version bytes) (and_parts (is_text_field version (is_sent version) bytes) _ h).1)
 
 del_code : (version : Version) (bytes : List ℕ) → is_argument version Del bytes ≡ true → act_code kinds.List (act_at version Del bytes) ≡ Some 21
-del_code version bytes h = ap (λ b. if b then Some 21 else None) (and_parts (nat_le 9 (length bytes)) (is_element (id_at bytes)) h).1
+del_code version bytes h = ap (λ b. if b then Some 21 else None) (and_parts (nat_le 9 (length bytes)) (is_element (element_at bytes)) h).1
 
 -- the act that is read for a code, where its argument is whole, has that code
-pub row_code : (version : Version) (code : ℕ) → 1 ≤ code → code ≤ 22 → (bytes : List ℕ) → is_argument version (row_of code).1 bytes ≡ true → act_code (row_of code).0 (act_at version (row_of code).1 bytes) ≡ Some code
-row_code version = each_code (λ code. (bytes : List ℕ) → is_argument version (row_of code).1 bytes ≡ true → act_code (row_of code).0 (act_at version (row_of code).1 bytes) ≡ Some code)
+pub row_code : (version : Version) (code : ℕ) → 1 ≤ code → code ≤ 22 → (bytes : List ℕ) → is_argument version (operation_of code).1 bytes ≡ true → act_code (operation_of code).0 (act_at version (operation_of code).1 bytes) ≡ Some code
+row_code version = each_code (λ code. (bytes : List ℕ) → is_argument version (operation_of code).1 bytes ≡ true → act_code (operation_of code).0 (act_at version (operation_of code).1 bytes) ≡ Some code)
     (λ bs h. refl, (λ bs h. refl, (λ bs h. refl, (λ bs h. refl, (λ bs h. refl, (λ bs h. refl, (λ bs h. refl, (λ bs h. refl, (λ bs h. refl, (λ bs h. refl, (λ bs h. refl, (λ bs h. refl, (λ bs h. refl, (λ bs h. refl, (λ bs h. refl, (λ bs h. refl, (λ bs h. refl, (λ bs h. refl, (λ bs h. refl, (ins_code version, (del_code version, (λ bs h. refl, tt))))))))))))))))))))))
-
--- an act without its argument
-abbrev pub verb_of : Act → Verb
-verb_of (acts.Add v) = Add
-verb_of (acts.Rmv v) = Rmv
-verb_of acts.Clear = Clear
-verb_of acts.Enable = Enable
-verb_of acts.Disable = Disable
-verb_of (acts.Write v) = Write
-verb_of (acts.Inc a) = Inc
-verb_of (acts.Dec a) = Dec
-verb_of (acts.Ins v place) = Ins
-verb_of (acts.Del id) = Del
 
 -- the code of an act has its kind and verb
 pub record HasRow (kind : Kind) (act : Act) (code : ℕ) : Type 0 where
   pub least : 1 ≤ code
   pub most : code ≤ 22
-  pub row : row_of code ≡ (kind, verb_of act)
+  pub row : operation_of code ≡ (kind, verb_of act)
 
 pub code_row : (kind : Kind) (act : Act) → IsTrue (has_act kind act) → HasRow kind act (unwrap_or (act_code kind act) 0)
 code_row AwSet (acts.Add v) has = record { least = omega arith; most = omega arith; row = refl }
@@ -122,64 +110,8 @@ pub names_element : (kind : Kind) (id : ElementId) → IsTrue (has_act kind (act
 names_element kinds.List id has = coded (is_element id) 21 has
 names_element kind id has = absurd (false≢true has)
 
--- whether a verb's argument passes, where a value, a place, an amount and an id would
-abbrev passes : Verb → Bool → Bool → Bool → Bool → Bool
-passes Add value place amount id = value
-passes Rmv value place amount id = value
-passes Clear value place amount id = true
-passes Enable value place amount id = true
-passes Disable value place amount id = true
-passes Write value place amount id = value
-passes Inc value place amount id = amount
-passes Dec value place amount id = amount
-passes Ins value place amount id = value && place
-passes Del value place amount id = id
-
-argument_passes : (version : Version) (verb : Verb) (bytes : List ℕ) → is_argument version verb bytes ≡ passes verb (is_text_field version (is_sent version) bytes) (is_place_field (behind_text version bytes)) (nat_le 4 (length bytes)) (is_id_field bytes)
-argument_passes version Add bytes = refl
-argument_passes version Rmv bytes = refl
-argument_passes version Clear bytes = refl
-argument_passes version Enable bytes = refl
-argument_passes version Disable bytes = refl
-argument_passes version Write bytes = refl
-argument_passes version Inc bytes = refl
-argument_passes version Dec bytes = refl
-argument_passes version Ins bytes = refl
-argument_passes version Del bytes = refl
-
--- a code's argument is whole where its verb's passes
-abbrev PassAlike : ℕ → Type 0
-PassAlike code = (value place amount id : Bool) → passes (row_of code).1 value place amount id ≡ ((not (takes_value code) || value) && (not (takes_place code) || place) && (not (takes_amount code) || amount) && (not (takes_id code) || id))
-
-alone : (b : Bool) → b ≡ (((b && true) && true) && true)
-alone true = refl
-alone false = refl
-
-third : (b : Bool) → b ≡ (((true && true) && b) && true)
-third true = refl
-third false = refl
-
-both : (a b : Bool) → (a && b) ≡ (((a && b) && true) && true)
-both true true = refl
-both true false = refl
-both false b = refl
-
-pass_alike : (code : ℕ) → 1 ≤ code → code ≤ 22 → PassAlike code
-pass_alike = each_code PassAlike
-    (λ v p a i. alone v, (λ v p a i. alone v, (λ v p a i. refl, (λ v p a i. alone v, (λ v p a i. alone v, (λ v p a i. refl, (λ v p a i. refl, (λ v p a i. refl, (λ v p a i. refl, (λ v p a i. refl, (λ v p a i. refl, (λ v p a i. refl, (λ v p a i. alone v, (λ v p a i. refl, (λ v p a i. third a, (λ v p a i. third a, (λ v p a i. third a, (λ v p a i. third a, (λ v p a i. refl, (λ v p a i. both v p, (λ v p a i. refl, (λ v p a i. refl, tt))))))))))))))))))))))
-
-pub argument_alike : (version : Version) (code : ℕ) → 1 ≤ code → code ≤ 22 → (bytes : List ℕ) → is_argument version (row_of code).1 bytes ≡ is_whole_argument version code bytes
-argument_alike version code low high bytes =
-    argument_passes version (row_of code).1 bytes
-    ∙ pass_alike code low high (is_text_field version (is_sent version) bytes) (is_place_field (behind_text version bytes)) (nat_le 4 (length bytes)) (is_id_field bytes)
-
--- what stands behind a code's argument is what stands behind its verb's
-pub behind_alike : (version : Version) (code : ℕ) → 1 ≤ code → code ≤ 22 → (bytes : List ℕ) → behind_act version (row_of code).1 bytes ≡ behind_whole version code bytes
-behind_alike version = each_code (λ code. (bytes : List ℕ) → behind_act version (row_of code).1 bytes ≡ behind_whole version code bytes)
-    (λ bs. refl, (λ bs. refl, (λ bs. refl, (λ bs. refl, (λ bs. refl, (λ bs. refl, (λ bs. refl, (λ bs. refl, (λ bs. refl, (λ bs. refl, (λ bs. refl, (λ bs. refl, (λ bs. refl, (λ bs. refl, (λ bs. refl, (λ bs. refl, (λ bs. refl, (λ bs. refl, (λ bs. refl, (λ bs. refl, (λ bs. refl, (λ bs. refl, tt))))))))))))))))))))))
-
 -- the kind of a row has the act that is read for it, where its argument is whole
-pub row_has : (version : Version) (code : ℕ) (row : Kind × Verb) (bytes : List ℕ) (act : Act) → row ≡ row_of code → 1 ≤ code → code ≤ 22 → is_argument version row.1 bytes ≡ true → act ≡ act_at version row.1 bytes → IsTrue (has_act row.0 act)
+pub row_has : (version : Version) (code : ℕ) (row : Kind × Verb) (bytes : List ℕ) (act : Act) → row ≡ operation_of code → 1 ≤ code → code ≤ 22 → is_argument version row.1 bytes ≡ true → act ≡ act_at version row.1 bytes → IsTrue (has_act row.0 act)
 row_has version code row bytes act same low high whole is =
-    let passes : is_argument version (row_of code).1 bytes ≡ true = subst (λ (r : Kind × Verb). is_argument version r.1 bytes ≡ true) same whole in
+    let passes : is_argument version (operation_of code).1 bytes ≡ true = subst (λ (r : Kind × Verb). is_argument version r.1 bytes ≡ true) same whole in
     rw (is, same, row_code version code low high bytes passes) refl

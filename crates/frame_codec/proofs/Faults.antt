@@ -6,16 +6,17 @@ use Rattle.std.proofs.lemmas.Bool.{ltb-false, lt-ltb, ne_eqb}
 use Rattle.std.proofs.lemmas.List.{take_rest}
 use Rattle.std.proofs.lemmas.Option.{none-some}
 use Rattle.op_base.specs.Name.{is_key}
-use Rattle.frame_codec.specs.declared.fields.Verb.{Verb}
+use Rattle.op_base.specs.declared.verb.Argument.TheVariants.{Nothing}
+use Rattle.op_base.specs.declared.verb.Verb.{Verb}
+use Rattle.op_base.specs.Verb.{argument_of, operation_of}
 use Rattle.frame_codec.specs.declared.version.Version.{Version}
 use Rattle.frame_codec.specs.declared.version.Version.TheVariants.{One, Two}
 use Rattle.frame_codec.specs.Grammar.{version_byte, last_code}
 use Rattle.frame_codec.specs.declared.fault.DecodeFault.{DecodeFault}
 use Rattle.frame_codec.specs.declared.fault.FrameFault.{FrameFault}
 use Rattle.frame_codec.specs.declared.fault.FrameFault.TheVariants.{Short, Version as OfVersion, Epoch, Members, Origin, Code, Number, BadKey, Argument, Rest}
-use Rattle.frame_codec.specs.Fault.{byte_at, code_byte, head_len, is_read_in, is_bad_epoch, is_whole_argument, behind_whole, numbers, timestamp_of, behind_timestamp, is_text_field, behind_text, is_bad_number, is_bad_key, is_bad_argument, behind_argument, first_fault, fault_by, Refuses}
-use Rattle.frame_codec.specs.Reading.{row_of, is_argument, behind_act, act_fault, head_fault, or_else, rest_fault, operation_fault, behind_operation, IsWhy}
-use Rattle.frame_codec.proofs.Codes.{argument_alike, behind_alike}
+use Rattle.frame_codec.specs.Fault.{byte_at, code_byte, head_len, is_read_in, is_bad_epoch, argument_at, is_whole_argument, behind_whole, numbers, timestamp_of, behind_timestamp, is_text_field, behind_text, is_bad_number, is_bad_key, is_bad_argument, behind_argument, first_fault, fault_by, Refuses}
+use Rattle.frame_codec.specs.Reading.{is_argument, behind_act, act_fault, head_fault, or_else, rest_fault, operation_fault, behind_operation, IsWhy}
 
 six_first : (a b c d e f : Bool) (others : Option FrameFault)
     → (if a then Some Short else if b then Some OfVersion else if c then Some Epoch else if d then Some Members else if e then Some Origin else if f then Some Code else others)
@@ -57,25 +58,24 @@ two_last false false true = refl
 two_last false false false = refl
 
 -- the tests of the operation's fields
-fields_alike : (version : Version) (code : ℕ) (bytes : List ℕ) → code ≤ 22
+fields_alike : (version : Version) (code : ℕ) (bytes : List ℕ)
     → (let key = if code == 0 then bytes else behind_text version bytes in
     first_fault (
     (nat_lt 0 code && not (is_text_field version is_key bytes), BadKey)
-    ∷ (not (is_whole_argument version code key), Argument)
-    ∷ (nat_lt 0 (length (behind_whole version code key)), Rest)
+    ∷ (not (is_whole_argument version (argument_at code) key), Argument)
+    ∷ (nat_lt 0 (length (behind_whole version (argument_at code) key)), Rest)
     ∷ []))
     ≡ or_else (operation_fault version code bytes) (rest_fault (behind_operation version code bytes))
-fields_alike version zero bytes most = refl
-fields_alike version (suc code) bytes most =
-    let whole = argument_alike version (suc code) (omega arith) most (behind_text version bytes) in
-    let behind = behind_alike version (suc code) (omega arith) most (behind_text version bytes) in
+fields_alike version zero bytes = refl
+fields_alike version (suc code) bytes =
+    let verb = (operation_of (suc code)).1 in
     let some : (suc code == 0) ≡ false = ne_eqb (suc code) 0 (λ e. omega (arith, e)) in
     let above : nat_lt 0 (suc code) ≡ true = lt-ltb 0 (suc code) (omega arith) in
     let tests : (b : Bool) (w : Bool) (rest : List ℕ) → Option FrameFault = λ b w rest. if b then Some BadKey else if not w then Some Argument else if nat_lt 0 (length rest) then Some Rest else None in
-    (λ i. let key = if some i then bytes else behind_text version bytes in tests (above i && not (is_text_field version is_key bytes)) (is_whole_argument version (suc code) key) (behind_whole version (suc code) key))
-    ∙ (λ i. tests (not (is_text_field version is_key bytes)) (sym whole i) (sym behind i))
-    ∙ two_last (not (is_text_field version is_key bytes)) (not (is_argument version (row_of (suc code)).1 (behind_text version bytes))) (nat_lt 0 (length (behind_act version (row_of (suc code)).1 (behind_text version bytes))))
-    ∙ sym (λ i. or_else (if some i then None else if not (is_text_field version is_key bytes) then Some BadKey else if not (is_argument version (row_of (suc code)).1 (behind_text version bytes)) then Some Argument else None) (rest_fault (if some i then bytes else behind_act version (row_of (suc code)).1 (behind_text version bytes))))
+    (λ i. let key = if some i then bytes else behind_text version bytes in let argument = if some i then Nothing else argument_of verb in
+    tests (above i && not (is_text_field version is_key bytes)) (is_whole_argument version argument key) (behind_whole version argument key))
+    ∙ two_last (not (is_text_field version is_key bytes)) (not (is_argument version verb (behind_text version bytes))) (nat_lt 0 (length (behind_act version verb (behind_text version bytes))))
+    ∙ sym (λ i. or_else (if some i then None else if not (is_text_field version is_key bytes) then Some BadKey else if not (is_argument version verb (behind_text version bytes)) then Some Argument else None) (rest_fault (if some i then bytes else behind_act version verb (behind_text version bytes))))
 
 -- an act without a fault has a whole argument
 pub act_whole : (version : Version) (verb : Verb) (bytes : List ℕ) → act_fault version verb bytes ≡ None → is_argument version verb bytes ≡ true
@@ -102,7 +102,7 @@ body_fault version n limit bytes =
 
 pub fault_by-body : (version : Version) (n epoch limit : ℕ) (bytes : List ℕ) → head_fault version n epoch bytes ≡ None → fault_by version n epoch limit bytes ≡ body_fault version n limit bytes
 fault_by-body version n epoch limit bytes none =
-    let alike = fields_alike version (code_byte bytes) (behind_timestamp version n bytes) (head_most version n epoch bytes none) in
+    let alike = fields_alike version (code_byte bytes) (behind_timestamp version n bytes) in
     fault_by-split version n epoch limit bytes ∙ ap (λ head. or_else head (behind_tests version n limit bytes)) none
     ∙ ap (λ others. if is_bad_number version n limit bytes then Some Number else others) alike
 

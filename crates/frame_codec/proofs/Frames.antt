@@ -7,17 +7,18 @@ use Rattle.std.specs.List.{flat_map, list_any, AllByRecursion}
 use Rattle.std.proofs.lemmas.Bool.{and_parts, or_parts, and_from, or_from, eqb-true, eqb-false, ltb-true, ltb-false, leb-false, lt-ltb, le-ltb, lt-leb, eq-eqb, cases_lt, not-false, ne_eqb, cases_eq}
 use Rattle.std.proofs.lemmas.List.{append-nil, drop_at, drop-drop, length-append, length-drop, get_or_past}
 use Rattle.std.proofs.lemmas.List.Elements.{All-from_recursion, recursion_from_All}
+use Rattle.op_base.specs.Verb.{operation_of}
 use Rattle.op_base.specs.Code.{op_code}
 use Rattle.op_base.specs.Message.{fits}
 use Rattle.op_base.specs.Name.{is_key}
-use Rattle.op_base.specs.Operation.{has_act}
+use Rattle.op_base.specs.Operation.{has_act, verb_of}
 use Rattle.op_base.specs.declared.message.Message.{Message}
 use Rattle.op_base.specs.declared.operation.Op.{Op}
 use Rattle.op_base.specs.declared.operation.Op.TheVariants as op
 use Rattle.op_base.specs.declared.operation.Update.{Update}
 use Rattle.op_base.specs.declared.name.Kind.{Kind}
 use Rattle.op_base.specs.declared.name.ObjectId.{ObjectId}
-use Rattle.frame_codec.specs.declared.fields.Verb.{Verb}
+use Rattle.op_base.specs.declared.verb.Verb.{Verb}
 use Rattle.frame_codec.specs.declared.fault.DecodeFault.{DecodeFault}
 use Rattle.frame_codec.specs.declared.fault.DecodeFault.TheVariants.{NoMemory}
 use Rattle.frame_codec.specs.declared.fault.FrameFault.TheVariants.{Short, Version as OfVersion, Epoch, Members, Origin, Code, BadKey, Argument}
@@ -27,8 +28,8 @@ use Rattle.frame_codec.specs.Grammar.{version_byte, last_code, IsReadIn, epoch_f
 use Rattle.op_base.specs.InPlace.{IsInPlace}
 use Rattle.frame_codec.specs.Laws.{SomeSpelling, OneSpelling, OneMessage, NoFrameBegins, FramesHaveNoFault, WithoutFaultIsAFrame}
 use Rattle.frame_codec.specs.Fault.{byte_at, code_byte, version_at, head_len, is_read_in, is_bad_epoch, numbers, timestamp_of, behind_timestamp, text_of, behind_text, is_text_field, is_bad_number, frame_fault, Gives}
-use Rattle.frame_codec.specs.Reading.{row_of, act_at, is_argument, behind_act, operation_fault, behind_operation, SaysOperation, head_fault, IsWhy, Says}
-use Rattle.frame_codec.proofs.Codes.{verb_of, row_code, row_has, code_row, op_code_most}
+use Rattle.frame_codec.specs.Reading.{act_at, is_argument, behind_act, operation_fault, behind_operation, SaysOperation, head_fault, IsWhy, Says}
+use Rattle.frame_codec.proofs.Codes.{row_code, row_has, code_row, op_code_most}
 use Rattle.frame_codec.proofs.Spelled.{IsBytes, IsBytes-drop, IsBytes-behind, epoch_spelled, epoch_again, behind_head, length-head, short_key, numbers_spelled, numbers_again, length-number_fields, text_spelled, text_whole, text_again, behind_again, argument_spelled, argument_again}
 use Rattle.frame_codec.proofs.Faults.{six_pass, HasNoFault, no_fault, without_fault, head_code, head_most}
 
@@ -51,7 +52,7 @@ two_pass true false h = absurd cc
 two_pass true true h = (refl, refl)
 
 -- so the argument of an operation without a fault is whole
-pub whole_argument : (version : Version) (code : ℕ) (bytes : List ℕ) → 1 ≤ code → operation_fault version code bytes ≡ None → is_argument version (row_of code).1 (behind_text version bytes) ≡ true
+pub whole_argument : (version : Version) (code : ℕ) (bytes : List ℕ) → 1 ≤ code → operation_fault version code bytes ≡ None → is_argument version (operation_of code).1 (behind_text version bytes) ≡ true
 whole_argument version code bytes low none =
     let some : (code == 0) ≡ false = ne_eqb code 0 (λ e. omega (arith, e, low)) in
     (two_pass _ _ (rw some at none)).1
@@ -71,13 +72,13 @@ operation_spelled version code bytes (op.Update u) most fits none says =
     let tests = two_pass _ _ (rw some at none) in
     let key = text_spelled version is_key bytes fits tests.0 in
     let behind = behind_text version bytes in
-    let argument = argument_spelled version (row_of code).1 behind (IsBytes-behind version bytes fits) tests.1 in
+    let argument = argument_spelled version (operation_of code).1 behind (IsBytes-behind version bytes fits) tests.1 in
     let key_is : u.object.key ≡ text_of version bytes = ap (λ (o : ObjectId). o.key) says.1 in
-    let kind_is : u.object.kind ≡ (row_of code).0 = ap (λ (o : ObjectId). o.kind) says.1 in
+    let kind_is : u.object.kind ≡ (operation_of code).0 = ap (λ (o : ObjectId). o.kind) says.1 in
     let whole = key.0 ∙ ap (λ (r : List ℕ). text_field version (text_of version bytes) ++ r) argument.parts
-    ∙ sym (append_assoc (text_field version (text_of version bytes)) (argument_field version (act_at version (row_of code).1 behind)) (behind_act version (row_of code).1 behind)) in
+    ∙ sym (append_assoc (text_field version (text_of version bytes)) (argument_field version (act_at version (operation_of code).1 behind)) (behind_act version (operation_of code).1 behind)) in
     record {
-      parts = whole ∙ sym (λ i. (text_field version (key_is i) ++ argument_field version (says.2 i)) ++ (if some i then bytes else behind_act version (row_of code).1 behind));
+      parts = whole ∙ sym (λ i. (text_field version (key_is i) ++ argument_field version (says.2 i)) ++ (if some i then bytes else behind_act version (operation_of code).1 behind));
       valid = (rw key_is key.1, rw (says.2) argument.valid);
       code_is = rw (kind_is, says.2, row_code version code says.0 most behind tests.1) refl;
     }
@@ -96,8 +97,8 @@ operation_again version (op.Update u) rest valid =
     let bytes = operation_fields version (op.Update u) ++ rest in
     let fields = argument_field version u.act ++ rest in
     let table = code_row u.object.kind u.act u.of_kind in
-    let kind : (row_of code).0 ≡ u.object.kind = ap (λ (r : Kind × Verb). r.0) table.row in
-    let verb : (row_of code).1 ≡ verb_of u.act = ap (λ (r : Kind × Verb). r.1) table.row in
+    let kind : (operation_of code).0 ≡ u.object.kind = ap (λ (r : Kind × Verb). r.0) table.row in
+    let verb : (operation_of code).1 ≡ verb_of u.act = ap (λ (r : Kind × Verb). r.1) table.row in
     let some : (code == 0) ≡ false = ne_eqb code 0 (λ e. omega (arith, e, table.least)) in
     let small = short_key key valid.0 in
     let regrouped : bytes ≡ text_field version key ++ fields = append_assoc (text_field version key) (argument_field version u.act) rest in
@@ -262,7 +263,7 @@ said version n epoch limit m rest epoch_small small read fit within code valid =
 says_some : (version : Version) (code : ℕ) (bytes : List ℕ) → code ≤ 22 → operation_fault version code bytes ≡ None → (o : Op) × SaysOperation version code bytes o
 says_some version zero bytes most none = (op.NoOp, refl)
 says_some version (suc code) bytes most none =
-    let row = row_of (suc code) in
+    let row = operation_of (suc code) in
     let act = act_at version row.1 (behind_text version bytes) in
     let has : IsTrue (has_act row.0 act) = row_has version (suc code) row (behind_text version bytes) act refl (omega arith) most (whole_argument version (suc code) bytes (omega arith) none) refl in
     (op.Update (record { object = record { kind = row.0; key = text_of version bytes }; act = act; of_kind = has }), (omega arith, refl, refl))

@@ -9,7 +9,7 @@ use Rattle.op_base.specs.declared.name.NameFault.{NameFault}
 use Rattle.op_base.specs.declared.name.NameFault.TheVariants.{Empty, TooLong, BadByte, NoType, NotUtf8, NoMemory}
 use Rattle.op_base.proofs.Names.{key_exactly, value_exactly}
 use Rattle.frame_codec.specs.declared.version.Version.{Version}
-use Rattle.frame_codec.specs.Grammar.{is_carried, is_sent}
+use Rattle.frame_codec.specs.Grammar.{carries_length, is_sent}
 use Rattle.frame_codec.specs.Fault.{length_len, length_at, text_of, is_text_field}
 use Rattle.frame_codec.specs.Reading.{is_name}
 
@@ -78,6 +78,6 @@ pub key_field_named : {T : Type 0} (version : Version) (text bytes : List ℕ) (
 key_field_named version text bytes r whole is valid refused none = read_is_named r none ∙ key_named text r valid refused ∙ ap is_key is ∙ sym (field_passes version is_key bytes (sym whole))
 
 -- one of a value, where the version has values of this length
-pub value_field_named : {T : Type 0} (version : Version) (text bytes : List ℕ) (r : Result T NameFault) → true ≡ is_text_field version (λ _. true) bytes → text ≡ text_of version bytes → is_carried version (length text) ≡ true → OnOk r (IsTrue (is_value text)) → Refuses (value_fault text) r → is_name r ≡ is_text_field version (is_sent version) bytes
+pub value_field_named : {T : Type 0} (version : Version) (text bytes : List ℕ) (r : Result T NameFault) → true ≡ is_text_field version (λ _. true) bytes → text ≡ text_of version bytes → carries_length version (length text) ≡ true → OnOk r (IsTrue (is_value text)) → Refuses (value_fault text) r → is_name r ≡ is_text_field version (is_sent version) bytes
 value_field_named version text bytes r whole is carried valid refused =
     value_named text r valid refused ∙ sym (ap (λ c. c && is_value text) carried) ∙ ap (is_sent version) is ∙ sym (field_passes version (is_sent version) bytes (sym whole))

@@ -2,6 +2,7 @@
 use Rattle.std.proofs.Common.{◌≡◌, ◌↔◌, ℕ, zero, suc, ◌≤◌, ◌==◌, Bool, true, false, List, refl, sym, ap, subst, ◌∙◌, arith}
 use Rattle.std.specs.Prelude.{Option, Some, None, Ok, Err, IsTrue, if◌then◌else◌}
 use Rattle.std.proofs.lemmas.Bool.{false≢true, ne_eqb}
+use Rattle.op_base.specs.Verb.{operation_of}
 use Rattle.op_base.specs.Operation.{has_act}
 use Rattle.op_base.specs.Reading.{where_true}
 use Rattle.op_base.specs.declared.message.Message.{Message}
@@ -14,7 +15,7 @@ use Rattle.frame_codec.specs.Fault.{code_byte, version_at, behind_timestamp, tex
 use Rattle.frame_codec.specs.Grammar.{IsFrame}
 use Rattle.frame_codec.specs.Laws.{FramesAreRead, ReadIsAFrame, FaultsAreRead}
 use Rattle.frame_codec.specs.Message.{op_of, operation_at, message_at, read_unless}
-use Rattle.frame_codec.specs.Reading.{row_of, act_at, operation_fault, SaysOperation, Says}
+use Rattle.frame_codec.specs.Reading.{act_at, operation_fault, SaysOperation, Says}
 use Rattle.frame_codec.proofs.Codes.{row_has}
 use Rattle.frame_codec.proofs.Faults.{HasNoFault, no_fault, head_most}
 use Rattle.frame_codec.proofs.Frames.{whole_argument, says_one_message, spelled, frame_said, frames_pass, bytes_of}
@@ -28,7 +29,7 @@ is_made false make passes = absurd (false≢true passes)
 operation_says : (version : Version) (code : ℕ) (bytes : List ℕ) → code ≤ 22 → operation_fault version code bytes ≡ None → SaysOperation version code bytes (operation_at version code bytes)
 operation_says version zero bytes most none = refl
 operation_says version (suc code) bytes most none =
-    let row = row_of (suc code) in
+    let row = operation_of (suc code) in
     let act = act_at version row.1 (behind_text version bytes) in
     let has : IsTrue (has_act row.0 act) = row_has version (suc code) row (behind_text version bytes) act refl (omega arith) most (whole_argument version (suc code) bytes (omega arith) none) refl in
     let make : IsTrue (has_act row.0 act) → Update = λ fits. record { object = record { kind = row.0; key = text_of version bytes }; act = act; of_kind = fits } in

@@ -8,21 +8,21 @@ use Rattle.std.proofs.lemmas.Bool.{cases_lt, leb-true, le-leb, lt-ltb, ltb-true,
 use Rattle.std.proofs.lemmas.List.{take_at, drop_at, drop-drop, take-append-drop, length-append, length-take, length-drop, get_or-drop, get_or-take, get_or_past}
 use Rattle.std.proofs.lemmas.Nat.{be_bytes_2, be_bytes_4, from_be_bytes-to_be_bytes_2, from_be_bytes-to_be_bytes_4}
 use Rattle.std.proofs.Math.Seq.{drop-cons}
-use Rattle.op_base.specs.Operation.{has_act, is_element, is_place}
+use Rattle.op_base.specs.Operation.{has_act, is_element, is_place, verb_of}
 use Rattle.op_base.specs.Valid.{is_valid_id, is_valid_place}
 use Rattle.op_base.specs.declared.name.Kind.{Kind}
 use Rattle.op_base.specs.declared.tag.ElementId.{ElementId}
 use Rattle.op_base.specs.Name.{is_short, is_key, is_value, is_value_byte}
 use Rattle.op_base.specs.declared.operation.Act.{Act}
 use Rattle.op_base.specs.declared.operation.Act.TheVariants as acts
-use Rattle.frame_codec.specs.declared.fields.Verb.{Verb}
-use Rattle.frame_codec.specs.declared.fields.Verb.TheVariants.{Add, Rmv, Clear, Enable, Disable, Write, Inc, Dec, Ins, Del}
+use Rattle.op_base.specs.declared.verb.Verb.{Verb}
+use Rattle.op_base.specs.declared.verb.Verb.TheVariants.{Add, Rmv, Clear, Enable, Disable, Write, Inc, Dec, Ins, Del}
 use Rattle.frame_codec.specs.declared.version.Version.{Version}
 use Rattle.frame_codec.specs.declared.version.Version.TheVariants.{One, Two}
-use Rattle.frame_codec.specs.Grammar.{epoch_field, length_field, number_field, text_field, id_field, place_field, argument_field, is_carried, is_sent, IsArgument}
-use Rattle.frame_codec.specs.Fault.{id_at, is_id_field, is_place_field, behind_place, head_len, is_bad_epoch, length_len, length_at, numbers, text_of, behind_text, is_text_field}
+use Rattle.frame_codec.specs.Grammar.{epoch_field, length_field, number_field, text_field, id_field, place_field, argument_field, carries_length, is_sent, IsArgument}
+use Rattle.frame_codec.specs.Fault.{element_at, is_id_field, is_place_field, behind_place, head_len, is_bad_epoch, length_len, length_at, numbers, text_of, behind_text, is_text_field}
 use Rattle.frame_codec.specs.Reading.{place_at, act_at, is_argument, behind_act}
-use Rattle.frame_codec.proofs.Codes.{verb_of, names_place, names_element}
+use Rattle.frame_codec.proofs.Codes.{names_place, names_element}
 
 abbrev pub IsBytes : List ℕ → Type 0
 IsBytes bytes = (i : ℕ) → get_or bytes i 0 < 256
@@ -78,10 +78,10 @@ length-number_fields (e ∷ tag) = let others = length-number_fields tag in omeg
 -- ---- ids and places
 
 -- nine bytes that are an id's are those of the id that they read as
-pub id_spelled : (bytes : List ℕ) → IsBytes bytes → is_id_field bytes ≡ true → (bytes ≡ id_field (id_at bytes) ++ drop 9 bytes) × (is_valid_id (id_at bytes) ≡ true)
+pub id_spelled : (bytes : List ℕ) → IsBytes bytes → is_id_field bytes ≡ true → (bytes ≡ id_field (element_at bytes) ++ drop 9 bytes) × (is_valid_id (element_at bytes) ≡ true)
 id_spelled bytes fits h =
-    let long : 9 ≤ length bytes = leb-true 9 (length bytes) (and_parts (nat_le 9 (length bytes)) (is_element (id_at bytes)) h).0 in
-    let id = id_at bytes in
+    let long : 9 ≤ length bytes = leb-true 9 (length bytes) (and_parts (nat_le 9 (length bytes)) (is_element (element_at bytes)) h).0 in
+    let id = element_at bytes in
     let behind = IsBytes-drop 5 bytes fits in
     let first : bytes ≡ number_field id.epoch ++ drop 4 bytes = number_spelled bytes fits (omega (arith, long)) in
     let member : drop 4 bytes ≡ id.origin ∷ drop 5 bytes = drop-cons bytes 4 0 (omega (arith, long)) in
@@ -93,7 +93,7 @@ id_spelled bytes fits h =
 -- an id that was written is read again
 pub record IsIdAgain (id : ElementId) (bytes rest : List ℕ) : Type 0 where
   pub whole : is_id_field bytes ≡ true
-  pub id_is : id_at bytes ≡ id
+  pub id_is : element_at bytes ≡ id
   pub behind : drop 9 bytes ≡ rest
 
 pub id_again : (id : ElementId) (rest : List ℕ) → is_element id ≡ true → is_valid_id id ≡ true → IsIdAgain id (id_field id ++ rest) rest
@@ -102,7 +102,7 @@ id_again id rest named valid =
     let one = and_parts (nat_lt id.epoch 4294967296) (nat_lt id.origin 256) two.0 in
     let epoch = from_be_bytes-to_be_bytes_4 id.epoch (ltb-true id.epoch 4294967296 one.0) in
     let seq = from_be_bytes-to_be_bytes_4 id.seq (ltb-true id.seq 4294967296 two.1) in
-    let same : id_at (id_field id ++ rest) ≡ id = λ i. record { epoch = epoch i; origin = id.origin; seq = seq i } in
+    let same : element_at (id_field id ++ rest) ≡ id = λ i. record { epoch = epoch i; origin = id.origin; seq = seq i } in
     record { whole = and_from _ _ (le-leb 9 _ (omega arith)) (ap is_element same ∙ named); id_is = same; behind = refl }
 
 -- so is a place
@@ -110,7 +110,7 @@ pub place_spelled : (bytes : List ℕ) → IsBytes bytes → is_place_field byte
 place_spelled [] fits h = absurd cc
 place_spelled (b ∷ bytes) fits h = by (b == 0) refl (and_parts (nat_lt 0 (length (b ∷ bytes))) _ h).1 where
   by : (t : Bool) → (b == 0) ≡ t → (t || (b == 1 && is_id_field bytes)) ≡ true
-      → (b ∷ bytes ≡ place_field (if t then None else Some (id_at bytes)) ++ (if t then bytes else drop 9 bytes)) × (is_valid_place (if t then None else Some (id_at bytes)) ≡ true)
+      → (b ∷ bytes ≡ place_field (if t then None else Some (element_at bytes)) ++ (if t then bytes else drop 9 bytes)) × (is_valid_place (if t then None else Some (element_at bytes)) ≡ true)
   by true e t = ((λ i. eqb-true b 0 e i ∷ bytes), refl)
   by false e t =
       let parts = and_parts (b == 1) (is_id_field bytes) t in
@@ -264,7 +264,7 @@ short_key key valid = let most = short 32 key _ valid in omega (arith, most)
 
 short_value : (version : Version) (value : List ℕ) → is_sent version value ≡ true → length value < 2 ^ 16
 short_value version value valid =
-    let tests = and_parts (is_carried version (length value)) (is_value value) valid in
+    let tests = and_parts (carries_length version (length value)) (is_value value) valid in
     let bytes = and_parts (is_short 4096 value && list_all is_value_byte value) (is_utf8 value) tests.1 in
     let most = short 4096 value _ bytes.0 in
     omega (arith, most)

@@ -6,6 +6,9 @@ use Rattle.op_base.specs.Name.{is_key}
 use Rattle.op_base.specs.Operation.{is_element}
 use Rattle.op_base.specs.declared.tag.ElementId.{ElementId}
 use Rattle.op_base.specs.declared.message.Message.{Message}
+use Rattle.op_base.specs.declared.verb.Argument.{Argument as AnArgument}
+use Rattle.op_base.specs.declared.verb.Argument.TheVariants.{Nothing, Value, Amount, Insertion, Element}
+use Rattle.op_base.specs.Verb.{argument_of, operation_of}
 use Rattle.frame_codec.specs.Grammar.{version_byte, is_sent, last_code}
 use Rattle.frame_codec.specs.declared.fault.DecodeFault.{DecodeFault}
 use Rattle.frame_codec.specs.declared.fault.DecodeFault.TheVariants.{Frame, NoMemory}
@@ -55,18 +58,9 @@ length_at Two bytes = from_be_bytes w16 (take 2 bytes)
 abbrev pub code_byte : List ℕ → ℕ
 code_byte bytes = byte_at bytes 3
 
--- the codes that take a value, a place behind it, an amount, and an id
-abbrev pub takes_value : ℕ → Bool
-takes_value code = code == 1 || code == 2 || code == 4 || code == 5 || code == 13 || code == 20
-
-abbrev pub takes_place : ℕ → Bool
-takes_place code = code == 20
-
-abbrev pub takes_amount : ℕ → Bool
-takes_amount code = code == 15 || code == 16 || code == 17 || code == 18
-
-abbrev pub takes_id : ℕ → Bool
-takes_id code = code == 21
+-- what stands behind the key of a code: nothing behind the no-op's
+abbrev pub argument_at : ℕ → AnArgument
+argument_at code = if code == 0 then Nothing else argument_of (operation_of code).1
 
 -- the first n numbers of 32 bits
 abbrev pub numbers : ℕ → List ℕ → List ℕ
@@ -99,12 +93,12 @@ behind_key version n bytes =
     if code_byte bytes == 0 then behind_timestamp version n bytes else behind_text version (behind_timestamp version n bytes)
 
 -- the id at the front
-abbrev pub id_at : List ℕ → ElementId
-id_at bytes = record { epoch = from_be_bytes w32 (take 4 bytes); origin = byte_at bytes 4; seq = from_be_bytes w32 (take 4 (drop 5 bytes)) }
+abbrev pub element_at : List ℕ → ElementId
+element_at bytes = record { epoch = from_be_bytes w32 (take 4 bytes); origin = byte_at bytes 4; seq = from_be_bytes w32 (take 4 (drop 5 bytes)) }
 
 -- whether an id is whole, and one that an element can have
 abbrev pub is_id_field : List ℕ → Bool
-is_id_field bytes = nat_le 9 (length bytes) && is_element (id_at bytes)
+is_id_field bytes = nat_le 9 (length bytes) && is_element (element_at bytes)
 
 -- whether a place is whole: a byte 0, or a byte 1 and an id
 abbrev pub is_place_field : List ℕ → Bool
@@ -114,26 +108,25 @@ is_place_field bytes = nat_lt 0 (length bytes) && (byte_at bytes 0 == 0 || (byte
 abbrev pub behind_place : List ℕ → List ℕ
 behind_place bytes = if byte_at bytes 0 == 0 then drop 1 bytes else drop 10 bytes
 
--- whether the argument of a code is whole at the front, and one that the version has
-abbrev pub is_whole_argument : Version → ℕ → List ℕ → Bool
-is_whole_argument version code bytes =
-    (not (takes_value code) || is_text_field version (is_sent version) bytes)
-    && (not (takes_place code) || is_place_field (behind_text version bytes))
-    && (not (takes_amount code) || nat_le 4 (length bytes))
-    && (not (takes_id code) || is_id_field bytes)
+-- whether an argument is whole at the front, and one that the version has
+abbrev pub is_whole_argument : Version → AnArgument → List ℕ → Bool
+is_whole_argument version Nothing bytes = true
+is_whole_argument version Value bytes = is_text_field version (is_sent version) bytes
+is_whole_argument version Amount bytes = nat_le 4 (length bytes)
+is_whole_argument version Insertion bytes = is_text_field version (is_sent version) bytes && is_place_field (behind_text version bytes)
+is_whole_argument version Element bytes = is_id_field bytes
 
--- what stands behind the argument of a code
-abbrev pub behind_whole : Version → ℕ → List ℕ → List ℕ
-behind_whole version code bytes =
-    if takes_place code then behind_place (behind_text version bytes)
-    else if takes_value code then behind_text version bytes
-    else if takes_amount code then drop 4 bytes
-    else if takes_id code then drop 9 bytes
-    else bytes
+-- what stands behind an argument
+abbrev pub behind_whole : Version → AnArgument → List ℕ → List ℕ
+behind_whole version Nothing bytes = bytes
+behind_whole version Value bytes = behind_text version bytes
+behind_whole version Amount bytes = drop 4 bytes
+behind_whole version Insertion bytes = behind_place (behind_text version bytes)
+behind_whole version Element bytes = drop 9 bytes
 
 -- what stands behind the argument, where the code takes one
 abbrev pub behind_argument : Version → ℕ → List ℕ → List ℕ
-behind_argument version n bytes = behind_whole version (code_byte bytes) (behind_key version n bytes)
+behind_argument version n bytes = behind_whole version (argument_at (code_byte bytes)) (behind_key version n bytes)
 
 -- the key is missing, cut or no key
 abbrev pub is_bad_key : Version → ℕ → List ℕ → Bool
@@ -141,7 +134,7 @@ is_bad_key version n bytes = nat_lt 0 (code_byte bytes) && not (is_text_field ve
 
 -- the argument is missing, cut, or none that the version has
 abbrev pub is_bad_argument : Version → ℕ → List ℕ → Bool
-is_bad_argument version n bytes = not (is_whole_argument version (code_byte bytes) (behind_key version n bytes))
+is_bad_argument version n bytes = not (is_whole_argument version (argument_at (code_byte bytes)) (behind_key version n bytes))
 
 -- the origin's number is 0, or some number is above the limit
 abbrev pub is_bad_number : Version → ℕ → ℕ → List ℕ → Bool

@@ -39,9 +39,9 @@ length_field One len = len ∷ []
 length_field Two len = to_be_bytes w16 len
 
 -- whether a version has values of so many bytes: the first has them up to 64
-abbrev pub is_carried : Version → ℕ → Bool
-is_carried One len = nat_le len 64
-is_carried Two len = true
+abbrev pub carries_length : Version → ℕ → Bool
+carries_length One len = nat_le len 64
+carries_length Two len = true
 
 -- the greatest code of a version: the first has none of lists
 abbrev pub last_code : Version → ℕ
@@ -93,7 +93,7 @@ frame_of version n epoch m =
 
 -- a value that the version has
 abbrev pub is_sent : Version → List ℕ → Bool
-is_sent version value = is_carried version (length value) && is_value value
+is_sent version value = carries_length version (length value) && is_value value
 
 -- the argument is one that its act can have: a value, a number of 32 bits, or an id whose numbers fit their fields
 abbrev pub IsArgument : Version → Act → Type 0

@@ -5,8 +5,9 @@ use Rattle.op_base.specs.declared.message.Message.{Message}
 use Rattle.op_base.specs.declared.operation.Op.{Op}
 use Rattle.op_base.specs.declared.operation.Op.TheVariants as op
 use Rattle.op_base.specs.declared.operation.Update.{Update}
+use Rattle.op_base.specs.Verb.{operation_of}
 use Rattle.frame_codec.specs.Fault.{byte_at, code_byte, version_at, timestamp_of, behind_timestamp, text_of, behind_text, frame_fault}
-use Rattle.frame_codec.specs.Reading.{row_of, act_at}
+use Rattle.frame_codec.specs.Reading.{act_at}
 use Rattle.frame_codec.specs.declared.fault.FrameFault.{FrameFault}
 use Rattle.frame_codec.specs.declared.version.Version.{Version}
 
@@ -19,7 +20,7 @@ op_of (Some update) = op.Update update
 abbrev pub operation_at : Version → ℕ → List ℕ → Op
 operation_at version code bytes =
     if code == 0 then op.NoOp
-    else op_of (update_of (record { kind = (row_of code).0; key = text_of version bytes }) (act_at version (row_of code).1 (behind_text version bytes)))
+    else op_of (update_of (record { kind = (operation_of code).0; key = text_of version bytes }) (act_at version (operation_of code).1 (behind_text version bytes)))
 
 -- the message that bytes say in a version, in a store of n members
 abbrev pub message_at : Version → ℕ → List ℕ → Message

@@ -1,11 +1,8 @@
 -- What the bytes of a frame say where they have no fault, for the contracts of the readers of its fields.
-use Rattle.std.specs.Prelude.{◌≡◌, ℕ, ◌+◌, ◌*◌, ◌≤◌, Bool, true, false, not, ◌&&◌, ◌==◌, Result, Ok, Err, Option, Some, None, nat_lt, nat_le, List, [], ◌∷◌, length, take, drop, get_or, if◌then◌else◌}
+use Rattle.std.specs.Prelude.{◌≡◌, ℕ, ◌+◌, ◌*◌, ◌≤◌, Bool, true, false, not, ◌&&◌, ◌==◌, Result, Ok, Err, Option, Some, None, nat_lt, nat_le, List, length, take, drop, if◌then◌else◌}
 use Rattle.std.specs.Int.{w32, from_be_bytes}
 use Rattle.op_base.specs.Name.{is_key}
 use Rattle.op_base.specs.declared.message.Message.{Message}
-use Rattle.op_base.specs.declared.name.Kind.{Kind}
-use Rattle.op_base.specs.declared.name.Kind.TheVariants.{AwSet, RwSet, EwFlag, DwFlag, MvReg, Counter, RCounter}
-use Rattle.op_base.specs.declared.name.Kind.TheVariants as kinds
 use Rattle.op_base.specs.declared.name.NameFault.{NameFault}
 use Rattle.op_base.specs.declared.name.NameFault.TheVariants.{NoMemory}
 use Rattle.op_base.specs.declared.operation.Act.{Act}
@@ -18,11 +15,12 @@ use Rattle.frame_codec.specs.declared.fault.FrameFault.TheVariants.{Short, Versi
 use Rattle.frame_codec.specs.declared.fault.DecodeFault.{DecodeFault}
 use Rattle.frame_codec.specs.declared.fault.DecodeFault.TheVariants.{Frame}
 use Rattle.frame_codec.specs.declared.fault.DecodeFault.TheVariants as faults
-use Rattle.frame_codec.specs.declared.fields.Verb.{Verb}
-use Rattle.frame_codec.specs.declared.fields.Verb.TheVariants.{Add, Rmv, Clear, Enable, Disable, Write, Inc, Dec, Ins, Del}
+use Rattle.op_base.specs.declared.verb.Verb.{Verb}
+use Rattle.op_base.specs.Verb.{argument_of, operation_of}
+use Rattle.op_base.specs.declared.verb.Verb.TheVariants.{Add, Rmv, Clear, Enable, Disable, Write, Inc, Dec, Ins, Del}
 use Rattle.frame_codec.specs.declared.version.Version.{Version}
 use Rattle.frame_codec.specs.Grammar.{version_byte, is_sent, last_code}
-use Rattle.frame_codec.specs.Fault.{byte_at, code_byte, id_at, is_id_field, is_place_field, behind_place, head_len, is_read_in, is_bad_epoch, timestamp_of, behind_timestamp, text_of, behind_text, is_text_field}
+use Rattle.frame_codec.specs.Fault.{byte_at, code_byte, element_at, is_id_field, is_place_field, behind_place, head_len, is_read_in, is_bad_epoch, timestamp_of, behind_timestamp, text_of, behind_text, is_text_field, is_whole_argument, behind_whole}
 
 -- whether the text that a reader of names was given was a name
 abbrev pub is_name : {T : Type 0} → Result T NameFault → Bool
@@ -30,33 +28,13 @@ is_name (Ok name) = true
 is_name (Err NoMemory) = true
 is_name (Err fault) = false
 
--- the kinds and verbs of the codes from 1 upwards
-abbrev pub rows : List (Kind × Verb)
-rows = (AwSet, Add) ∷ (AwSet, Rmv) ∷ (AwSet, Clear) ∷ (RwSet, Add) ∷ (RwSet, Rmv) ∷ (RwSet, Clear)
-    ∷ (EwFlag, Enable) ∷ (EwFlag, Disable) ∷ (EwFlag, Clear) ∷ (DwFlag, Enable) ∷ (DwFlag, Disable) ∷ (DwFlag, Clear)
-    ∷ (MvReg, Write) ∷ (MvReg, Clear) ∷ (Counter, Inc) ∷ (Counter, Dec) ∷ (RCounter, Inc) ∷ (RCounter, Dec) ∷ (RCounter, Clear)
-    ∷ (kinds.List, Ins) ∷ (kinds.List, Del) ∷ []
-
--- the kind and the verb of a code from 1 to 22
-abbrev pub row_of : ℕ → Kind × Verb
-row_of code = get_or ((kinds.List, Clear) ∷ rows) code (kinds.List, Clear)
-
 -- the place at the front
 abbrev pub place_at : List ℕ → Option ElementId
-place_at bytes = if byte_at bytes 0 == 0 then None else Some (id_at (drop 1 bytes))
+place_at bytes = if byte_at bytes 0 == 0 then None else Some (element_at (drop 1 bytes))
 
 -- whether a verb's argument stands at the front
 abbrev pub is_argument : Version → Verb → List ℕ → Bool
-is_argument version Add bytes = is_text_field version (is_sent version) bytes
-is_argument version Rmv bytes = is_text_field version (is_sent version) bytes
-is_argument version Clear bytes = true
-is_argument version Enable bytes = true
-is_argument version Disable bytes = true
-is_argument version Write bytes = is_text_field version (is_sent version) bytes
-is_argument version Inc bytes = nat_le 4 (length bytes)
-is_argument version Dec bytes = nat_le 4 (length bytes)
-is_argument version Ins bytes = is_text_field version (is_sent version) bytes && is_place_field (behind_text version bytes)
-is_argument version Del bytes = is_id_field bytes
+is_argument version verb bytes = is_whole_argument version (argument_of verb) bytes
 
 -- the act of a verb with the argument at the front
 abbrev pub act_at : Version → Verb → List ℕ → Act
@@ -69,32 +47,23 @@ act_at version Write bytes = acts.Write (text_of version bytes)
 act_at version Inc bytes = acts.Inc (from_be_bytes w32 (take 4 bytes))
 act_at version Dec bytes = acts.Dec (from_be_bytes w32 (take 4 bytes))
 act_at version Ins bytes = acts.Ins (text_of version bytes) (place_at (behind_text version bytes))
-act_at version Del bytes = acts.Del (id_at bytes)
+act_at version Del bytes = acts.Del (element_at bytes)
 
 -- what stands behind a verb's argument
 abbrev pub behind_act : Version → Verb → List ℕ → List ℕ
-behind_act version Add bytes = behind_text version bytes
-behind_act version Rmv bytes = behind_text version bytes
-behind_act version Clear bytes = bytes
-behind_act version Enable bytes = bytes
-behind_act version Disable bytes = bytes
-behind_act version Write bytes = behind_text version bytes
-behind_act version Inc bytes = drop 4 bytes
-behind_act version Dec bytes = drop 4 bytes
-behind_act version Ins bytes = behind_place (behind_text version bytes)
-behind_act version Del bytes = drop 9 bytes
+behind_act version verb bytes = behind_whole version (argument_of verb) bytes
 
 -- the first fault of a key and an argument of this code at the front
 abbrev pub operation_fault : Version → ℕ → List ℕ → Option FrameFault
 operation_fault version code bytes =
     if code == 0 then None
     else if not (is_text_field version is_key bytes) then Some BadKey
-    else if not (is_argument version (row_of code).1 (behind_text version bytes)) then Some Argument
+    else if not (is_argument version (operation_of code).1 (behind_text version bytes)) then Some Argument
     else None
 
 -- what stands behind them
 abbrev pub behind_operation : Version → ℕ → List ℕ → List ℕ
-behind_operation version code bytes = if code == 0 then bytes else behind_act version (row_of code).1 (behind_text version bytes)
+behind_operation version code bytes = if code == 0 then bytes else behind_act version (operation_of code).1 (behind_text version bytes)
 
 -- the fault of bytes behind the last field
 abbrev pub rest_fault : List ℕ → Option FrameFault
@@ -139,7 +108,7 @@ IsWhy None e = e ≡ faults.NoMemory
 abbrev pub SaysOperation : Version → ℕ → List ℕ → Op → Type 0
 SaysOperation version code bytes op.NoOp = code ≡ 0
 SaysOperation version code bytes (op.Update u) =
-    (1 ≤ code) × (u.object ≡ record { kind = (row_of code).0; key = text_of version bytes }) × (u.act ≡ act_at version (row_of code).1 (behind_text version bytes))
+    (1 ≤ code) × (u.object ≡ record { kind = (operation_of code).0; key = text_of version bytes }) × (u.act ≡ act_at version (operation_of code).1 (behind_text version bytes))
 
 -- the first fault of what stands in front of the timestamp, and of bytes too short for it and a timestamp
 abbrev pub head_fault : Version → ℕ → ℕ → List ℕ → Option FrameFault

@@ -12,29 +12,16 @@ ghost use Rattle.op_base.specs.declared.name.TheConstants.{VALUE_BYTES_IN_PLACE}
 ghost use Rattle.op_base.specs.declared.operation.Op.{Op as AnOp};
 ghost use Rattle.op_base.specs.InPlace.{IsActInPlace, IsInPlace};
 ghost use Rattle.frame_codec.specs.Grammar.{is_sent};
-ghost use Rattle.frame_codec.specs.Fault.{numbers, length_len, length_at, text_of, behind_text, is_text_field, id_at, is_id_field, is_place_field, behind_place};
-ghost use Rattle.frame_codec.specs.Reading.{is_name, place_at, act_at, row_of, rest_fault, value_fault, amount_fault, insertion_fault, id_fault, act_fault, fields_fault, IsWhy, SaysOperation};
+ghost use Rattle.frame_codec.specs.Fault.{numbers, length_len, length_at, text_of, behind_text, is_text_field, element_at, is_id_field, is_place_field, behind_place};
+ghost use Rattle.frame_codec.specs.Reading.{is_name, place_at, act_at, rest_fault, value_fault, amount_fault, insertion_fault, id_fault, act_fault, fields_fault, IsWhy, SaysOperation};
 
 use crate::fault::{DecodeFault, FrameFault};
 use crate::version::Version;
 use byteorder::{BigEndian, ByteOrder};
-use op_base::{Act, ElementId, Key, Kind, NameFault, NoMemory, ObjectId, Op, Tag, Update, Value};
+use op_base::{
+    Act, ElementId, Key, NameFault, NoMemory, ObjectId, Op, Tag, Update, Value, Verb, operation_of,
+};
 use std::alloc::Global;
-
-/// An act without its argument.
-#[derive(Clone, Copy, Debug, PartialEq, Eq)]
-enum Verb {
-    Add,
-    Rmv,
-    Clear,
-    Enable,
-    Disable,
-    Write,
-    Inc,
-    Dec,
-    Ins,
-    Del,
-}
 
 /// The timestamp of n members, 1 to 16, whose numbers stand at the front.
 pub fn timestamp(bytes: &[u8], n: u8) -> Tag
@@ -175,7 +162,7 @@ fn last_value(alloc: Global, version: Version, bytes: &[u8]) -> Result<Value, De
 /// An id that an element can have, and what stands behind it. `None` where it is cut or can't be one.
 fn id_field(bytes: &[u8]) -> Option<(ElementId, &[u8])>
     ensures whole { is_some result ≡ is_id_field bytes.now }
-    ensures id { IfSome result (λ x. x.0 ≡ id_at bytes.now) }
+    ensures id { IfSome result (λ x. x.0 ≡ element_at bytes.now) }
     ensures rest { IfSome result (λ x. x.1.now ≡ drop 9 bytes.now) }
 {
     let (front, rest) = bytes.split_at_checked(9)?;
@@ -232,7 +219,7 @@ fn last_insertion(
 /// An id, with nothing behind it.
 fn last_id(bytes: &[u8]) -> Result<ElementId, FrameFault>
     ensures fault { MatchResult result (λ _. id_fault bytes.now ≡ None) (λ fault. id_fault bytes.now ≡ Some fault) }
-    ensures id { IfOk result (λ id. id ≡ id_at bytes.now) }
+    ensures id { IfOk result (λ id. id ≡ element_at bytes.now) }
 {
     let (id, rest) = id_field(bytes).ok_or(FrameFault::Argument)?;
     no_rest(rest)?;
@@ -247,36 +234,6 @@ fn last_amount(bytes: &[u8]) -> Result<u32, FrameFault>
     let (front, rest) = bytes.split_at_checked(4).ok_or(FrameFault::Argument)?;
     no_rest(rest)?;
     Ok(BigEndian::read_u32(front))
-}
-
-/// The kind and the verb of an update's code. For a number that is none they are those of 22.
-fn kind_and_verb(code: u8) -> (Kind, Verb)
-    ensures { result ≡ row_of code }
-{
-    match code {
-        1 => (Kind::AwSet, Verb::Add),
-        2 => (Kind::AwSet, Verb::Rmv),
-        3 => (Kind::AwSet, Verb::Clear),
-        4 => (Kind::RwSet, Verb::Add),
-        5 => (Kind::RwSet, Verb::Rmv),
-        6 => (Kind::RwSet, Verb::Clear),
-        7 => (Kind::EwFlag, Verb::Enable),
-        8 => (Kind::EwFlag, Verb::Disable),
-        9 => (Kind::EwFlag, Verb::Clear),
-        10 => (Kind::DwFlag, Verb::Enable),
-        11 => (Kind::DwFlag, Verb::Disable),
-        12 => (Kind::DwFlag, Verb::Clear),
-        13 => (Kind::MvReg, Verb::Write),
-        14 => (Kind::MvReg, Verb::Clear),
-        15 => (Kind::Counter, Verb::Inc),
-        16 => (Kind::Counter, Verb::Dec),
-        17 => (Kind::RCounter, Verb::Inc),
-        18 => (Kind::RCounter, Verb::Dec),
-        19 => (Kind::RCounter, Verb::Clear),
-        20 => (Kind::List, Verb::Ins),
-        21 => (Kind::List, Verb::Del),
-        _ => (Kind::List, Verb::Clear),
-    }
 }
 
 /// The act of a verb, with its argument and nothing behind it.
@@ -322,7 +279,7 @@ pub fn operation(alloc: Global, version: Version, code: u8, bytes: &[u8]) -> Res
         no_rest(bytes)?;
         return Ok(Op::NoOp);
     }
-    let (kind, verb) = kind_and_verb(code);
+    let (kind, verb) = operation_of(code);
     let (key, rest) = key_field(alloc, version, bytes)?;
     let act = last_act(alloc, version, verb, rest)?;
     let object = ObjectId { kind, key };

@@ -1,7 +1,7 @@
 //! The two versions of frames, and what differs between them.
 
 ghost use Rattle.std.specs.Prelude.{◌≡◌, ◌≤◌};
-ghost use Rattle.frame_codec.specs.Grammar.{version_byte, is_carried, last_code};
+ghost use Rattle.frame_codec.specs.Grammar.{version_byte, carries_length, last_code};
 ghost use Rattle.frame_codec.specs.Fault.{version_at, head_len, length_len, is_read_in};
 
 /// A version of frames.
@@ -82,7 +82,7 @@ impl Version {
 
     /// Whether it has values of so many bytes.
     pub fn carries(self, len: usize) -> bool
-        ensures { result ≡ is_carried self len }
+        ensures { result ≡ carries_length self len }
     {
         match self {
             Version::One => len <= MOST_OLD_VALUE_BYTES,

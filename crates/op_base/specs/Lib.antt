@@ -1,5 +1,6 @@
 pub mod Name
 pub mod Object
+pub mod Verb
 pub mod Operation
 pub mod InPlace
 pub mod Code

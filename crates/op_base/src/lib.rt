@@ -13,6 +13,7 @@ mod tag;
 #[cfg(test)]
 mod tests;
 mod validity;
+mod verb;
 
 pub use laws::{items_are_in_one_order, names_are_exactly_what_is_read};
 pub use list::{ByteList, ElementIdList, IdList, ListOf, MessageList, StepList, Text, ValueList};
@@ -26,3 +27,4 @@ pub use order::item_order;
 pub use outcome::{Answer, Cell, Crook, Item, Step};
 pub use tag::{ElementId, MOST_MEMBERS, MessageId, Tag};
 pub use validity::{operations_are_valid, updates_are_valid};
+pub use verb::{Argument, Verb, operation_of};

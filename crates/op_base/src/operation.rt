@@ -1,14 +1,15 @@
 //! Operations: what is sent, as itself.
 //!
 //! That an operation is sent as itself, computed from no state, is the idea of Baquero, Almeida and Shoker
-//! (arXiv 1710.04469). The kinds' acts and their codes are this project's own profile.
+//! (arXiv 1710.04469). Which acts a kind has is said by the table of operations.
 
 ghost use Rattle.std.specs.Prelude.{◌≡◌, IsTrue, Some, is_ok, IfOk, IfErr, IsOk};
-ghost use Rattle.op_base.specs.Operation.{act_code, has_act, is_place};
+ghost use Rattle.op_base.specs.Operation.{verb_of, names_elements, act_code, has_act, is_place};
 
 use crate::memory::NoMemory;
 use crate::name::{Kind, ObjectId, Value};
 use crate::tag::ElementId;
+use crate::verb::Verb;
 use std::alloc::Global;
 
 /// What is done to an object.
@@ -66,41 +67,50 @@ fn is_place(place: Option<ElementId>) -> bool
     }
 }
 
+/// Whether what an act names, if it names one, can be an element of a list.
+fn names_elements(act: &Act) -> bool
+    ensures { result ≡ names_elements act.now }
+{
+    match act {
+        Act::Ins(_, place) => is_place(*place),
+        Act::Del(id) => id.is_element(),
+        _ => true,
+    }
+}
+
 /// The code of an act at a kind, 1 to 22. `None` exactly where the kind has no such act, or the act names what can't be an
 /// element.
 fn act_code(kind: Kind, act: &Act) -> Option<u8>
     ensures { result ≡ act_code kind act.now }
 {
-    let code = match (kind, act) {
-        (Kind::AwSet, Act::Add(_)) => 1,
-        (Kind::AwSet, Act::Rmv(_)) => 2,
-        (Kind::AwSet, Act::Clear) => 3,
-        (Kind::RwSet, Act::Add(_)) => 4,
-        (Kind::RwSet, Act::Rmv(_)) => 5,
-        (Kind::RwSet, Act::Clear) => 6,
-        (Kind::EwFlag, Act::Enable) => 7,
-        (Kind::EwFlag, Act::Disable) => 8,
-        (Kind::EwFlag, Act::Clear) => 9,
-        (Kind::DwFlag, Act::Enable) => 10,
-        (Kind::DwFlag, Act::Disable) => 11,
-        (Kind::DwFlag, Act::Clear) => 12,
-        (Kind::MvReg, Act::Write(_)) => 13,
-        (Kind::MvReg, Act::Clear) => 14,
-        (Kind::Counter, Act::Inc(_)) => 15,
-        (Kind::Counter, Act::Dec(_)) => 16,
-        (Kind::RCounter, Act::Inc(_)) => 17,
-        (Kind::RCounter, Act::Dec(_)) => 18,
-        (Kind::RCounter, Act::Clear) => 19,
-        (Kind::List, Act::Ins(_, place)) if is_place(*place) => 20,
-        (Kind::List, Act::Del(id)) if id.is_element() => 21,
-        (Kind::List, Act::Clear) => 22,
-        _ => return None,
-    };
-    Some(code)
+    let code = act.verb().code(kind)?;
+    if names_elements(act) {
+        Some(code)
+    } else {
+        None
+    }
 }
 
 impl Act {
     ghost use Rattle.op_base.specs.InPlace.{IsActInPlace};
+
+    /// What it does, without its argument.
+    pub fn verb(&self) -> Verb
+        ensures { result ≡ verb_of self.now }
+    {
+        match self {
+            Act::Add(_) => Verb::Add,
+            Act::Rmv(_) => Verb::Rmv,
+            Act::Clear => Verb::Clear,
+            Act::Enable => Verb::Enable,
+            Act::Disable => Verb::Disable,
+            Act::Write(_) => Verb::Write,
+            Act::Inc(_) => Verb::Inc,
+            Act::Dec(_) => Verb::Dec,
+            Act::Ins(_, _) => Verb::Ins,
+            Act::Del(_) => Verb::Del,
+        }
+    }
 
     /// An equal act. One whose value, if it has one, stands in place takes no memory; `NoMemory` leaves nothing behind.
     pub fn copy(&self, alloc: Global) -> Result<Act, NoMemory>

@@ -43,7 +43,7 @@ err_is_not_ok f u e = cc
 -- what is an update is refused for want of memory alone
 pub only_memory : (f : Fault) (wanted : Result Update Fault) (u : Update) → (f ≢ fault.NoMemory → wanted ≡ Err f) → wanted ≡ Ok u → f ≡ fault.NoMemory
 only_memory fault.TooLong wanted u told is = absurd (err_is_not_ok fault.TooLong u (sym (told (λ e. cc)) ∙ is))
-only_memory fault.Verb wanted u told is = absurd (err_is_not_ok fault.Verb u (sym (told (λ e. cc)) ∙ is))
+only_memory fault.Keyword wanted u told is = absurd (err_is_not_ok fault.Keyword u (sym (told (λ e. cc)) ∙ is))
 only_memory fault.Words wanted u told is = absurd (err_is_not_ok fault.Words u (sym (told (λ e. cc)) ∙ is))
 only_memory fault.Member wanted u told is = absurd (err_is_not_ok fault.Member u (sym (told (λ e. cc)) ∙ is))
 only_memory fault.Object wanted u told is = absurd (err_is_not_ok fault.Object u (sym (told (λ e. cc)) ∙ is))

@@ -14,12 +14,12 @@ use Rattle.script_lang.specs.declared.live.LiveCommand.{LiveCommand}
 use Rattle.script_lang.specs.declared.live.LiveLine.TheVariants as live_line
 use Rattle.script_lang.specs.declared.header.Mode.{Mode}
 use Rattle.script_lang.specs.declared.fault.Fault.{Fault}
-use Rattle.script_lang.specs.declared.fault.Fault.TheVariants.{TooLong, Verb, Words, Member, Object, Operation, Value, Number, NoMemory}
+use Rattle.script_lang.specs.declared.fault.Fault.TheVariants.{TooLong, Keyword, Words, Member, Object, Operation, Value, Number, NoMemory}
 
 -- no fault of a line is told as want of memory
 lacks : (fault : Fault) → bad_line (number_of_fault fault) ≡ line.NoMemory → fault ≡ NoMemory
 lacks TooLong e = absurd (cc)
-lacks Verb e = absurd (cc)
+lacks Keyword e = absurd (cc)
 lacks Words e = absurd (cc)
 lacks Member e = absurd (cc)
 lacks Object e = absurd (cc)
@@ -30,7 +30,7 @@ lacks NoMemory e = refl
 
 lacks_live : (fault : Fault) → bad_live_line (number_of_fault fault) ≡ live_line.NoMemory → fault ≡ NoMemory
 lacks_live TooLong e = absurd (cc)
-lacks_live Verb e = absurd (cc)
+lacks_live Keyword e = absurd (cc)
 lacks_live Words e = absurd (cc)
 lacks_live Member e = absurd (cc)
 lacks_live Object e = absurd (cc)
@@ -43,7 +43,7 @@ lacks_live NoMemory e = refl
 takes : (read : Result Command Fault) → IsTrue (takes_memory keeps read) → IsTrue (line_takes_memory (run_or_bad read))
 takes (Ok command) h = h
 takes (Err TooLong) h = h
-takes (Err Verb) h = h
+takes (Err Keyword) h = h
 takes (Err Words) h = h
 takes (Err Member) h = h
 takes (Err Object) h = h
@@ -52,10 +52,10 @@ takes (Err Value) h = h
 takes (Err Number) h = h
 takes (Err NoMemory) h = h
 
-takes_live : (read : Result LiveCommand Fault) → IsTrue (takes_memory live_keeps read) → IsTrue (live_line_takes_memory (live.run_or_bad read))
+takes_live : (read : Result LiveCommand Fault) → IsTrue (takes_memory live_keeps read) → IsTrue (live_line_takes_memory (live.live_run_or_bad read))
 takes_live (Ok command) h = h
 takes_live (Err TooLong) h = h
-takes_live (Err Verb) h = h
+takes_live (Err Keyword) h = h
 takes_live (Err Words) h = h
 takes_live (Err Member) h = h
 takes_live (Err Object) h = h

@@ -1,23 +1,22 @@
 -- The act that is read of a kind is one that the kind has, so that it makes an update.
-use Rattle.std.proofs.Common.{◌≡◌, ℕ, Bool, true, false, List, [], ◌∷◌, refl, cond}
-use Rattle.std.specs.Prelude.{Result, Ok, Err, Some, None, ok_or, codes, IsTrue, IfOk, is_some}
+use Rattle.std.proofs.Common.{◌≡◌, ℕ, Bool, true, false, List, [], ◌∷◌, refl, cond, subst}
+use Rattle.std.specs.Prelude.{Result, Ok, Err, Option, Some, None, ok_or, codes, IsTrue, IfOk, is_some}
 use Rattle.std.specs.List.{slice_split}
 use Rattle.op_base.specs.Name.{same_text}
-use Rattle.op_base.specs.Operation.{is_element, is_place, has_act}
+use Rattle.op_base.specs.Operation.{is_element, is_place, code_where, has_act}
 use Rattle.op_base.specs.Reading.{update_of, where_true}
+use Rattle.op_base.specs.Verb.{code_of}
 use Rattle.op_base.specs.declared.name.Kind.{Kind}
-use Rattle.op_base.specs.declared.name.Kind.TheVariants.{AwSet, RwSet, EwFlag, DwFlag, MvReg, Counter, RCounter}
-use Rattle.op_base.specs.declared.name.Kind.TheVariants as kinds
 use Rattle.op_base.specs.declared.name.ObjectId.{ObjectId}
 use Rattle.op_base.specs.declared.operation.Act.{Act}
 use Rattle.op_base.specs.declared.operation.Update.{Update}
 use Rattle.op_base.specs.declared.tag.ElementId.{ElementId}
+use Rattle.op_base.specs.declared.verb.Verb.{Verb}
+use Rattle.op_base.specs.declared.verb.Verb.TheVariants.{Add, Rmv, Enable, Disable, Write, Inc, Dec, Ins, Del, Clear}
 use Rattle.script_lang.specs.Fault.{◌>>=◌}
-use Rattle.script_lang.specs.Names.{value_in, amount_in, is_point, element_of, element_in, place_in}
-use Rattle.script_lang.specs.Acts.{set_act, flag_act, register_act, counter_act, clearable_act, list_act, kind_act}
+use Rattle.script_lang.specs.Names.{value_in, amount_in, is_point, element_from, element_in, place_in}
+use Rattle.script_lang.specs.Acts.{act_in, kind_act}
 use Rattle.script_lang.specs.Memory.{takes_memory, has_long_value}
-use Rattle.script_lang.specs.declared.act.Operation.{Operation}
-use Rattle.script_lang.specs.declared.act.Operation.TheVariants.{Add, Rmv, Clear, Enable, Disable, Write, Inc, Dec, Ins, Del}
 use Rattle.script_lang.specs.declared.fault.Fault.{Fault}
 use Rattle.script_lang.specs.declared.fault.Fault.TheVariants as fault
 
@@ -37,7 +36,7 @@ tested_holds : {A : Type 0} (holds : A → Type 0) (test : Bool) (a b : Result A
 tested_holds holds true a b h k = h refl
 tested_holds holds false a b h k = k
 
-parts_hold : (words : List (List ℕ)) → IfOk (element_of words) (λ id. IsTrue (is_element id))
+parts_hold : (words : List (List ℕ)) → IfOk (element_from words) (λ id. IsTrue (is_element id))
 parts_hold [] = tt
 parts_hold (epoch ∷ []) = tt
 parts_hold (epoch ∷ origin ∷ []) = tt
@@ -57,67 +56,32 @@ place_holds word =
     tested_holds (λ place. IsTrue (is_place place)) (same_text word (codes "head")) (Ok None) _ (λ _. refl)
     (then_holds (λ id. IsTrue (is_element id)) (λ place. IsTrue (is_place place)) (element_in word) _ (element_holds word) (λ id h. h))
 
--- a code that is given where a test passes
-coded : (test : Bool) (code : ℕ) → IsTrue test → IsTrue (is_some (cond test (Some code) None))
-coded true code h = refl
-coded false code h = absurd (cc)
+-- a code that is there and whose test passes
+coded : (test : Bool) (code : Option ℕ) → IsTrue test → IsTrue (is_some code) → IsTrue (is_some (code_where test code))
+coded test None h has = has
+coded true (Some code) h has = refl
+coded false (Some code) h has = h
 
--- what is found is an act that the kind has
-abbrev Fits : Kind → Result Act Fault → Type 0
-Fits kind wanted = IfOk wanted (λ act. IsTrue (has_act kind act))
+-- a kind has an act
+abbrev Fits : Kind → Act → Type 0
+Fits kind act = IsTrue (has_act kind act)
 
-set_fits : (operation : Operation) (arguments : List (List ℕ)) → Fits AwSet (set_act operation arguments)
-set_fits Add (word ∷ []) = any_holds (λ act. IsTrue (has_act AwSet act)) (value_in word) _ (λ _. refl)
-set_fits Rmv (word ∷ []) = any_holds (λ act. IsTrue (has_act AwSet act)) (value_in word) _ (λ _. refl)
-set_fits Clear [] = refl
-set_fits operation arguments = tt
-
-other_set_fits : (operation : Operation) (arguments : List (List ℕ)) → Fits RwSet (set_act operation arguments)
-other_set_fits Add (word ∷ []) = any_holds (λ act. IsTrue (has_act RwSet act)) (value_in word) _ (λ _. refl)
-other_set_fits Rmv (word ∷ []) = any_holds (λ act. IsTrue (has_act RwSet act)) (value_in word) _ (λ _. refl)
-other_set_fits Clear [] = refl
-other_set_fits operation arguments = tt
-
-flag_fits : (operation : Operation) (arguments : List (List ℕ)) → Fits EwFlag (flag_act operation arguments) × Fits DwFlag (flag_act operation arguments)
-flag_fits Enable [] = (refl, refl)
-flag_fits Disable [] = (refl, refl)
-flag_fits Clear [] = (refl, refl)
-flag_fits operation arguments = (tt, tt)
-
-register_fits : (operation : Operation) (arguments : List (List ℕ)) → Fits MvReg (register_act operation arguments)
-register_fits Write (word ∷ []) = any_holds (λ act. IsTrue (has_act MvReg act)) (value_in word) _ (λ _. refl)
-register_fits Clear [] = refl
-register_fits operation arguments = tt
-
-counter_fits : (operation : Operation) (arguments : List (List ℕ)) → Fits Counter (counter_act operation arguments)
-counter_fits Inc (word ∷ []) = any_holds (λ act. IsTrue (has_act Counter act)) (amount_in word) _ (λ _. refl)
-counter_fits Dec (word ∷ []) = any_holds (λ act. IsTrue (has_act Counter act)) (amount_in word) _ (λ _. refl)
-counter_fits operation arguments = tt
-
-clearable_fits : (operation : Operation) (arguments : List (List ℕ)) → Fits RCounter (clearable_act operation arguments)
-clearable_fits Inc (word ∷ []) = any_holds (λ act. IsTrue (has_act RCounter act)) (amount_in word) _ (λ _. refl)
-clearable_fits Dec (word ∷ []) = any_holds (λ act. IsTrue (has_act RCounter act)) (amount_in word) _ (λ _. refl)
-clearable_fits Clear [] = refl
-clearable_fits operation arguments = tt
-
-list_fits : (operation : Operation) (arguments : List (List ℕ)) → Fits kinds.List (list_act operation arguments)
-list_fits Ins (value ∷ word ∷ []) =
-    any_holds (λ act. IsTrue (has_act kinds.List act)) (value_in value) _ (λ v.
-    then_holds (λ place. IsTrue (is_place place)) (λ act. IsTrue (has_act kinds.List act)) (place_in word) _ (place_holds word) (λ place h. coded (is_place place) 20 h))
-list_fits Del (word ∷ []) =
-    then_holds (λ id. IsTrue (is_element id)) (λ act. IsTrue (has_act kinds.List act)) (element_in word) _ (element_holds word) (λ id h. coded (is_element id) 21 h)
-list_fits Clear [] = refl
-list_fits operation arguments = tt
-
-act_fits : (kind : Kind) (operation : Operation) (arguments : List (List ℕ)) → Fits kind (kind_act kind operation arguments)
-act_fits AwSet operation arguments = set_fits operation arguments
-act_fits RwSet operation arguments = other_set_fits operation arguments
-act_fits EwFlag operation arguments = (flag_fits operation arguments).0
-act_fits DwFlag operation arguments = (flag_fits operation arguments).1
-act_fits MvReg operation arguments = register_fits operation arguments
-act_fits Counter operation arguments = counter_fits operation arguments
-act_fits RCounter operation arguments = clearable_fits operation arguments
-act_fits kinds.List operation arguments = list_fits operation arguments
+-- where a kind has a verb, an act that is read of it is one that the kind has
+act_fits : (kind : Kind) (verb : Verb) (arguments : List (List ℕ)) → IsTrue (is_some (code_of kind verb)) → IfOk (act_in verb arguments) (Fits kind)
+act_fits kind Add (word ∷ []) has = any_holds (Fits kind) (value_in word) _ (λ _. coded true (code_of kind Add) refl has)
+act_fits kind Rmv (word ∷ []) has = any_holds (Fits kind) (value_in word) _ (λ _. coded true (code_of kind Rmv) refl has)
+act_fits kind Enable [] has = coded true (code_of kind Enable) refl has
+act_fits kind Disable [] has = coded true (code_of kind Disable) refl has
+act_fits kind Write (word ∷ []) has = any_holds (Fits kind) (value_in word) _ (λ _. coded true (code_of kind Write) refl has)
+act_fits kind Inc (word ∷ []) has = any_holds (Fits kind) (amount_in word) _ (λ _. coded true (code_of kind Inc) refl has)
+act_fits kind Dec (word ∷ []) has = any_holds (Fits kind) (amount_in word) _ (λ _. coded true (code_of kind Dec) refl has)
+act_fits kind Ins (value ∷ word ∷ []) has =
+    any_holds (Fits kind) (value_in value) _ (λ v.
+    then_holds (λ place. IsTrue (is_place place)) (Fits kind) (place_in word) _ (place_holds word) (λ place h. coded (is_place place) (code_of kind Ins) h has))
+act_fits kind Del (word ∷ []) has =
+    then_holds (λ id. IsTrue (is_element id)) (Fits kind) (element_in word) _ (element_holds word) (λ id h. coded (is_element id) (code_of kind Del) h has)
+act_fits kind Clear [] has = coded true (code_of kind Clear) refl has
+act_fits kind verb arguments has = tt
 
 -- an update that is made takes memory where its act does
 made_takes : (test : Bool) (make : IsTrue test → Update) → ((h : IsTrue test) → IsTrue (has_long_value (make h).act)) → IsTrue test
@@ -125,12 +89,19 @@ made_takes : (test : Bool) (make : IsTrue test → Update) → ((h : IsTrue test
 made_takes true make long h = long refl
 made_takes false make long h = absurd (cc)
 
-fitting_takes : (object : ObjectId) (wanted : Result Act Fault) → Fits object.kind wanted → IsTrue (takes_memory has_long_value wanted)
+fitting_takes : (object : ObjectId) (wanted : Result Act Fault) → IfOk wanted (Fits object.kind) → IsTrue (takes_memory has_long_value wanted)
     → IsTrue (takes_memory (λ (update : Update). has_long_value update.act) (wanted >>= λ act. ok_or (update_of object act) fault.Operation))
 fitting_takes object (Ok act) fits takes = made_takes (has_act object.kind act) _ (λ _. takes) fits
 fitting_takes object (Err fault) fits takes = takes
 
+-- an act that is read of a kind is one that the kind has
+read_fits : (kind : Kind) (verb : Verb) (arguments : List (List ℕ)) → IfOk (kind_act kind verb arguments) (Fits kind)
+read_fits kind verb arguments = tested_holds (Fits kind) (is_some (code_of kind verb)) (act_in verb arguments) (Err fault.Operation) (act_fits kind verb arguments) tt
+
+pub kind_has : (kind : Kind) (verb : Verb) (arguments : List (List ℕ)) (act : Act) → kind_act kind verb arguments ≡ Ok act → IsTrue (has_act kind act)
+kind_has kind verb arguments act is = subst (λ read. IfOk read (Fits kind)) is (read_fits kind verb arguments)
+
 -- the update of an object takes memory where its act does
-pub update_takes : (object : ObjectId) (operation : Operation) (arguments : List (List ℕ)) → IsTrue (takes_memory has_long_value (kind_act object.kind operation arguments))
-    → IsTrue (takes_memory (λ (update : Update). has_long_value update.act) (kind_act object.kind operation arguments >>= λ act. ok_or (update_of object act) fault.Operation))
-update_takes object operation arguments = fitting_takes object (kind_act object.kind operation arguments) (act_fits object.kind operation arguments)
+pub update_takes : (object : ObjectId) (verb : Verb) (arguments : List (List ℕ)) → IsTrue (takes_memory has_long_value (kind_act object.kind verb arguments))
+    → IsTrue (takes_memory (λ (update : Update). has_long_value update.act) (kind_act object.kind verb arguments >>= λ act. ok_or (update_of object act) fault.Operation))
+update_takes object verb arguments = fitting_takes object (kind_act object.kind verb arguments) (read_fits object.kind verb arguments)

@@ -8,13 +8,13 @@ use Rattle.op_base.specs.Name.{same_text}
 use Rattle.op_base.specs.Operation.{is_element}
 use Rattle.op_base.specs.declared.operation.Act.TheVariants as acts
 use Rattle.op_base.specs.declared.tag.ElementId.{ElementId}
+use Rattle.op_base.specs.declared.verb.Verb.{Verb}
+use Rattle.op_base.specs.declared.verb.Verb.TheVariants.{Ins}
 use Rattle.script_lang.specs.Fault.{◌>>=◌}
 use Rattle.script_lang.specs.Numbers.{number_of}
-use Rattle.script_lang.specs.Names.{value_in, bytes_in, amount_in, is_point, element_of, element_in, place_in}
-use Rattle.script_lang.specs.Acts.{list_act}
+use Rattle.script_lang.specs.Names.{value_in, bytes_in, amount_in, is_point, element_from, element_in, place_in}
+use Rattle.script_lang.specs.Acts.{act_in}
 use Rattle.script_lang.specs.Memory.{takes_memory, is_late, is_long, has_long_value, IsAmple}
-use Rattle.script_lang.specs.declared.act.Operation.{Operation}
-use Rattle.script_lang.specs.declared.act.Operation.TheVariants.{Ins}
 use Rattle.script_lang.specs.declared.fault.Fault.{Fault}
 use Rattle.script_lang.specs.declared.fault.Fault.TheVariants as fault
 
@@ -47,7 +47,7 @@ bytes_late word = found_late (result_ok (decode_of word)) fault.Value refl
 amount_late : (word : List ℕ) → IsLate (amount_in word)
 amount_late word = found_late (number_of word) fault.Number refl
 
-parts_late : (words : List (List ℕ)) → IsLate (element_of words)
+parts_late : (words : List (List ℕ)) → IsLate (element_from words)
 parts_late [] = refl
 parts_late (epoch ∷ []) = refl
 parts_late (epoch ∷ origin ∷ []) = refl
@@ -73,13 +73,13 @@ placed_takes value word =
     late_then has_long_value (place_in word) (λ place. Ok (acts.Ins v place)) (place_late word) (λ _. long))
 
 -- `ins` takes memory where its value does
-pub ins_takes : {T : Type 0} (now : T → List ℕ) (other : T) (operation : Operation) (arguments : List T) → operation ≡ Ins → length arguments ≡ 2
-    → IsTrue (takes_memory is_long (value_in (now (get_or arguments 0 other)))) → IsTrue (takes_memory has_long_value (list_act operation (map now arguments)))
+pub ins_takes : {T : Type 0} (now : T → List ℕ) (other : T) (verb : Verb) (arguments : List T) → verb ≡ Ins → length arguments ≡ 2
+    → IsTrue (takes_memory is_long (value_in (now (get_or arguments 0 other)))) → IsTrue (takes_memory has_long_value (act_in verb (map now arguments)))
 ins_takes now other Ins (value ∷ place ∷ []) is two takes = placed_takes (now value) (now place) takes
 ins_takes now other Ins [] is two takes = absurd (cc)
 ins_takes now other Ins (value ∷ []) is two takes = absurd (cc)
 ins_takes now other Ins (value ∷ place ∷ more ∷ arguments) is two takes = absurd (cc)
-ins_takes now other operation arguments is two takes = absurd (cc)
+ins_takes now other verb arguments is two takes = absurd (cc)
 
 -- a late part is read amply
 pub late_ample : {A : Type 0} (keeps : A → Bool) (wanted result : Result A Fault) → IsTrue (takes_memory keeps wanted) → IsAmple keeps wanted result

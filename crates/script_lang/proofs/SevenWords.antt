@@ -7,11 +7,11 @@ use Rattle.op_base.specs.Name.{same_text}
 use Rattle.script_lang.specs.Words.{words_of}
 use Rattle.script_lang.specs.Headers.{header_words, header_of}
 use Rattle.script_lang.specs.Names.{client_digits}
-use Rattle.script_lang.specs.Commands.{verb_of, words_behind, command_words, command_of}
+use Rattle.script_lang.specs.Commands.{keyword_of, words_behind, command_words, command_of}
 use Rattle.script_lang.specs.LiveCommands.{live_words, live_command_of}
 use Rattle.script_lang.specs.LiveCommands as live
-use Rattle.script_lang.specs.declared.command.Verb.{Verb}
-use Rattle.script_lang.specs.declared.command.Verb.TheVariants.{Do, Ask, Ids, Tombs, Beat, Give, Resend, Raw, Settle, Members, Log, Size, Stable, Seen, Noops, Lags, Stop}
+use Rattle.script_lang.specs.declared.command.Keyword.{Keyword}
+use Rattle.script_lang.specs.declared.command.Keyword.TheVariants.{Do, Ask, Ids, Tombs, Beat, Give, Resend, Raw, Settle, Members, Log, Size, Stable, Seen, Noops, Lags, Stop}
 use Rattle.script_lang.specs.declared.fault.Fault.TheVariants as fault
 use Rattle.script_lang.specs.declared.header.Mode.{Mode}
 use Rattle.script_lang.specs.declared.live.LiveCommand.{LiveCommand}
@@ -26,9 +26,9 @@ header_by_seven (a ∷ b ∷ c ∷ d ∷ e ∷ []) = refl
 header_by_seven (a ∷ b ∷ c ∷ d ∷ e ∷ f ∷ []) = refl
 header_by_seven (a ∷ b ∷ c ∷ d ∷ e ∷ f ∷ g ∷ words) = refl
 
--- six words and more behind a verb are too many
-too_many : (n : ℕ) (verb : Option Verb) (a b c d e f : List ℕ) (words : List (List ℕ))
-    → words_behind n verb (a ∷ b ∷ c ∷ d ∷ e ∷ f ∷ []) ≡ words_behind n verb (a ∷ b ∷ c ∷ d ∷ e ∷ f ∷ words)
+-- six words and more behind a keyword are too many
+too_many : (n : ℕ) (keyword : Option Keyword) (a b c d e f : List ℕ) (words : List (List ℕ))
+    → words_behind n keyword (a ∷ b ∷ c ∷ d ∷ e ∷ f ∷ []) ≡ words_behind n keyword (a ∷ b ∷ c ∷ d ∷ e ∷ f ∷ words)
 too_many n None a b c d e f words = refl
 too_many n (Some Do) a b c d e f words = refl
 too_many n (Some Ask) a b c d e f words = refl
@@ -56,11 +56,11 @@ command_by_seven mode n (v ∷ a ∷ b ∷ []) = refl
 command_by_seven mode n (v ∷ a ∷ b ∷ c ∷ []) = refl
 command_by_seven mode n (v ∷ a ∷ b ∷ c ∷ d ∷ []) = refl
 command_by_seven mode n (v ∷ a ∷ b ∷ c ∷ d ∷ e ∷ []) = refl
-command_by_seven mode n (v ∷ a ∷ b ∷ c ∷ d ∷ e ∷ f ∷ words) = too_many n (verb_of mode v) a b c d e f words
+command_by_seven mode n (v ∷ a ∷ b ∷ c ∷ d ∷ e ∷ f ∷ words) = too_many n (keyword_of mode v) a b c d e f words
 
 -- six words and more behind a client's name are too many
 too_many_live : (clients : ℕ) (c : Option (List ℕ)) (v a b d e f : List ℕ) (words : List (List ℕ))
-    → live.words_behind clients c (v ∷ a ∷ b ∷ d ∷ e ∷ f ∷ []) ≡ live.words_behind clients c (v ∷ a ∷ b ∷ d ∷ e ∷ f ∷ words)
+    → live.client_words_behind clients c (v ∷ a ∷ b ∷ d ∷ e ∷ f ∷ []) ≡ live.client_words_behind clients c (v ∷ a ∷ b ∷ d ∷ e ∷ f ∷ words)
 too_many_live clients None v a b d e f words = refl
 too_many_live clients (Some c) v a b d e f words = refl
 

@@ -11,8 +11,8 @@ use Rattle.script_lang.specs.declared.fault.Fault.{Fault}
 use Rattle.script_lang.specs.declared.fault.Fault.TheVariants as fault
 use Rattle.script_lang.specs.declared.command.Command.{Command}
 use Rattle.script_lang.specs.declared.command.Command.TheVariants.{Do, Ask, Ids, Tombs, Beat, Give, Resend, Raw, Settle, Members, Log, Size, Stable, Seen, Noops, Lags, Stop}
-use Rattle.script_lang.specs.declared.command.Verb.{Verb}
-use Rattle.script_lang.specs.declared.command.Verb.TheVariants as verbs
+use Rattle.script_lang.specs.declared.command.Keyword.{Keyword}
+use Rattle.script_lang.specs.declared.command.Keyword.TheVariants as keywords
 use Rattle.script_lang.specs.declared.command.Line.{Line}
 use Rattle.script_lang.specs.declared.command.Line.TheVariants.{Skip, Run, Bad}
 use Rattle.script_lang.specs.declared.command.Line.TheVariants as lines
@@ -93,113 +93,113 @@ abbrev pub lone_member : ℕ → List (List ℕ) → Result ℕ Fault
 lone_member n (r ∷ []) = member_of n r
 lone_member n words = Err fault.Words
 
--- whether a verb has a member behind it and nothing else
-abbrev pub has_lone_member : Verb → Bool
-has_lone_member verbs.Do = false
-has_lone_member verbs.Ask = false
-has_lone_member verbs.Ids = false
-has_lone_member verbs.Tombs = false
-has_lone_member verbs.Beat = true
-has_lone_member verbs.Give = false
-has_lone_member verbs.Resend = false
-has_lone_member verbs.Raw = false
-has_lone_member verbs.Settle = false
-has_lone_member verbs.Members = false
-has_lone_member verbs.Log = true
-has_lone_member verbs.Size = true
-has_lone_member verbs.Stable = true
-has_lone_member verbs.Seen = true
-has_lone_member verbs.Noops = true
-has_lone_member verbs.Lags = true
-has_lone_member verbs.Stop = false
+-- whether a keyword has a member behind it and nothing else
+abbrev pub has_lone_member : Keyword → Bool
+has_lone_member keywords.Do = false
+has_lone_member keywords.Ask = false
+has_lone_member keywords.Ids = false
+has_lone_member keywords.Tombs = false
+has_lone_member keywords.Beat = true
+has_lone_member keywords.Give = false
+has_lone_member keywords.Resend = false
+has_lone_member keywords.Raw = false
+has_lone_member keywords.Settle = false
+has_lone_member keywords.Members = false
+has_lone_member keywords.Log = true
+has_lone_member keywords.Size = true
+has_lone_member keywords.Stable = true
+has_lone_member keywords.Seen = true
+has_lone_member keywords.Noops = true
+has_lone_member keywords.Lags = true
+has_lone_member keywords.Stop = false
 
--- the word of a verb
-abbrev pub verb_word : Verb → List ℕ
-verb_word verbs.Do = codes "do"
-verb_word verbs.Ask = codes "ask"
-verb_word verbs.Ids = codes "ids"
-verb_word verbs.Tombs = codes "tombs"
-verb_word verbs.Beat = codes "beat"
-verb_word verbs.Give = codes "give"
-verb_word verbs.Resend = codes "resend"
-verb_word verbs.Raw = codes "raw"
-verb_word verbs.Settle = codes "settle"
-verb_word verbs.Members = codes "members"
-verb_word verbs.Log = codes "log"
-verb_word verbs.Size = codes "size"
-verb_word verbs.Stable = codes "stable"
-verb_word verbs.Seen = codes "seen"
-verb_word verbs.Noops = codes "noops"
-verb_word verbs.Lags = codes "lags"
-verb_word verbs.Stop = codes "stop"
+-- the word of a keyword
+abbrev pub keyword_word : Keyword → List ℕ
+keyword_word keywords.Do = codes "do"
+keyword_word keywords.Ask = codes "ask"
+keyword_word keywords.Ids = codes "ids"
+keyword_word keywords.Tombs = codes "tombs"
+keyword_word keywords.Beat = codes "beat"
+keyword_word keywords.Give = codes "give"
+keyword_word keywords.Resend = codes "resend"
+keyword_word keywords.Raw = codes "raw"
+keyword_word keywords.Settle = codes "settle"
+keyword_word keywords.Members = codes "members"
+keyword_word keywords.Log = codes "log"
+keyword_word keywords.Size = codes "size"
+keyword_word keywords.Stable = codes "stable"
+keyword_word keywords.Seen = codes "seen"
+keyword_word keywords.Noops = codes "noops"
+keyword_word keywords.Lags = codes "lags"
+keyword_word keywords.Stop = codes "stop"
 
--- the verbs of what changes a replica, and of what is asked of one
-abbrev pub doing_verbs : List Verb
-doing_verbs = verbs.Do ∷ verbs.Beat ∷ verbs.Give ∷ verbs.Resend ∷ verbs.Raw ∷ verbs.Settle ∷ verbs.Members ∷ verbs.Stop ∷ []
+-- the keywords of what changes a replica, and of what is asked of one
+abbrev pub doing_keywords : List Keyword
+doing_keywords = keywords.Do ∷ keywords.Beat ∷ keywords.Give ∷ keywords.Resend ∷ keywords.Raw ∷ keywords.Settle ∷ keywords.Members ∷ keywords.Stop ∷ []
 
-abbrev pub asking_verbs : List Verb
-asking_verbs = verbs.Ask ∷ verbs.Ids ∷ verbs.Tombs ∷ verbs.Log ∷ verbs.Size ∷ verbs.Stable ∷ verbs.Seen ∷ verbs.Noops ∷ verbs.Lags ∷ []
+abbrev pub asking_keywords : List Keyword
+asking_keywords = keywords.Ask ∷ keywords.Ids ∷ keywords.Tombs ∷ keywords.Log ∷ keywords.Size ∷ keywords.Stable ∷ keywords.Seen ∷ keywords.Noops ∷ keywords.Lags ∷ []
 
--- the verb of a list whose word this is
-abbrev pub verb_among : List Verb → List ℕ → Option Verb
-verb_among [] word = None
-verb_among (verb ∷ others) word = if same_text (verb_word verb) word then Some verb else verb_among others word
+-- the keyword of a list whose word this is
+abbrev pub keyword_among : List Keyword → List ℕ → Option Keyword
+keyword_among [] word = None
+keyword_among (keyword ∷ others) word = if same_text (keyword_word keyword) word then Some keyword else keyword_among others word
 
--- the verb whose word this is
-abbrev pub verb_named : List ℕ → Option Verb
-verb_named word = option_or (verb_among doing_verbs word) (verb_among asking_verbs word)
+-- the keyword whose word this is
+abbrev pub keyword_named : List ℕ → Option Keyword
+keyword_named word = option_or (keyword_among doing_keywords word) (keyword_among asking_keywords word)
 
--- Whether scripts of a mode have a verb. Where replicas can be stopped, nothing is resent, offered as bytes, settled or asked of
+-- Whether scripts of a mode have a keyword. Where replicas can be stopped, nothing is resent, offered as bytes, settled or asked of
 -- no-ops, nor do the members change.
-abbrev pub has_verb : Mode → Verb → Bool
-has_verb mode.Store verbs.Stop = false
-has_verb mode.Store verb = true
-has_verb mode.Keep verbs.Resend = false
-has_verb mode.Keep verbs.Raw = false
-has_verb mode.Keep verbs.Settle = false
-has_verb mode.Keep verbs.Members = false
-has_verb mode.Keep verbs.Noops = false
-has_verb mode.Keep verbs.Lags = false
-has_verb mode.Keep verb = true
+abbrev pub has_keyword : Mode → Keyword → Bool
+has_keyword mode.Store keywords.Stop = false
+has_keyword mode.Store keyword = true
+has_keyword mode.Keep keywords.Resend = false
+has_keyword mode.Keep keywords.Raw = false
+has_keyword mode.Keep keywords.Settle = false
+has_keyword mode.Keep keywords.Members = false
+has_keyword mode.Keep keywords.Noops = false
+has_keyword mode.Keep keywords.Lags = false
+has_keyword mode.Keep keyword = true
 
--- a verb that scripts of a mode have
-abbrev pub verb_in : Mode → Option Verb → Option Verb
-verb_in mode None = None
-verb_in mode (Some verb) = if has_verb mode verb then Some verb else None
+-- a keyword that scripts of a mode have
+abbrev pub keyword_in : Mode → Option Keyword → Option Keyword
+keyword_in mode None = None
+keyword_in mode (Some keyword) = if has_keyword mode keyword then Some keyword else None
 
--- the verb of a mode whose word this is
-abbrev pub verb_of : Mode → List ℕ → Option Verb
-verb_of mode word = verb_in mode (verb_named word)
+-- the keyword of a mode whose word this is
+abbrev pub keyword_of : Mode → List ℕ → Option Keyword
+keyword_of mode word = keyword_in mode (keyword_named word)
 
--- the command of a verb and the words behind it, at one of n members
-abbrev pub verb_words : ℕ → Verb → List (List ℕ) → Result Command Fault
-verb_words n verbs.Do words = do_words n words
-verb_words n verbs.Ask words = ask_words n words
-verb_words n verbs.Ids words = lone_list n words >>= λ asked. Ok (Ids asked.0 asked.1)
-verb_words n verbs.Tombs words = lone_list n words >>= λ asked. Ok (Tombs asked.0 asked.1)
-verb_words n verbs.Beat words = lone_member n words >>= λ r. Ok (Beat r)
-verb_words n verbs.Give words = give_words n words
-verb_words n verbs.Resend words = resend_words n words
-verb_words n verbs.Raw words = raw_words n words
-verb_words n verbs.Settle words = settle_words words
-verb_words n verbs.Members words = members_words words
-verb_words n verbs.Log words = lone_member n words >>= λ r. Ok (Log r)
-verb_words n verbs.Size words = lone_member n words >>= λ r. Ok (Size r)
-verb_words n verbs.Stable words = lone_member n words >>= λ r. Ok (Stable r)
-verb_words n verbs.Seen words = lone_member n words >>= λ r. Ok (Seen r)
-verb_words n verbs.Noops words = lone_member n words >>= λ r. Ok (Noops r)
-verb_words n verbs.Lags words = lone_member n words >>= λ r. Ok (Lags r)
-verb_words n verbs.Stop words = stop_words n words
+-- the command of a keyword and the words behind it, at one of n members
+abbrev pub keyword_words : ℕ → Keyword → List (List ℕ) → Result Command Fault
+keyword_words n keywords.Do words = do_words n words
+keyword_words n keywords.Ask words = ask_words n words
+keyword_words n keywords.Ids words = lone_list n words >>= λ asked. Ok (Ids asked.0 asked.1)
+keyword_words n keywords.Tombs words = lone_list n words >>= λ asked. Ok (Tombs asked.0 asked.1)
+keyword_words n keywords.Beat words = lone_member n words >>= λ r. Ok (Beat r)
+keyword_words n keywords.Give words = give_words n words
+keyword_words n keywords.Resend words = resend_words n words
+keyword_words n keywords.Raw words = raw_words n words
+keyword_words n keywords.Settle words = settle_words words
+keyword_words n keywords.Members words = members_words words
+keyword_words n keywords.Log words = lone_member n words >>= λ r. Ok (Log r)
+keyword_words n keywords.Size words = lone_member n words >>= λ r. Ok (Size r)
+keyword_words n keywords.Stable words = lone_member n words >>= λ r. Ok (Stable r)
+keyword_words n keywords.Seen words = lone_member n words >>= λ r. Ok (Seen r)
+keyword_words n keywords.Noops words = lone_member n words >>= λ r. Ok (Noops r)
+keyword_words n keywords.Lags words = lone_member n words >>= λ r. Ok (Lags r)
+keyword_words n keywords.Stop words = stop_words n words
 
 -- the command of the words behind a first word
-abbrev pub words_behind : ℕ → Option Verb → List (List ℕ) → Result Command Fault
-words_behind n None words = Err fault.Verb
-words_behind n (Some verb) words = verb_words n verb words
+abbrev pub words_behind : ℕ → Option Keyword → List (List ℕ) → Result Command Fault
+words_behind n None words = Err fault.Keyword
+words_behind n (Some keyword) words = keyword_words n keyword words
 
 -- the command that words are in a script of a mode, at one of n members
 abbrev pub command_words : Mode → ℕ → List (List ℕ) → Result Command Fault
-command_words mode n [] = Err fault.Verb
-command_words mode n (verb ∷ words) = words_behind n (verb_of mode verb) words
+command_words mode n [] = Err fault.Keyword
+command_words mode n (keyword ∷ words) = words_behind n (keyword_of mode keyword) words
 
 -- the command that a line is
 abbrev pub command_of : Mode → ℕ → List ℕ → Result Command Fault

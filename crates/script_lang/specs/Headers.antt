@@ -10,9 +10,9 @@ use Rattle.script_lang.specs.declared.header.Header.TheVariants.{Store, Keep, Li
 use Rattle.script_lang.specs.declared.header.Mode.{Mode}
 use Rattle.script_lang.specs.declared.header.Mode.TheVariants as mode
 
-infixl 10 ◌>>=◌
-abbrev pub ◌>>=◌ : {A B : Type 0} → Option A → (A → Option B) → Option B
-o >>= f = option_and_then f o
+infixl 10 ◌>>?◌
+abbrev pub ◌>>?◌ : {A B : Type 0} → Option A → (A → Option B) → Option B
+o >>? f = option_and_then f o
 
 -- how many messages a member may send where the header doesn't say
 abbrev pub usual_limit : ℕ
@@ -43,25 +43,25 @@ script_header mode.Keep n w limit = Keep n w limit
 
 -- the header of the numbers behind a mode's word: n w, or n w limit
 abbrev pub sized_header : Mode → List (List ℕ) → Option Header
-sized_header mode (n ∷ w ∷ []) = number_of n >>= λ n. number_of w >>= λ w. in_range (script_header mode n w usual_limit)
+sized_header mode (n ∷ w ∷ []) = number_of n >>? λ n. number_of w >>? λ w. in_range (script_header mode n w usual_limit)
 sized_header mode (n ∷ w ∷ limit ∷ []) =
-    number_of n >>= λ n. number_of w >>= λ w. number_of limit >>= λ limit. in_range (script_header mode n w limit)
+    number_of n >>? λ n. number_of w >>? λ w. number_of limit >>? λ limit. in_range (script_header mode n w limit)
 sized_header mode words = None
 
 -- the header of the numbers behind live: n w clients turns loss
 abbrev pub live_header : List (List ℕ) → Option Header
 live_header (n ∷ w ∷ clients ∷ turns ∷ loss ∷ []) =
-    number_of n >>= λ n. number_of w >>= λ w. number_of clients >>= λ clients. number_of turns >>= λ turns.
-    number_of loss >>= λ loss. in_range (Live n w clients turns loss)
+    number_of n >>? λ n. number_of w >>? λ w. number_of clients >>? λ clients. number_of turns >>? λ turns.
+    number_of loss >>? λ loss. in_range (Live n w clients turns loss)
 live_header words = None
 
 -- the header that words are
 abbrev pub header_words : List (List ℕ) → Option Header
 header_words [] = None
-header_words (verb ∷ words) =
-    if same_text verb (codes "store") then sized_header mode.Store words
-    else if same_text verb (codes "keep") then sized_header mode.Keep words
-    else if same_text verb (codes "live") then live_header words
+header_words (keyword ∷ words) =
+    if same_text keyword (codes "store") then sized_header mode.Store words
+    else if same_text keyword (codes "keep") then sized_header mode.Keep words
+    else if same_text keyword (codes "live") then live_header words
     else None
 
 -- the header that a line is

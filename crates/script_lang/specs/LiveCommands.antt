@@ -42,22 +42,22 @@ client_ask_words clients c words = Err fault.Words
 -- the words behind a client's digits and colon
 abbrev pub named_words : ℕ → List ℕ → List (List ℕ) → Result LiveCommand Fault
 named_words clients c [] = Err fault.Words
-named_words clients c (verb ∷ words) =
-    if same_text verb (codes "do") then client_do_words clients c words
-    else if same_text verb (codes "ask") then client_ask_words clients c words
-    else Err fault.Verb
+named_words clients c (keyword ∷ words) =
+    if same_text keyword (codes "do") then client_do_words clients c words
+    else if same_text keyword (codes "ask") then client_ask_words clients c words
+    else Err fault.Keyword
 
 -- the words behind a word that may be a client's digits and a colon
-abbrev pub words_behind : ℕ → Option (List ℕ) → List (List ℕ) → Result LiveCommand Fault
-words_behind clients None words = Err fault.Verb
-words_behind clients (Some c) words = named_words clients c words
+abbrev pub client_words_behind : ℕ → Option (List ℕ) → List (List ℕ) → Result LiveCommand Fault
+client_words_behind clients None words = Err fault.Keyword
+client_words_behind clients (Some c) words = named_words clients c words
 
 -- the command that words are, with n members and so many clients
 abbrev pub live_words : ℕ → ℕ → List (List ℕ) → Result LiveCommand Fault
-live_words n clients [] = Err fault.Verb
+live_words n clients [] = Err fault.Keyword
 live_words n clients (first ∷ words) =
     if same_text first (codes "client") then client_words n clients words
-    else words_behind clients (client_digits first) words
+    else client_words_behind clients (client_digits first) words
 
 -- the command that a line is
 abbrev pub live_command_of : ℕ → ℕ → List ℕ → Result LiveCommand Fault
@@ -69,13 +69,13 @@ abbrev pub bad_live_line : Option ℕ → LiveLine
 bad_live_line (Some code) = Bad code
 bad_live_line None = lines.NoMemory
 
-abbrev pub run_or_bad : Result LiveCommand Fault → LiveLine
-run_or_bad (Ok command) = Run command
-run_or_bad (Err fault) = bad_live_line (number_of_fault fault)
+abbrev pub live_run_or_bad : Result LiveCommand Fault → LiveLine
+live_run_or_bad (Ok command) = Run command
+live_run_or_bad (Err fault) = bad_live_line (number_of_fault fault)
 
 -- what a line of a live input is, with n members and so many clients
 abbrev pub live_line_of : ℕ → ℕ → List ℕ → LiveLine
-live_line_of n clients line = if is_passed_over line then Skip else run_or_bad (live_command_of n clients line)
+live_line_of n clients line = if is_passed_over line then Skip else live_run_or_bad (live_command_of n clients line)
 
 -- a line was read as this, unless memory ran out
 abbrev pub IsLiveLineOrNoMemory : LiveLine → LiveLine → Type 0

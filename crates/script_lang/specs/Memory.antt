@@ -4,7 +4,7 @@ use Rattle.op_base.specs.declared.name.TheConstants.{VALUE_BYTES_IN_PLACE}
 use Rattle.op_base.specs.declared.operation.Act.{Act}
 use Rattle.op_base.specs.declared.operation.Act.TheVariants as acts
 use Rattle.script_lang.specs.declared.fault.Fault.{Fault}
-use Rattle.script_lang.specs.declared.fault.Fault.TheVariants.{TooLong, Verb, Words, Member, Object, Operation, Value, Number, NoMemory}
+use Rattle.script_lang.specs.declared.fault.Fault.TheVariants.{TooLong, Keyword, Words, Member, Object, Operation, Value, Number, NoMemory}
 use Rattle.script_lang.specs.declared.command.Command.{Command}
 use Rattle.script_lang.specs.declared.command.Command.TheVariants as command
 use Rattle.script_lang.specs.declared.command.Line.{Line}
@@ -22,7 +22,7 @@ Reads wanted result = MatchResult result (λ x. wanted ≡ Ok x) (λ e. e ≢ No
 -- copied before the place is read.
 abbrev pub is_late : Fault → Bool
 is_late TooLong = false
-is_late Verb = false
+is_late Keyword = false
 is_late Words = false
 is_late Member = false
 is_late Object = false

@@ -63,15 +63,15 @@ abbrev pub element_where : ElementId → Result ElementId Fault
 element_where id = if is_element id then Ok id else Err fault.Number
 
 -- the id whose epoch, member and number these words are
-abbrev pub element_of : List (List ℕ) → Result ElementId Fault
-element_of (epoch ∷ origin ∷ seq ∷ []) =
+abbrev pub element_from : List (List ℕ) → Result ElementId Fault
+element_from (epoch ∷ origin ∷ seq ∷ []) =
     amount_in epoch >>= λ epoch. amount_in origin >>= λ origin. amount_in seq >>= λ seq.
     element_where (record { epoch = epoch; origin = origin; seq = seq })
-element_of words = Err fault.Number
+element_from words = Err fault.Number
 
 -- the id that a word is: three numbers, parted by points
 abbrev pub element_in : List ℕ → Result ElementId Fault
-element_in word = element_of (slice_split is_point word)
+element_in word = element_from (slice_split is_point word)
 
 -- the place that a word is: the head, or behind an element
 abbrev pub place_in : List ℕ → Result (Option ElementId) Fault

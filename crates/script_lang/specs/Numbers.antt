@@ -7,11 +7,11 @@ abbrev pub is_digit : ℕ → Bool
 is_digit b = nat_le 48 b && nat_le b 57
 
 -- the number that digits write
-abbrev pub value_of : List ℕ → ℕ
-value_of digits = fold (λ value digit. 10 * value + (digit - 48)) 0 digits
+abbrev pub written_number : List ℕ → ℕ
+written_number digits = fold (λ value digit. 10 * value + (digit - 48)) 0 digits
 
 -- the number that a word is
 abbrev pub number_of : List ℕ → Option ℕ
 number_of word =
-    if nat_lt 0 (length word) && nat_le (length word) 10 && list_all is_digit word && nat_lt (value_of word) (2 ^ 32)
-    then Some (value_of word) else None
+    if nat_lt 0 (length word) && nat_le (length word) 10 && list_all is_digit word && nat_lt (written_number word) (2 ^ 32)
+    then Some (written_number word) else None

@@ -2,7 +2,7 @@
 
 ghost use Rattle.std.specs.Prelude.{◌≡◌, ℕ, ◌<◌, true, IfOk, IsTrue, map};
 ghost use Rattle.op_base.specs.declared.name.Kind.TheVariants as kinds;
-ghost use Rattle.script_lang.specs.Commands.{do_command, do_words, ask_command, ask_words, asked_list, lone_list, give_command, give_words, resend_command, resend_words, raw_command, raw_words, settle_words, members_words, stop_command, stop_words, has_lone_member, lone_member, has_verb, doing_verbs, asking_verbs, verb_among, verb_named, verb_of, verb_words, command_words, command_of, line_of, keep_line_of, line_in, bad_line, IsLineOrNoMemory};
+ghost use Rattle.script_lang.specs.Commands.{do_command, do_words, ask_command, ask_words, asked_list, lone_list, give_command, give_words, resend_command, resend_words, raw_command, raw_words, settle_words, members_words, stop_command, stop_words, has_lone_member, lone_member, has_keyword, doing_keywords, asking_keywords, keyword_among, keyword_named, keyword_of, keyword_words, command_words, command_of, line_of, keep_line_of, line_in, bad_line, IsLineOrNoMemory};
 ghost use Rattle.script_lang.specs.Memory.{Reads, IsAmple, keeps, line_takes_memory};
 ghost use Rattle.script_lang.specs.Ranges.{IsWithin, LineIsWithin};
 
@@ -69,7 +69,7 @@ pub enum Line {
 
 /// The first word of a command, of which there is one for each.
 #[derive(Clone, Copy, Debug, PartialEq, Eq)]
-pub enum Verb {
+pub enum Keyword {
     Do,
     Ask,
     Ids,
@@ -135,6 +135,9 @@ fn bad_line(number: Option<u8>) -> Line
 }
 
 /// The command that a line is.
+///
+/// A function of its own, so that a command is moved once less on its way into its line.
+#[inline(never)]
 fn read_command(alloc: Global, mode: Mode, line: &[u8], n: u8) -> Result<Command, Fault>
     ensures command { Reads (command_of mode n line.now) result }
     ensures ample { IsAmple keeps (command_of mode n line.now) result }
@@ -148,74 +151,79 @@ fn read_command(alloc: Global, mode: Mode, line: &[u8], n: u8) -> Result<Command
     read_words(alloc, mode, &parts[..count], n)
 }
 
-/// Whether scripts of a mode have a verb.
-fn has_verb(mode: Mode, verb: Verb) -> bool
-    ensures { result ≡ has_verb mode verb }
+/// Whether scripts of a mode have a keyword.
+fn has_keyword(mode: Mode, keyword: Keyword) -> bool
+    ensures { result ≡ has_keyword mode keyword }
 {
-    match (mode, verb) {
-        (Mode::Store, Verb::Stop) => false,
+    match (mode, keyword) {
+        (Mode::Store, Keyword::Stop) => false,
         (Mode::Store, _) => true,
         (
             Mode::Keep,
-            Verb::Resend | Verb::Raw | Verb::Settle | Verb::Members | Verb::Noops | Verb::Lags,
+            Keyword::Resend
+            | Keyword::Raw
+            | Keyword::Settle
+            | Keyword::Members
+            | Keyword::Noops
+            | Keyword::Lags,
         ) => false,
         (Mode::Keep, _) => true,
     }
 }
 
-/// The verb of a mode whose word this is.
-fn read_verb(mode: Mode, word: &[u8]) -> Option<Verb>
-    ensures { result ≡ verb_of mode word.now }
+/// The keyword of a mode whose word this is.
+fn read_keyword(mode: Mode, word: &[u8]) -> Option<Keyword>
+    ensures { result ≡ keyword_of mode word.now }
 {
-    let verb = verb_named(word)?;
-    if has_verb(mode, verb) {
-        Some(verb)
+    let keyword = keyword_named(word)?;
+    if has_keyword(mode, keyword) {
+        Some(keyword)
     } else {
         None
     }
 }
 
-/// The verb whose word this is.
-fn verb_named(word: &[u8]) -> Option<Verb>
-    ensures { result ≡ verb_named word.now }
+/// The keyword whose word this is.
+fn keyword_named(word: &[u8]) -> Option<Keyword>
+    ensures { result ≡ keyword_named word.now }
 {
-    match doing_verb(word) {
-        Some(verb) => Some(verb),
-        None => asking_verb(word),
+    match doing_keyword(word) {
+        Some(keyword) => Some(keyword),
+        None => asking_keyword(word),
     }
 }
 
-/// The verb of what changes a replica whose word this is.
-fn doing_verb(word: &[u8]) -> Option<Verb>
-    ensures { result ≡ verb_among doing_verbs word.now }
+/// The keyword of what changes a replica whose word this is.
+fn doing_keyword(word: &[u8]) -> Option<Keyword>
+    ensures { result ≡ keyword_among doing_keywords word.now }
 {
     match word {
-        b"do" => Some(Verb::Do),
-        b"beat" => Some(Verb::Beat),
-        b"give" => Some(Verb::Give),
-        b"resend" => Some(Verb::Resend),
-        b"raw" => Some(Verb::Raw),
-        b"settle" => Some(Verb::Settle),
-        b"members" => Some(Verb::Members),
-        b"stop" => Some(Verb::Stop),
+        b"do" => Some(Keyword::Do),
+        b"beat" => Some(Keyword::Beat),
+        b"give" => Some(Keyword::Give),
+        b"resend" => Some(Keyword::Resend),
+        b"raw" => Some(Keyword::Raw),
+        b"settle" => Some(Keyword::Settle),
+        b"members" => Some(Keyword::Members),
+        b"stop" => Some(Keyword::Stop),
         _ => None,
     }
 }
 
-/// The verb of what is asked of a replica whose word this is.
-fn asking_verb(word: &[u8]) -> Option<Verb>
-    ensures { result ≡ verb_among asking_verbs word.now }
+/// The keyword of what is asked of a replica whose word this is.
+fn asking_keyword(word: &[u8]) -> Option<Keyword>
+    ensures { result ≡ keyword_among asking_keywords word.now }
 {
     match word {
-        b"ask" => Some(Verb::Ask),
-        b"ids" => Some(Verb::Ids),
-        b"tombs" => Some(Verb::Tombs),
-        b"log" => Some(Verb::Log),
-        b"size" => Some(Verb::Size),
-        b"stable" => Some(Verb::Stable),
-        b"seen" => Some(Verb::Seen),
-        b"noops" => Some(Verb::Noops),
-        b"lags" => Some(Verb::Lags),
+        b"ask" => Some(Keyword::Ask),
+        b"ids" => Some(Keyword::Ids),
+        b"tombs" => Some(Keyword::Tombs),
+        b"log" => Some(Keyword::Log),
+        b"size" => Some(Keyword::Size),
+        b"stable" => Some(Keyword::Stable),
+        b"seen" => Some(Keyword::Seen),
+        b"noops" => Some(Keyword::Noops),
+        b"lags" => Some(Keyword::Lags),
         _ => None,
     }
 }
@@ -226,68 +234,68 @@ fn read_words(alloc: Global, mode: Mode, words: &[&[u8]], n: u8) -> Result<Comma
     ensures ample { IsAmple keeps (command_words mode n (map (λ word. word.now) words.now)) result }
     ensures within { IfOk result (IsWithin n) }
 {
-    let [verb, words @ ..] = words else {
-        return Err(Fault::Verb);
+    let [keyword, words @ ..] = words else {
+        return Err(Fault::Keyword);
     };
-    match read_verb(mode, verb) {
-        Some(verb) => read_arguments(alloc, verb, words, n),
-        None => Err(Fault::Verb),
+    match read_keyword(mode, keyword) {
+        Some(keyword) => read_arguments(alloc, keyword, words, n),
+        None => Err(Fault::Keyword),
     }
 }
 
-/// The command of a verb and the words behind it.
-fn read_arguments(alloc: Global, verb: Verb, words: &[&[u8]], n: u8) -> Result<Command, Fault>
-    ensures command { Reads (verb_words n verb (map (λ word. word.now) words.now)) result }
-    ensures ample { IsAmple keeps (verb_words n verb (map (λ word. word.now) words.now)) result }
+/// The command of a keyword and the words behind it.
+fn read_arguments(alloc: Global, keyword: Keyword, words: &[&[u8]], n: u8) -> Result<Command, Fault>
+    ensures command { Reads (keyword_words n keyword (map (λ word. word.now) words.now)) result }
+    ensures ample { IsAmple keeps (keyword_words n keyword (map (λ word. word.now) words.now)) result }
     ensures within { IfOk result (IsWithin n) }
 {
-    match verb {
-        Verb::Do => read_do(alloc, n, words),
-        Verb::Ask => read_ask(alloc, n, words),
-        Verb::Ids => read_ids(alloc, n, words),
-        Verb::Tombs => read_tombs(alloc, n, words),
-        Verb::Beat => read_lone(n, Verb::Beat, words),
-        Verb::Give => read_give(n, words),
-        Verb::Resend => read_resend(n, words),
-        Verb::Raw => read_raw(alloc, n, words),
-        Verb::Settle => read_settle(words),
-        Verb::Members => read_members(words),
-        Verb::Log => read_lone(n, Verb::Log, words),
-        Verb::Size => read_lone(n, Verb::Size, words),
-        Verb::Stable => read_lone(n, Verb::Stable, words),
-        Verb::Seen => read_lone(n, Verb::Seen, words),
-        Verb::Noops => read_lone(n, Verb::Noops, words),
-        Verb::Lags => read_lone(n, Verb::Lags, words),
-        Verb::Stop => read_stop(n, words),
+    match keyword {
+        Keyword::Do => read_do(alloc, n, words),
+        Keyword::Ask => read_ask(alloc, n, words),
+        Keyword::Ids => read_ids(alloc, n, words),
+        Keyword::Tombs => read_tombs(alloc, n, words),
+        Keyword::Beat => read_lone(n, Keyword::Beat, words),
+        Keyword::Give => read_give(n, words),
+        Keyword::Resend => read_resend(n, words),
+        Keyword::Raw => read_raw(alloc, n, words),
+        Keyword::Settle => read_settle(words),
+        Keyword::Members => read_members(words),
+        Keyword::Log => read_lone(n, Keyword::Log, words),
+        Keyword::Size => read_lone(n, Keyword::Size, words),
+        Keyword::Stable => read_lone(n, Keyword::Stable, words),
+        Keyword::Seen => read_lone(n, Keyword::Seen, words),
+        Keyword::Noops => read_lone(n, Keyword::Noops, words),
+        Keyword::Lags => read_lone(n, Keyword::Lags, words),
+        Keyword::Stop => read_stop(n, words),
     }
 }
 
-/// The words behind a verb that has a member alone.
+/// The words behind a keyword that has a member alone.
 #[inline(never)]
-fn read_lone(n: u8, verb: Verb, words: &[&[u8]]) -> Result<Command, Fault>
-    requires { IsTrue (has_lone_member verb) }
-    ensures command { result ≡ verb_words n verb (map (λ word. word.now) words.now) }
+fn read_lone(n: u8, keyword: Keyword, words: &[&[u8]]) -> Result<Command, Fault>
+    requires { IsTrue (has_lone_member keyword) }
+    ensures command { result ≡ keyword_words n keyword (map (λ word. word.now) words.now) }
     ensures within { IfOk result (IsWithin n) }
 {
     let r = read_lone_member(n, words)?;
-    match verb {
-        Verb::Beat => Ok(Command::Beat { r }),
-        Verb::Log => Ok(Command::Log { r }),
-        Verb::Size => Ok(Command::Size { r }),
-        Verb::Stable => Ok(Command::Stable { r }),
-        Verb::Seen => Ok(Command::Seen { r }),
-        Verb::Noops => Ok(Command::Noops { r }),
-        Verb::Lags => Ok(Command::Lags { r }),
-        Verb::Do
-        | Verb::Ask
-        | Verb::Ids
-        | Verb::Tombs
-        | Verb::Give
-        | Verb::Resend
-        | Verb::Raw
-        | Verb::Settle
-        | Verb::Members
-        | Verb::Stop => unreachable!(),
+    match keyword {
+        Keyword::Beat => Ok(Command::Beat { r }),
+        Keyword::Log => Ok(Command::Log { r }),
+        Keyword::Size => Ok(Command::Size { r }),
+        Keyword::Stable => Ok(Command::Stable { r }),
+        Keyword::Seen => Ok(Command::Seen { r }),
+        Keyword::Noops => Ok(Command::Noops { r }),
+        Keyword::Lags => Ok(Command::Lags { r }),
+        Keyword::Do
+        | Keyword::Ask
+        | Keyword::Ids
+        | Keyword::Tombs
+        | Keyword::Give
+        | Keyword::Resend
+        | Keyword::Raw
+        | Keyword::Settle
+        | Keyword::Members
+        | Keyword::Stop => unreachable!(),
     }
 }
 
@@ -345,7 +353,7 @@ fn ask_command(alloc: Global, n: u8, r: &[u8], object: &[u8]) -> Result<Command,
 /// The words behind `ids`.
 #[inline(never)]
 fn read_ids(alloc: Global, n: u8, words: &[&[u8]]) -> Result<Command, Fault>
-    ensures command { result ≡ verb_words n Verb.Ids (map (λ word. word.now) words.now) }
+    ensures command { result ≡ keyword_words n Keyword.Ids (map (λ word. word.now) words.now) }
     ensures within { IfOk result (IsWithin n) }
 {
     let (r, object) = read_lone_list(alloc, n, words)?;
@@ -355,7 +363,7 @@ fn read_ids(alloc: Global, n: u8, words: &[&[u8]]) -> Result<Command, Fault>
 /// The words behind `tombs`.
 #[inline(never)]
 fn read_tombs(alloc: Global, n: u8, words: &[&[u8]]) -> Result<Command, Fault>
-    ensures command { result ≡ verb_words n Verb.Tombs (map (λ word. word.now) words.now) }
+    ensures command { result ≡ keyword_words n Keyword.Tombs (map (λ word. word.now) words.now) }
     ensures within { IfOk result (IsWithin n) }
 {
     let (r, object) = read_lone_list(alloc, n, words)?;

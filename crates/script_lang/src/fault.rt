@@ -14,7 +14,7 @@ pub enum Fault {
     /// The line has more than 16384 bytes.
     TooLong,
     /// The first word is no command's; of a client's line the second.
-    Verb,
+    Keyword,
     /// The number of words is wrong.
     Words,
     /// A member, or a client, is no number below how many there are.
@@ -40,7 +40,7 @@ impl Fault {
     {
         match self {
             Fault::TooLong => Some(1),
-            Fault::Verb => Some(2),
+            Fault::Keyword => Some(2),
             Fault::Words => Some(3),
             Fault::Member => Some(4),
             Fault::Object => Some(5),

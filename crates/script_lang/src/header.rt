@@ -1,11 +1,13 @@
 //! The headers of scripts and of live inputs.
 
-ghost use Rattle.std.specs.Prelude.{◌≡◌, IfSome, IsTrue, map};
+ghost use Rattle.std.specs.Prelude.{◌≡◌, ◌&&◌, IfSome, IsTrue, map};
 ghost use Rattle.script_lang.specs.Headers.{is_from_to, are_in_range, is_in_range, in_range, script_header, sized_header, live_header, header_words, header_of};
 
 use crate::fault::MOST_LINE_BYTES;
 use crate::number::read_number;
 use crate::word::split;
+use causal_model::{MOST_LIMIT, MOST_WINDOW};
+use op_base::MOST_MEMBERS;
 
 /// How many messages a member may send where the header doesn't say.
 pub const USUAL_LIMIT: u32 = 10000;
@@ -100,6 +102,13 @@ fn live_header(words: &[&[u8]]) -> Option<Header>
     }
 }
 
+/// Whether a store may have so many members, and such a window.
+fn are_members_and_window(n: u32, w: u32) -> bool
+    ensures { result ≡ (is_from_to 1 16 n && is_from_to 1 64 w) }
+{
+    is_from_to(1, MOST_MEMBERS as u32, n) && is_from_to(1, u32::from(MOST_WINDOW), w)
+}
+
 /// Whether a number is from the one to the other.
 pub fn is_from_to(least: u32, most: u32, x: u32) -> bool
     ensures { result ≡ is_from_to least most x }
@@ -111,7 +120,7 @@ pub fn is_from_to(least: u32, most: u32, x: u32) -> bool
 fn script_header(mode: Mode, n: u32, w: u32, limit: u32) -> Option<Header>
     ensures { result ≡ in_range (script_header mode n w limit) }
 {
-    if !(is_from_to(1, 16, n) && is_from_to(1, 64, w) && is_from_to(1, 1_000_000, limit)) {
+    if !(are_members_and_window(n, w) && is_from_to(1, MOST_LIMIT, limit)) {
         return None;
     }
     let (n, w) = (n as u8, w as u8);
@@ -125,8 +134,11 @@ fn script_header(mode: Mode, n: u32, w: u32, limit: u32) -> Option<Header>
 fn live(n: u32, w: u32, clients: u32, turns: u32, loss: u32) -> Option<Header>
     ensures { result ≡ in_range (Header.Live n w clients turns loss) }
 {
-    let members = is_from_to(1, 16, n) && is_from_to(1, 64, w);
-    if !(members && is_from_to(1, 8, clients) && turns <= 10_000 && loss <= 1_000_000) {
+    if !(are_members_and_window(n, w)
+        && is_from_to(1, 8, clients)
+        && turns <= 10_000
+        && loss <= 1_000_000)
+    {
         return None;
     }
     Some(Header::Live {

@@ -21,8 +21,8 @@ mod number;
 mod reply;
 mod word;
 
-pub use act::{Operation, read_update};
-pub use command::{Command, Line, Verb, read_keep_line, read_line};
+pub use act::read_update;
+pub use command::{Command, Keyword, Line, read_keep_line, read_line};
 pub use fault::{Fault, MOST_LINE_BYTES};
 pub use header::{Header, Mode, USUAL_LIMIT, read_header};
 pub use laws::replies_can_be_read_back;

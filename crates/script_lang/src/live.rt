@@ -81,14 +81,14 @@ fn read_live_words(alloc: Global, words: &[&[u8]], n: u8, clients: u8) -> Result
     ensures within { IfOk result (IsLiveWithin n clients) }
 {
     let [first, words @ ..] = words else {
-        return Err(Fault::Verb);
+        return Err(Fault::Keyword);
     };
     if is_text(first, b"client") {
         return read_client(n, clients, words);
     }
     match client_digits(first) {
         Some(c) => read_named(alloc, clients, c, words),
-        None => Err(Fault::Verb),
+        None => Err(Fault::Keyword),
     }
 }
 
@@ -119,13 +119,13 @@ fn read_named(alloc: Global, clients: u8, c: &[u8], words: &[&[u8]]) -> Result<L
     ensures ample { IsAmple live_keeps (named_words clients c.now (map (λ word. word.now) words.now)) result }
     ensures within { (n : ℕ) → IfOk result (IsLiveWithin n clients) }
 {
-    let [verb, words @ ..] = words else {
+    let [keyword, words @ ..] = words else {
         return Err(Fault::Words);
     };
-    match *verb {
+    match *keyword {
         b"do" => read_client_do(alloc, clients, c, words),
         b"ask" => read_client_ask(alloc, clients, c, words),
-        _ => Err(Fault::Verb),
+        _ => Err(Fault::Keyword),
     }
 }
 

@@ -10,7 +10,7 @@ use crate::header::is_from_to;
 use crate::number::{are_digits, read_number};
 use crate::word::is_text;
 use hex::FromHexError;
-use op_base::{ByteList, ElementId, Kind, ObjectId, Value};
+use op_base::{ByteList, ElementId, Kind, MOST_MEMBERS, ObjectId, Value};
 use std::alloc::Global;
 
 /// The member of `n` that a word names; of `n` clients too.
@@ -75,7 +75,7 @@ pub fn read_size(word: &[u8]) -> Result<u8, Fault>
     ensures within { IfOk result (λ n. (1 ≤ n) × (n ≤ 16)) }
 {
     let n = read_amount(word)?;
-    if is_from_to(1, 16, n) {
+    if is_from_to(1, MOST_MEMBERS as u32, n) {
         Ok(n as u8)
     } else {
         Err(Fault::Number)

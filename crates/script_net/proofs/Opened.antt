@@ -4,7 +4,7 @@ use Rattle.std.specs.Prelude.{IfSome, codes, nat_lt}
 use Rattle.std.proofs.lemmas.Bool.{and_parts, leb-true}
 use Rattle.op_base.specs.Name.{same_text}
 use Rattle.script_lang.specs.Fault.{most_line_bytes}
-use Rattle.script_lang.specs.Headers.{◌>>=◌, are_in_range, is_in_range, in_range, script_header, sized_header, live_header, header_words, header_of, usual_limit, is_from_to}
+use Rattle.script_lang.specs.Headers.{◌>>?◌, are_in_range, is_in_range, in_range, script_header, sized_header, live_header, header_words, header_of, usual_limit, is_from_to}
 use Rattle.script_lang.specs.Numbers.{number_of}
 use Rattle.script_lang.specs.Words.{words_of}
 use Rattle.script_lang.specs.declared.header.Header.{Header}
@@ -15,7 +15,7 @@ use Rattle.script_lang.specs.declared.header.Mode.TheVariants as mode
 abbrev InRange : Header → Type 0
 InRange h = IsTrue (is_in_range h)
 
-then_some : {A B : Type 0} (Q : B → Type 0) (x : Option A) (f : A → Option B) → ((a : A) → IfSome (f a) Q) → IfSome (x >>= f) Q
+then_some : {A B : Type 0} (Q : B → Type 0) (x : Option A) (f : A → Option B) → ((a : A) → IfSome (f a) Q) → IfSome (x >>? f) Q
 then_some Q None f g = tt
 then_some Q (Some a) f g = g a
 
@@ -52,10 +52,10 @@ live_in_range (a ∷ b ∷ c ∷ d ∷ e ∷ f ∷ words) = tt
 
 words_in_range : (words : List (List ℕ)) → IfSome (header_words words) InRange
 words_in_range [] = tt
-words_in_range (verb ∷ words) =
-    either_some InRange (same_text verb (codes "store")) _ _ (sized_in_range mode.Store words)
-    (either_some InRange (same_text verb (codes "keep")) _ _ (sized_in_range mode.Keep words)
-    (either_some InRange (same_text verb (codes "live")) _ None (live_in_range words) tt))
+words_in_range (keyword ∷ words) =
+    either_some InRange (same_text keyword (codes "store")) _ _ (sized_in_range mode.Store words)
+    (either_some InRange (same_text keyword (codes "keep")) _ _ (sized_in_range mode.Keep words)
+    (either_some InRange (same_text keyword (codes "live")) _ None (live_in_range words) tt))
 
 -- the ranges of a store
 pub record AreOfStore (n w limit : ℕ) : Type 0 where

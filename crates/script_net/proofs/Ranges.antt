@@ -1,6 +1,6 @@
 -- What a line of a script asks for is in range: the members are of the store, the update is valid, the bytes are bytes.
 use Rattle.std.proofs.Common.{◌≡◌, ℕ, ◌<◌, ◌≤◌, Bool, true, false, cond, nat_lt, nat_le, IsTrue, List, [], ◌∷◌, length, Option, Some, None, Result, Ok, Err, refl, subst, arith}
-use Rattle.std.specs.Prelude.{IfOk, ok_or, All, ◌&&◌, ◌==◌, ◌%◌, codes, if◌then◌else◌}
+use Rattle.std.specs.Prelude.{IfOk, ok_or, is_some, All, ◌&&◌, ◌==◌, ◌%◌, codes, if◌then◌else◌}
 use Rattle.std.specs.List.{slice_split}
 use Rattle.std.specs.Result.{result_ok}
 use Rattle.std.proofs.lemmas.List.{get_or_default}
@@ -12,28 +12,29 @@ use Rattle.hex.proofs.HexLemmas.{decode_pairs-ok}
 use Rattle.op_base.specs.Name.{is_key, is_value, kind_of, kind_part, key_part, same_text}
 use Rattle.op_base.specs.Operation.{has_act, is_element}
 use Rattle.op_base.specs.Reading.{object_with, where_true}
+use Rattle.op_base.specs.Verb.{code_of}
 use Rattle.op_base.specs.Valid.{is_valid_id, is_valid_place, is_valid_act, is_valid_update}
 use Rattle.op_base.specs.declared.name.Kind.{Kind}
 use Rattle.op_base.specs.declared.name.Kind.TheVariants as kind
 use Rattle.op_base.specs.declared.name.ObjectId.{ObjectId}
 use Rattle.op_base.specs.declared.operation.Act.{Act}
 use Rattle.op_base.specs.declared.operation.Act.TheVariants as act
-use Rattle.script_lang.specs.Commands.{do_command, do_words, ask_words, lone_list, give_words, resend_words, raw_words, settle_words, members_words, stop_words, lone_member, verb_of, verb_words, words_behind, command_words, command_of, bad_line, run_or_bad, line_in}
+use Rattle.op_base.specs.declared.verb.Verb.{Verb}
+use Rattle.op_base.specs.declared.verb.Verb.TheVariants as verbs
+use Rattle.script_lang.specs.Commands.{do_command, do_words, ask_words, lone_list, give_words, resend_words, raw_words, settle_words, members_words, stop_words, lone_member, keyword_of, keyword_words, words_behind, command_words, command_of, bad_line, run_or_bad, line_in}
 use Rattle.script_lang.specs.Fault.{◌>>=◌, most_line_bytes, number_of_fault}
-use Rattle.script_lang.specs.Names.{below, member_of, object_in, is_list, list_in, is_point, element_of, element_in, place_in, value_in, bytes_in, amount_in, size_in}
-use Rattle.script_lang.specs.Acts.{operation_in, set_act, flag_act, register_act, counter_act, clearable_act, list_act, kind_act, are_few, update_in}
+use Rattle.script_lang.specs.Names.{below, member_of, object_in, is_list, list_in, is_point, element_from, element_in, place_in, value_in, bytes_in, amount_in, size_in}
+use Rattle.script_lang.specs.Acts.{verb_in, act_in, kind_act, are_few, update_in}
 use Rattle.script_lang.specs.Headers.{is_from_to}
 use Rattle.script_lang.specs.Numbers.{number_of}
 use Rattle.script_lang.specs.Words.{words_of, is_passed_over}
-use Rattle.script_lang.specs.declared.act.Operation.{Operation}
-use Rattle.script_lang.specs.declared.act.Operation.TheVariants as operation
 use Rattle.script_lang.specs.declared.fault.Fault.{Fault}
 use Rattle.script_lang.specs.declared.fault.Fault.TheVariants as fault
 use Rattle.script_lang.specs.declared.command.Command.{Command}
 use Rattle.script_lang.specs.declared.command.Command.TheVariants as command
 use Rattle.script_lang.specs.declared.command.Line.TheVariants as line
-use Rattle.script_lang.specs.declared.command.Verb.{Verb}
-use Rattle.script_lang.specs.declared.command.Verb.TheVariants as verbs
+use Rattle.script_lang.specs.declared.command.Keyword.{Keyword}
+use Rattle.script_lang.specs.declared.command.Keyword.TheVariants as keywords
 use Rattle.script_lang.specs.declared.header.Mode.{Mode}
 
 -- a command can be run in a store of n members
@@ -119,7 +120,7 @@ valid_id epoch origin seq e s is =
     let low = leb-true origin 15 (and_parts (nat_le origin 15) (nat_lt 0 seq) is).0 in
     and_from (nat_lt epoch 4294967296 && nat_lt origin 256) (nat_lt seq 4294967296) (and_from (nat_lt epoch 4294967296) (nat_lt origin 256) e (lt-ltb origin 256 (omega (arith, low)))) s
 
-numbered : (words : List (List ℕ)) → IfOk (element_of words) (λ id. IsTrue (is_valid_id id))
+numbered : (words : List (List ℕ)) → IfOk (element_from words) (λ id. IsTrue (is_valid_id id))
 numbered [] = tt
 numbered (a ∷ []) = tt
 numbered (a ∷ b ∷ []) = tt
@@ -163,64 +164,35 @@ with_value argument make valid = given (λ v. IsTrue (is_value v)) Valid (value_
 with_amount : (argument : List ℕ) (make : ℕ → Act) → ((a : ℕ) → IsTrue (nat_lt a 4294967296) → Valid (make a)) → IfOk (amount_in argument >>= λ a. Ok (make a)) Valid
 with_amount argument make valid = given (λ a. IsTrue (nat_lt a 4294967296)) Valid (amount_in argument) _ (amount argument) valid
 
-set_is_valid : (o : Operation) (arguments : List (List ℕ)) → IfOk (set_act o arguments) Valid
-set_is_valid operation.Add (argument ∷ []) = with_value argument act.Add (λ v t. t)
-set_is_valid operation.Rmv (argument ∷ []) = with_value argument act.Rmv (λ v t. t)
-set_is_valid operation.Clear [] = refl
-set_is_valid o arguments = tt
-
-flag_is_valid : (o : Operation) (arguments : List (List ℕ)) → IfOk (flag_act o arguments) Valid
-flag_is_valid operation.Enable [] = refl
-flag_is_valid operation.Disable [] = refl
-flag_is_valid operation.Clear [] = refl
-flag_is_valid o arguments = tt
-
-register_is_valid : (o : Operation) (arguments : List (List ℕ)) → IfOk (register_act o arguments) Valid
-register_is_valid operation.Write (argument ∷ []) = with_value argument act.Write (λ v t. t)
-register_is_valid operation.Clear [] = refl
-register_is_valid o arguments = tt
-
-counter_is_valid : (o : Operation) (arguments : List (List ℕ)) → IfOk (counter_act o arguments) Valid
-counter_is_valid operation.Inc (argument ∷ []) = with_amount argument act.Inc (λ a t. t)
-counter_is_valid operation.Dec (argument ∷ []) = with_amount argument act.Dec (λ a t. t)
-counter_is_valid o arguments = tt
-
-clearable_is_valid : (o : Operation) (arguments : List (List ℕ)) → IfOk (clearable_act o arguments) Valid
-clearable_is_valid operation.Inc (argument ∷ []) = with_amount argument act.Inc (λ a t. t)
-clearable_is_valid operation.Dec (argument ∷ []) = with_amount argument act.Dec (λ a t. t)
-clearable_is_valid operation.Clear [] = refl
-clearable_is_valid o arguments = tt
-
 put_is_valid : (word place : List ℕ) → IfOk (value_in word >>= λ v. place_in place >>= λ p. Ok (act.Ins v p)) Valid
 put_is_valid word place =
     given (λ v. IsTrue (is_value v)) Valid (value_in word) _ (value word) (λ v t.
     given (λ p. IsTrue (is_valid_place p)) Valid (place_in place) _ (a_place place) (λ p valid. and_from (is_value v) (is_valid_place p) t valid))
 
-list_is_valid : (o : Operation) (arguments : List (List ℕ)) → IfOk (list_act o arguments) Valid
-list_is_valid operation.Ins (word ∷ place ∷ []) = put_is_valid word place
-list_is_valid operation.Del (id ∷ []) = given (λ e. IsTrue (is_valid_id e)) Valid (element_in id) _ (an_element id) (λ e valid. valid)
-list_is_valid operation.Clear [] = refl
-list_is_valid o arguments = tt
+-- an act that is read of a verb is valid
+act_is_valid : (v : Verb) (arguments : List (List ℕ)) → IfOk (act_in v arguments) Valid
+act_is_valid verbs.Add (word ∷ []) = with_value word act.Add (λ v t. t)
+act_is_valid verbs.Rmv (word ∷ []) = with_value word act.Rmv (λ v t. t)
+act_is_valid verbs.Enable [] = refl
+act_is_valid verbs.Disable [] = refl
+act_is_valid verbs.Write (word ∷ []) = with_value word act.Write (λ v t. t)
+act_is_valid verbs.Inc (word ∷ []) = with_amount word act.Inc (λ a t. t)
+act_is_valid verbs.Dec (word ∷ []) = with_amount word act.Dec (λ a t. t)
+act_is_valid verbs.Ins (word ∷ place ∷ []) = put_is_valid word place
+act_is_valid verbs.Del (id ∷ []) = given (λ e. IsTrue (is_valid_id e)) Valid (element_in id) _ (an_element id) (λ e valid. valid)
+act_is_valid verbs.Clear [] = refl
+act_is_valid v arguments = tt
 
-act_is_valid : (k : Kind) (o : Operation) (arguments : List (List ℕ)) → IfOk (kind_act k o arguments) Valid
-act_is_valid kind.AwSet o arguments = set_is_valid o arguments
-act_is_valid kind.RwSet o arguments = set_is_valid o arguments
-act_is_valid kind.EwFlag o arguments = flag_is_valid o arguments
-act_is_valid kind.DwFlag o arguments = flag_is_valid o arguments
-act_is_valid kind.MvReg o arguments = register_is_valid o arguments
-act_is_valid kind.Counter o arguments = counter_is_valid o arguments
-act_is_valid kind.RCounter o arguments = clearable_is_valid o arguments
-act_is_valid kind.List o arguments = list_is_valid o arguments
-
-some_operation : (r : Result Operation Fault) → IfOk r (λ o. Unit {0})
-some_operation (Ok o) = tt
-some_operation (Err e) = tt
+some_verb : (r : Result Verb Fault) → IfOk r (λ v. Unit {0})
+some_verb (Ok v) = tt
+some_verb (Err e) = tt
 
 update : (o word : List ℕ) (arguments : List (List ℕ)) → IfOk (update_in o word arguments) (λ u. IsTrue (is_valid_update u))
 update o word arguments =
     given (λ (x : ObjectId). IsTrue (is_key x.key)) (λ u. IsTrue (is_valid_update u)) (object_in o) _ (object o) (λ x key.
-    given (λ (operation : Operation). Unit {0}) (λ u. IsTrue (is_valid_update u)) (operation_in word) _ (some_operation (operation_in word)) (λ operation any.
-    given Valid (λ u. IsTrue (is_valid_update u)) (kind_act x.kind operation arguments) _ (act_is_valid x.kind operation arguments) (λ a valid.
+    given (λ (v : Verb). Unit {0}) (λ u. IsTrue (is_valid_update u)) (verb_in word) _ (some_verb (verb_in word)) (λ v any.
+    given Valid (λ u. IsTrue (is_valid_update u)) (kind_act x.kind v arguments) _
+    (either Valid (is_some (code_of x.kind v)) (act_in v arguments) (Err fault.Operation) (act_is_valid v arguments) tt) (λ a valid.
     where_made (λ u. IsTrue (is_valid_update u)) (has_act x.kind a) _ fault.Operation (λ t. and_from (is_key x.key) (is_valid_act a) key valid))))
 
 -- ---- commands
@@ -321,33 +293,33 @@ module _ (n : ℕ) where
       → IfOk (lone_list n words >>= λ asked. Ok (make asked.0 asked.1)) (CanRun n)
   list_can_run make can words = given (λ (x : ℕ × ObjectId). (x.0 < n) × (x.1.kind ≡ kind.List)) (CanRun n) (lone_list n words) _ (listed words) (λ x within. can x.0 x.1 within)
 
-  -- the words behind each verb
-  verb_can_run : (verb : Verb) (words : List (List ℕ)) → IfOk (verb_words n verb words) (CanRun n)
-  verb_can_run verbs.Do words = do_can_run words
-  verb_can_run verbs.Ask words = ask_can_run words
-  verb_can_run verbs.Ids words = list_can_run command.Ids (λ r object within. within) words
-  verb_can_run verbs.Tombs words = list_can_run command.Tombs (λ r object within. within) words
-  verb_can_run verbs.Beat words = lone_can_run command.Beat (λ r l. l) words
-  verb_can_run verbs.Give words = give_can_run words
-  verb_can_run verbs.Resend words = resend_can_run words
-  verb_can_run verbs.Raw words = raw_can_run words
-  verb_can_run verbs.Settle words = settle_can_run words
-  verb_can_run verbs.Members words = members_can_run words
-  verb_can_run verbs.Log words = lone_can_run command.Log (λ r l. l) words
-  verb_can_run verbs.Size words = lone_can_run command.Size (λ r l. l) words
-  verb_can_run verbs.Stable words = lone_can_run command.Stable (λ r l. l) words
-  verb_can_run verbs.Seen words = lone_can_run command.Seen (λ r l. l) words
-  verb_can_run verbs.Noops words = lone_can_run command.Noops (λ r l. l) words
-  verb_can_run verbs.Lags words = lone_can_run command.Lags (λ r l. l) words
-  verb_can_run verbs.Stop words = stop_can_run words
+  -- the words behind each keyword
+  keyword_can_run : (keyword : Keyword) (words : List (List ℕ)) → IfOk (keyword_words n keyword words) (CanRun n)
+  keyword_can_run keywords.Do words = do_can_run words
+  keyword_can_run keywords.Ask words = ask_can_run words
+  keyword_can_run keywords.Ids words = list_can_run command.Ids (λ r object within. within) words
+  keyword_can_run keywords.Tombs words = list_can_run command.Tombs (λ r object within. within) words
+  keyword_can_run keywords.Beat words = lone_can_run command.Beat (λ r l. l) words
+  keyword_can_run keywords.Give words = give_can_run words
+  keyword_can_run keywords.Resend words = resend_can_run words
+  keyword_can_run keywords.Raw words = raw_can_run words
+  keyword_can_run keywords.Settle words = settle_can_run words
+  keyword_can_run keywords.Members words = members_can_run words
+  keyword_can_run keywords.Log words = lone_can_run command.Log (λ r l. l) words
+  keyword_can_run keywords.Size words = lone_can_run command.Size (λ r l. l) words
+  keyword_can_run keywords.Stable words = lone_can_run command.Stable (λ r l. l) words
+  keyword_can_run keywords.Seen words = lone_can_run command.Seen (λ r l. l) words
+  keyword_can_run keywords.Noops words = lone_can_run command.Noops (λ r l. l) words
+  keyword_can_run keywords.Lags words = lone_can_run command.Lags (λ r l. l) words
+  keyword_can_run keywords.Stop words = stop_can_run words
 
-  behind_can_run : (verb : Option Verb) (words : List (List ℕ)) → IfOk (words_behind n verb words) (CanRun n)
+  behind_can_run : (keyword : Option Keyword) (words : List (List ℕ)) → IfOk (words_behind n keyword words) (CanRun n)
   behind_can_run None words = tt
-  behind_can_run (Some verb) words = verb_can_run verb words
+  behind_can_run (Some keyword) words = keyword_can_run keyword words
 
   words_can_run : (mode : Mode) (words : List (List ℕ)) → IfOk (command_words mode n words) (CanRun n)
   words_can_run mode [] = tt
-  words_can_run mode (word ∷ words) = behind_can_run (verb_of mode word) words
+  words_can_run mode (word ∷ words) = behind_can_run (keyword_of mode word) words
 
   not_bad : (o : Option ℕ) (c : Command) → bad_line o ≡ line.Run c → CanRun n c
   not_bad None c e = cc

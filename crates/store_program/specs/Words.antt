@@ -4,7 +4,7 @@ use Rattle.op_base.specs.Name.{same_text}
 use Rattle.clap.specs.Simple.{App, matches_of, new_app, new_rule, on_top, with_rule}
 use Rattle.clap.specs.Walk.{Rule, Text, first_of, is_empty}
 use Rattle.clap.specs.Faults.{fault_of}
-use Rattle.script_lang.specs.Headers.{◌>>=◌, is_from_to}
+use Rattle.script_lang.specs.Headers.{◌>>?◌, is_from_to}
 use Rattle.script_lang.specs.Numbers.{number_of}
 use Rattle.store_program.specs.declared.words.Request.{Request}
 use Rattle.store_program.specs.declared.words.Request.TheVariants.{Script, Live, Make}
@@ -46,7 +46,7 @@ kept_from_to least most number = if is_from_to least most number then Some numbe
 
 -- the number that an argument's text is, where it is one from the one to the other
 abbrev pub number_from_to : ℕ → ℕ → Option Text → Option ℕ
-number_from_to least most text = text >>= λ text. number_of text >>= kept_from_to least most
+number_from_to least most text = text >>? λ text. number_of text >>? kept_from_to least most
 
 -- the run that a mode asks for, where there is one
 abbrev pub request_in : (seed count n w : ℕ) → Text → Option Request
@@ -59,11 +59,11 @@ request_in seed count n w mode =
 -- the run that the arguments' texts ask for; the numbers have to be in range in each mode
 abbrev pub asked_for : (Text → Option Text) → Option Request
 asked_for said =
-    number_from_to 0 2147483647 (said (codes "seed")) >>= λ seed.
-    number_from_to 0 20000 (said (codes "count")) >>= λ count.
-    number_from_to 1 16 (said (codes "members")) >>= λ n.
-    number_from_to 1 64 (said (codes "window")) >>= λ w.
-    said (codes "mode") >>= request_in seed count n w
+    number_from_to 0 2147483647 (said (codes "seed")) >>? λ seed.
+    number_from_to 0 20000 (said (codes "count")) >>? λ count.
+    number_from_to 1 16 (said (codes "members")) >>? λ n.
+    number_from_to 1 64 (said (codes "window")) >>? λ w.
+    said (codes "mode") >>? request_in seed count n w
 
 -- the run that words ask for: they are taken, and what they say of each argument is in range
 abbrev pub request_of : List Text → Option Request

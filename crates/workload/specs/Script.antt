@@ -1,47 +1,18 @@
 -- The made script of a seed, a count of lines, a number of members and a window.
-use Rattle.std.specs.Prelude.{ℕ, zero, suc, ◌+◌, ◌-◌, nat_lt, ◌==◌, List, [], ◌∷◌, ◌++◌, map, codes, slice_index_or, if◌then◌else◌}
+use Rattle.std.specs.Prelude.{ℕ, zero, suc, ◌+◌, nat_lt, ◌==◌, List, [], ◌∷◌, ◌++◌, codes, slice_index_or, if◌then◌else◌}
 use Rattle.std.specs.List.{flat_map}
 use Rattle.std.specs.Fmt.{decimal}
 use Rattle.op_base.specs.Name.{kind_word}
 use Rattle.op_base.specs.declared.name.Kind.{Kind}
 use Rattle.op_base.specs.declared.name.Kind.TheVariants.{AwSet, RwSet, EwFlag, DwFlag, MvReg, Counter, RCounter}
-use Rattle.script_lang.specs.Acts.{operation_word}
+use Rattle.op_base.specs.declared.verb.Argument.{Argument}
+use Rattle.op_base.specs.declared.verb.Argument.TheVariants.{Value, Amount}
+use Rattle.op_base.specs.declared.verb.Verb.{Verb}
+use Rattle.op_base.specs.Verb.{verb_word, argument_of, operation_of}
 use Rattle.script_lang.specs.Replies.{joined}
-use Rattle.script_lang.specs.declared.act.Operation.{Operation}
-use Rattle.script_lang.specs.declared.act.Operation.TheVariants.{Add, Rmv, Clear, Enable, Disable, Write, Inc, Dec}
 use Rattle.workload.specs.Draws.{draws_after, drawn}
-use Rattle.workload.specs.declared.operation.Argument.{Argument}
-use Rattle.workload.specs.declared.operation.Argument.TheVariants.{Nothing, Value, Amount}
 
--- ---- operations
-
--- what stands behind the word of an operation
-abbrev pub argument_of : Operation → Argument
-argument_of Add = Value
-argument_of Rmv = Value
-argument_of Write = Value
-argument_of Inc = Amount
-argument_of Dec = Amount
-argument_of operation = Nothing
-
--- the operations of a kind
-abbrev pub operations_of : Kind → List Operation → List (Kind × Operation)
-operations_of kind operations = map (λ operation. (kind, operation)) operations
-
--- the operations by code, from 1 to 19
-abbrev pub operations : List (Kind × Operation)
-operations =
-    operations_of AwSet (Add ∷ Rmv ∷ Clear ∷ [])
-    ++ operations_of RwSet (Add ∷ Rmv ∷ Clear ∷ [])
-    ++ operations_of EwFlag (Enable ∷ Disable ∷ Clear ∷ [])
-    ++ operations_of DwFlag (Enable ∷ Disable ∷ Clear ∷ [])
-    ++ operations_of MvReg (Write ∷ Clear ∷ [])
-    ++ operations_of Counter (Inc ∷ Dec ∷ [])
-    ++ operations_of RCounter (Inc ∷ Dec ∷ Clear ∷ [])
-
--- the operation of a code
-abbrev pub operation_of : ℕ → Kind × Operation
-operation_of code = slice_index_or operations (code - 1) (AwSet, Add)
+-- ---- kinds and objects
 
 -- the kinds that scripts are made of, in their order: all but lists
 abbrev pub drawn_kinds : List Kind
@@ -62,22 +33,22 @@ pub record Made : Type 0 where
   pub words : List (List ℕ)
   pub after : ℕ
 
--- the argument of an operation, from the state before it: a value v0 to v15, or an amount below 100
+-- the argument of an operation, from the state before it: a value v0 to v15, or an amount below 100; none is drawn of lists
 abbrev pub argument_words : Argument → ℕ → List (List ℕ)
-argument_words Nothing state = []
 argument_words Value state = (codes "v" ++ decimal (drawn 1 16 state)) ∷ []
 argument_words Amount state = decimal (drawn 1 100 state) ∷ []
+argument_words argument state = []
 
 -- the state after it
 abbrev pub argument_after : Argument → ℕ → ℕ
-argument_after Nothing state = state
 argument_after Value state = draws_after 1 state
 argument_after Amount state = draws_after 1 state
+argument_after argument state = state
 
 -- do: an operation on an object of its kind; the key is drawn, and then the argument
-abbrev pub do_operation : Kind × Operation → ℕ → ℕ → Made
+abbrev pub do_operation : Kind × Verb → ℕ → ℕ → Made
 do_operation o r state = record {
-  words = codes "do" ∷ decimal r ∷ object_word o.0 (drawn 1 2 state) ∷ operation_word o.1
+  words = codes "do" ∷ decimal r ∷ object_word o.0 (drawn 1 2 state) ∷ verb_word o.1
       ∷ argument_words (argument_of o.1) (draws_after 1 state);
   after = argument_after (argument_of o.1) (draws_after 1 state);
 }

@@ -5,8 +5,8 @@
 #![tactic(auto)]
 
 mod draws;
+mod kind;
 mod laws;
-mod operation;
 mod script;
 #[cfg(test)]
 mod script_tests;

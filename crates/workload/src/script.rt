@@ -3,12 +3,12 @@
 ghost use Rattle.std.specs.Prelude.{◌≡◌, ◌≤◌, ◌++◌, ◌∷◌, [], codes, IfOk, OnOk};
 ghost use Rattle.std.specs.Fmt.{decimal};
 ghost use Rattle.script_lang.specs.Replies.{joined, spaced};
-ghost use Rattle.workload.specs.Script.{object_word, argument_words, argument_after, do_operation, do_line, ask_line, beat_line, resend_line, give_line, line_of_kind, line_from, lines_from, made_header, questions_of, closing_lines, words_line, words_text, made_script};
+ghost use Rattle.workload.specs.Script.{object_word, argument_words, argument_after, do_operation, do_line, ask_line, resend_line, give_line, line_of_kind, line_from, lines_from, made_header, questions_of, closing_lines, words_line, words_text, made_script};
 
 use crate::draws::Draws;
-use crate::operation::{Argument, argument_of, kind_at, operation_of};
-use op_base::{Kind, NoMemory, Text};
-use script_lang::{Operation, put_number};
+use crate::kind::kind_at;
+use op_base::{Argument, Kind, NoMemory, Text, Verb, operation_of};
+use script_lang::put_number;
 use std::alloc::Global;
 
 /// A line that is drawn has at most so many bytes.
@@ -102,13 +102,13 @@ fn put_do(r: u32, draws: &mut Draws, out: &mut Text) -> Result<(), NoMemory>
     ensures text { OnOk result (out.new ≡ out.old ++ joined (do_line r draws.old.state).words) }
     ensures state { OnOk result (draws.new.state ≡ (do_line r draws.old.state).after) }
 {
-    let code = 1 + draws.below(19);
+    let code = 1 + draws.below(19) as u8;
     put_operation(operation_of(code), r, draws, out)
 }
 
 /// Puts the words of an operation.
 fn put_operation(
-    operation: (Kind, Operation),
+    operation: (Kind, Verb),
     r: u32,
     draws: &mut Draws,
     out: &mut Text,
@@ -116,24 +116,24 @@ fn put_operation(
     ensures text { OnOk result (out.new ≡ out.old ++ joined (do_operation operation r draws.old.state).words) }
     ensures state { OnOk result (draws.new.state ≡ (do_operation operation r draws.old.state).after) }
 {
-    let (kind, what) = operation;
+    let (kind, verb) = operation;
     out.extend_from_slice(b"do")?;
     put_spaced(r, out)?;
     put_object(kind, draws.below(2), out)?;
     out.push(b' ')?;
-    out.extend_from_slice(what.word())?;
-    put_argument(argument_of(what), draws, out)
+    out.extend_from_slice(verb.word().as_bytes())?;
+    put_argument(verb.argument(), draws, out)
 }
 
-/// Puts a space and an argument, where there is one.
+/// Puts a space and an argument, where there is one. None is drawn of lists.
 fn put_argument(argument: Argument, draws: &mut Draws, out: &mut Text) -> Result<(), NoMemory>
     ensures text { OnOk result (out.new ≡ out.old ++ spaced (argument_words argument draws.old.state)) }
     ensures state { OnOk result (draws.new.state ≡ argument_after argument draws.old.state) }
 {
     match argument {
-        Argument::Nothing => Ok(()),
         Argument::Value => put_value(draws.below(16), out),
         Argument::Amount => put_spaced(draws.below(100), out),
+        Argument::Nothing | Argument::Insertion | Argument::Element => Ok(()),
     }
 }
 

@@ -27,7 +27,7 @@ use Rattle.causal_model.specs.declared.outcome.Beat.{Beat}
 use Rattle.causal_model.specs.declared.outcome.Beat.TheVariants as beat
 use Rattle.causal_model.specs.declared.outcome.Local.{Local}
 use Rattle.causal_model.specs.declared.outcome.Local.TheVariants as local
-use Rattle.frame_codec.specs.Grammar.{IsArgument, IsOperation, is_carried as carries_length, IsFrame}
+use Rattle.frame_codec.specs.Grammar.{IsArgument, IsOperation, carries_length, IsFrame}
 use Rattle.frame_codec.specs.declared.fault.FrameFault.{FrameFault}
 use Rattle.frame_codec.specs.declared.version.Version.{Version}
 use Rattle.frame_codec.proofs.Read.{read_is_a_frame}
