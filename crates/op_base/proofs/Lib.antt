@@ -1,4 +1,5 @@
 pub mod Names
+pub mod Keys
 pub mod Timestamps
 pub mod Updates
 pub mod Orders

@@ -2,7 +2,7 @@
 //!
 //! Their texts are this project's own profile. UTF-8 is tested by `simdutf8`.
 
-ghost use Rattle.std.specs.Prelude.{◌≡◌, ◌≢◌, ◌≤◌, length, IfOk, IfErr, OnOk, IsOk, IsTrue, position, not, Some, Ok};
+ghost use Rattle.std.specs.Prelude.{◌≡◌, ◌≢◌, ◌≤◌, ◌+◌, length, take, drop, IfOk, IfErr, OnOk, IsOk, IsTrue, position, not, Some, Ok};
 ghost use Rattle.op_base.specs.declared.name.TheConstants.{VALUE_BYTES_IN_PLACE};
 ghost use Rattle.std.specs.List.{list_all};
 ghost use Rattle.std.specs.Prelude.{nat_eq, refl};
@@ -10,6 +10,7 @@ ghost use Rattle.std.specs.Str.{is_utf8};
 ghost use Rattle.std.proofs.Common.{rules};
 ghost use Rattle.std.specs.Hash as fed;
 ghost use Rattle.std.specs.Cmp.Rules.{hashing};
+ghost use Rattle.std.specs.Int.{from_be_bytes, w64};
 ghost use Rattle.std.specs.Ordering.{nat_cmp, as_partial_cmp};
 ghost use Rattle.std.specs.Cmp.{partial_equiv_from_equiv};
 ghost use Rattle.std.specs.Cmp.Lexicographic.{pointwise, slice_cmp, nat_list_eq_equiv, nat_list_cmp_total, texts_ties, texts_po};
@@ -108,7 +109,8 @@ impl From<AllocError> for NameFault {
     }
 }
 
-/// A key: 1 to 32 bytes of `a-z`, `0-9`, `_`, `.` and `-`, which stand in the key itself. Contracts see the list of them.
+/// A key: 1 to 32 bytes of `a-z`, `0-9`, `_`, `.` and `-`, which stand in the key itself, with zeros behind them, so
+/// that keys are compared as four numbers. Contracts see the list of the bytes.
 #[derive(Drop)]
 pub struct Key {
     len: u8,
@@ -298,6 +300,44 @@ fn parts(bytes: &[u8]) -> (&[u8], &[u8])
     }
 }
 
+/// The number that eight bytes make, the first of them the highest.
+#[inline(always)]
+fn number_at(bytes: &[u8; MOST_KEY_BYTES], at: usize) -> u64
+    requires { at + 8 ≤ 32 }
+    ensures { result ≡ from_be_bytes w64 (take 8 (drop at bytes.now)) }
+{
+    u64::from_be_bytes([
+        bytes[at],
+        bytes[at + 1],
+        bytes[at + 2],
+        bytes[at + 3],
+        bytes[at + 4],
+        bytes[at + 5],
+        bytes[at + 6],
+        bytes[at + 7],
+    ])
+}
+
+/// The order of two keys' bytes with the zeros behind them: that of the first of four numbers in which they differ.
+#[inline(always)]
+fn order_of(bytes: &[u8; MOST_KEY_BYTES], others: &[u8; MOST_KEY_BYTES]) -> Ordering
+    ensures { result ≡ slice_cmp nat_cmp bytes.now others.now }
+{
+    let first = number_at(bytes, 0).cmp(&number_at(others, 0));
+    if first.is_ne() {
+        return first;
+    }
+    let second = number_at(bytes, 8).cmp(&number_at(others, 8));
+    if second.is_ne() {
+        return second;
+    }
+    let third = number_at(bytes, 16).cmp(&number_at(others, 16));
+    if third.is_ne() {
+        return third;
+    }
+    number_at(bytes, 24).cmp(&number_at(others, 24))
+}
+
 impl Key {
     /// Reads a key: all of the bytes. The refusals are `Empty`, `TooLong` (above 32 bytes) and `BadByte` with the
     /// first place of a byte that no key has, in this order. It takes no memory.
@@ -469,7 +509,7 @@ impl PartialEq for Key {
     ghost laws = { partial_equiv_from_equiv nat_list_eq_equiv };
 
     fn eq(&self, other: &Key) -> bool {
-        self.as_str() == other.as_str()
+        order_of(&self.bytes, &other.bytes).is_eq()
     }
 }
 
@@ -497,7 +537,7 @@ impl Ord for Key {
     ghost matches_eq = { texts_ties };
 
     fn cmp(&self, other: &Key) -> Ordering {
-        self.as_str().cmp(other.as_str())
+        order_of(&self.bytes, &other.bytes)
     }
 }
 
