@@ -57,18 +57,14 @@ impl Model for CausalBuffer {
     ghost invariant = { λ b. AreQueues b.n b.w b.held b.queues.items };
 }
 
-/// Whether a message can be delivered where so many of each member were: it is its origin's next, and it has seen only what
-/// was delivered. There is no early end, so that several numbers are tested at once.
+/// Whether a message can be delivered where so many of each member were: it is its origin's next, and its number there is
+/// the only one above what was delivered.
 pub fn is_deliverable(message: &Message, counts: &Tag) -> bool
     requires { IsTrue (fits (length counts.now) message.now) }
     ensures { result ≡ is_deliverable (length counts.now) counts.now message.now }
 {
     let origin = message.origin;
-    let mut can = message.tag.at(origin) - 1 == counts.at(origin);
-    for x in 0..counts.members() {
-        can &= (x == origin) | (message.tag.at(x) <= counts.at(x));
-    }
-    can
+    message.tag.at(origin) - 1 == counts.at(origin) && message.tag.count_above(counts) == 1
 }
 
 impl CausalBuffer {

@@ -1,5 +1,5 @@
 -- Timestamps, as lists of one number a member.
-use Rattle.std.specs.Prelude.{ℕ, max, Bool, nat_le, List, [], ◌∷◌, slice_index, replicate}
+use Rattle.std.specs.Prelude.{ℕ, ◌+◌, max, Bool, nat_le, nat_lt, if◌then◌else◌, List, [], ◌∷◌, slice_index, replicate}
 use Rattle.std.specs.Cmp.Lexicographic.{pointwise}
 use Rattle.op_base.specs.declared.tag.MessageId.{MessageId}
 
@@ -16,6 +16,12 @@ abbrev pub join : List ℕ → List ℕ → List ℕ
 join [] ys = []
 join (x ∷ xs) [] = []
 join (x ∷ xs) (y ∷ ys) = max x y ∷ join xs ys
+
+-- at how many members the entry of the first is above that of the second
+abbrev pub count_above : List ℕ → List ℕ → ℕ
+count_above [] ys = 0
+count_above (x ∷ xs) [] = 0
+count_above (x ∷ xs) (y ∷ ys) = (if nat_lt y x then 1 else 0) + count_above xs ys
 
 -- whether no entry of the first is above that of the second
 abbrev pub at_most : List ℕ → List ℕ → Bool

@@ -1,7 +1,7 @@
 //! Timestamps: one number a member, as a textbook vector clock has it.
 
-ghost use Rattle.std.specs.Prelude.{◌≡◌, ◌≤◌, ◌<◌, ◌^◌, ◌↔◌, length, slice_set, IsTrue};
-ghost use Rattle.op_base.specs.Timestamp.{entry, zero_tag, join, at_most, covers};
+ghost use Rattle.std.specs.Prelude.{◌≡◌, ℕ, ◌≤◌, ◌<◌, ◌^◌, ◌↔◌, min, length, slice_index, slice_set, IsTrue};
+ghost use Rattle.op_base.specs.Timestamp.{entry, zero_tag, join, count_above, at_most, covers};
 ghost use Rattle.op_base.specs.declared.tag.TheConstants.{MOST_MEMBERS};
 
 use std::marker::Model;
@@ -110,22 +110,32 @@ impl Tag {
         joined
     }
 
+    /// The lesser of each two numbers.
+    pub fn meet(&self, other: &Tag) -> Tag
+        requires { length self.now ≡ length other.now }
+        ensures members { length result ≡ length self.now }
+        ensures entries { (x : ℕ) → entry result x ≡ min (entry self.now x) (entry other.now x) }
+    {
+        Tag {
+            n: self.n,
+            parts: lesser_at_places(&self.parts, &other.parts),
+        }
+    }
+
+    /// At how many members the number is above the other timestamp's.
+    pub fn count_above(&self, other: &Tag) -> u32
+        requires { length self.now ≡ length other.now }
+        ensures { result ≡ count_above self.now other.now }
+    {
+        count_at_places(&self.parts, &other.parts)
+    }
+
     /// Whether no number is above the other timestamp's.
     pub fn at_most(&self, other: &Tag) -> bool
         requires { length self.now ≡ length other.now }
         ensures { result ≡ at_most self.now other.now }
     {
-        self.numbers()
-            .iter()
-            .zip(other.numbers())
-            .all(|(a, b)| a <= b)
-    }
-
-    /// The numbers, members upwards.
-    fn numbers(&self) -> &[u32]
-        ensures { result.now ≡ self.now }
-    {
-        &self.parts[..self.n as usize]
+        self.count_above(other) == 0
     }
 
     /// Whether the number at the id's origin is at least the id's.
@@ -135,4 +145,27 @@ impl Tag {
     {
         self.at(id.origin) >= id.seq
     }
+}
+
+/// At how many places the first number is above the second. It goes through all, so that several are compared at once.
+fn count_at_places(parts: &[u32; 16], others: &[u32; 16]) -> u32
+    ensures { result ≡ count_above parts.now others.now }
+{
+    let mut above = 0;
+    for x in 0..16 {
+        above += u32::from(parts[x] > others[x]);
+    }
+    above
+}
+
+/// The lesser of the two numbers at each place.
+fn lesser_at_places(parts: &[u32; 16], others: &[u32; 16]) -> [u32; 16]
+    ensures len { length result ≡ 16 }
+    ensures each { (x : ℕ) → x < 16 → slice_index result x ≡ min (slice_index parts.now x) (slice_index others.now x) }
+{
+    let mut lesser = *parts;
+    for x in 0..16 {
+        lesser[x] = lesser[x].min(others[x]);
+    }
+    lesser
 }

@@ -29,7 +29,7 @@ pub(crate) fn least_of(rows: &[Tag]) -> Tag
 {
     let mut least = rows[0];
     for row in rows {
-        lower(&mut least, row);
+        least = least.meet(row);
     }
     least
 }
@@ -67,17 +67,6 @@ fn least_in(rows: &[Tag], x: u8) -> u32
         least = least.min(row.at(x));
     }
     least
-}
-
-/// Lowers each number to another timestamp's where that is less.
-fn lower(least: &mut Tag, row: &Tag)
-    requires { length least.old ≡ length row.now }
-    ensures members { length least.new ≡ length least.old }
-    ensures entries { (x : ℕ) → x < length least.old → entry least.new x ≡ min (entry least.old x) (entry row.now x) }
-{
-    for x in 0..row.members() {
-        least.set(x, least.at(x).min(row.at(x)));
-    }
 }
 
 /// Whether a column's least stays where an entry of it moves: it doesn't, or was and is above the least.

@@ -8,17 +8,12 @@ ghost use Rattle.tag_window.specs.Queues.{AreOfMembers, AreFirsts};
 use crate::queue::Queue;
 use op_base::Tag;
 
-/// Whether a timestamp is everywhere below another of as many members. There is no early end, so that several numbers are
-/// tested at once.
+/// Whether a timestamp is everywhere below another of as many members.
 pub fn is_everywhere_below(low: &Tag, high: &Tag) -> bool
     requires { length low.now ≡ length high.now }
     ensures { IsTrue result → (x : ℕ) → x < length low.now → entry low.now x < entry high.now x }
 {
-    let mut everywhere = true;
-    for x in 0..low.members() {
-        everywhere &= low.at(x) < high.at(x);
-    }
-    everywhere
+    high.count_above(low) == u32::from(high.members())
 }
 
 /// Lets go of all timestamps that are stable where these are the stable counts. `firsts` has a number for each member that is

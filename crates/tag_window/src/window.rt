@@ -46,26 +46,13 @@ impl Model for TagWindow {
     ghost invariant = { λ t. AreHeld t.w t.z t.firsts t.queues.items };
 }
 
-/// Whether a timestamp is nowhere below another of as many members. There is no early end, so that several numbers are
-/// tested at once.
-fn is_nowhere_below(had: &Tag, got: &Tag) -> bool
-    requires { length had.now ≡ length got.now }
-    ensures { IsTrue result → first_below (length had.now) had.now got.now ≡ None }
-{
-    let mut nowhere = true;
-    for x in 0..had.members() {
-        nowhere &= had.at(x) <= got.at(x);
-    }
-    nowhere
-}
-
 /// The least member at which a timestamp is below another of as many members.
 fn first_below(had: &Tag, got: &Tag) -> Option<u8>
     requires { length had.now ≡ length got.now }
     ensures least { result ≡ first_below (length had.now) had.now got.now }
     ensures member { IfSome result (λ x. x < length had.now) }
 {
-    if is_nowhere_below(had, got) {
+    if had.at_most(got) {
         return None;
     }
     for x in 0..had.members() {

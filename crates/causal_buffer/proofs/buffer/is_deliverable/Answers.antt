@@ -1,12 +1,16 @@
-use Rattle.std.proofs.Common.{◌-◌, ◌||◌, ◌&&◌, ◌==◌, nat_le, length, ap₂, ◌∙◌}
-use Rattle.causal_buffer.proofs.Deliverable.{is_next, deliverable-more}
+use Rattle.std.proofs.Common.{◌-◌, ◌==◌, ◌&&◌, sym, ◌∙◌}
+use Rattle.std.proofs.lemmas.Bool.{eq-eqb, ne_eqb}
+use Rattle.op_base.specs.Timestamp.{count_above}
+use Rattle.causal_buffer.proofs.Deliverable.{told_deliverable}
 use Rattle.causal_buffer.proofs.buffer.is_deliverable.Goals as goal
 
-pub loop-x-init : goal.loop-x-init
-loop-x-init c = ap₂ (λ a b. (a - 1) == b) c.at.ensures c.at-2.ensures ∙ is_next (length c.args.counts.now) c.args.counts.now c.args.message.now c.requires
+pub returns-then-at : goal.returns-then-at
+returns-then-at c =
+    let next = sym (eq-eqb _ _ c.if-at.true) ∙ (λ i. (c.at.ensures i - 1) == c.at-2.ensures i) in
+    (λ i. next i && (c.count_above.ensures i == 1)) ∙ told_deliverable c.args.counts.now c.args.message.now c.requires
 
-pub loop-x-preserved : goal.loop-x-preserved
-loop-x-preserved c =
-    let x = c.loop-x.x in
+pub returns-else-at : goal.returns-else-at
+returns-else-at c =
     let m = c.args.message.now in
-    (λ j. c.loop-x.invariant j && ((x == m.origin) || nat_le (c.at-in-loop-x.ensures j) (c.at-in-loop-x-2.ensures j))) ∙ deliverable-more x c.args.counts.now m
+    let fails = sym (ne_eqb _ _ c.if-at.false) ∙ (λ i. (c.at.ensures i - 1) == c.at-2.ensures i) in
+    ne_eqb _ _ c.if-at.false ∙ (λ i. fails i && (count_above m.tag c.args.counts.now == 1)) ∙ told_deliverable c.args.counts.now m c.requires

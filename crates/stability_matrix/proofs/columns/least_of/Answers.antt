@@ -13,9 +13,9 @@ loop-row-preserved c =
     let within : y < length rows = omega (arith, c.loop-row-test.true) in
     let at : (x : ℕ) → entry c.row-item.result x ≡ get_or (column_of rows x) y 0 = λ x. ap (λ row. entry row x) (c.row-item.is ∙ get_or_default rows y c.row-item.result [] within) ∙ sym (get_or-column rows x y within) in
     record {
-      members = c.lower.ensures.members ∙ c.loop-row.invariant.members;
-      so_far = λ x l. least-more (column_of rows x) (entry c.loop-row.least x) y (entry c.row-item.result x) (entry c.lower.new.least x) (c.loop-row.invariant.so_far x l)
-          (omega (arith, within, length-column rows x)) (at x) (c.lower.ensures.entries x (omega (arith, l, c.loop-row.invariant.members)));
+      members = c.meet-least.ensures.members ∙ c.loop-row.invariant.members;
+      so_far = λ x l. least-more (column_of rows x) (entry c.loop-row.least x) y (entry c.row-item.result x) (entry c.meet-least.result x) (c.loop-row.invariant.so_far x l)
+          (omega (arith, within, length-column rows x)) (at x) (c.meet-least.ensures.entries x);
     }
 
 pub returns : goal.returns
