@@ -15,7 +15,7 @@ use Rattle.frame_codec.specs.Grammar.{version_byte, last_code}
 use Rattle.frame_codec.specs.declared.fault.DecodeFault.{DecodeFault}
 use Rattle.frame_codec.specs.declared.fault.FrameFault.{FrameFault}
 use Rattle.frame_codec.specs.declared.fault.FrameFault.TheVariants.{Short, Version as OfVersion, Epoch, Members, Origin, Code, Number, BadKey, Argument, Rest}
-use Rattle.frame_codec.specs.Fault.{byte_at, code_byte, head_len, is_read_in, is_bad_epoch, argument_at, is_whole_argument, behind_whole, numbers, timestamp_of, behind_timestamp, is_text_field, behind_text, is_bad_number, is_bad_key, is_bad_argument, behind_argument, first_fault, fault_by, Refuses}
+use Rattle.frame_codec.specs.Fault.{byte_at, code_byte, head_len, is_read_in, is_bad_epoch, argument_of_code, is_whole_argument, behind_whole, numbers, timestamp_of, behind_timestamp, is_text_field, behind_text, is_bad_number, is_bad_key, is_bad_argument, behind_argument, first_fault, fault_by, Refuses}
 use Rattle.frame_codec.specs.Reading.{is_argument, behind_act, act_fault, head_fault, or_else, rest_fault, operation_fault, behind_operation, IsWhy}
 
 six_first : (a b c d e f : Bool) (others : Option FrameFault)
@@ -62,8 +62,8 @@ fields_alike : (version : Version) (code : ℕ) (bytes : List ℕ)
     → (let key = if code == 0 then bytes else behind_text version bytes in
     first_fault (
     (nat_lt 0 code && not (is_text_field version is_key bytes), BadKey)
-    ∷ (not (is_whole_argument version (argument_at code) key), Argument)
-    ∷ (nat_lt 0 (length (behind_whole version (argument_at code) key)), Rest)
+    ∷ (not (is_whole_argument version (argument_of_code code) key), Argument)
+    ∷ (nat_lt 0 (length (behind_whole version (argument_of_code code) key)), Rest)
     ∷ []))
     ≡ or_else (operation_fault version code bytes) (rest_fault (behind_operation version code bytes))
 fields_alike version zero bytes = refl

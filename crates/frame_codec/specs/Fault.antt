@@ -59,8 +59,8 @@ abbrev pub code_byte : List ℕ → ℕ
 code_byte bytes = byte_at bytes 3
 
 -- what stands behind the key of a code: nothing behind the no-op's
-abbrev pub argument_at : ℕ → AnArgument
-argument_at code = if code == 0 then Nothing else argument_of (operation_of code).1
+abbrev pub argument_of_code : ℕ → AnArgument
+argument_of_code code = if code == 0 then Nothing else argument_of (operation_of code).1
 
 -- the first n numbers of 32 bits
 abbrev pub numbers : ℕ → List ℕ → List ℕ
@@ -126,7 +126,7 @@ behind_whole version Element bytes = drop 9 bytes
 
 -- what stands behind the argument, where the code takes one
 abbrev pub behind_argument : Version → ℕ → List ℕ → List ℕ
-behind_argument version n bytes = behind_whole version (argument_at (code_byte bytes)) (behind_key version n bytes)
+behind_argument version n bytes = behind_whole version (argument_of_code (code_byte bytes)) (behind_key version n bytes)
 
 -- the key is missing, cut or no key
 abbrev pub is_bad_key : Version → ℕ → List ℕ → Bool
@@ -134,7 +134,7 @@ is_bad_key version n bytes = nat_lt 0 (code_byte bytes) && not (is_text_field ve
 
 -- the argument is missing, cut, or none that the version has
 abbrev pub is_bad_argument : Version → ℕ → List ℕ → Bool
-is_bad_argument version n bytes = not (is_whole_argument version (argument_at (code_byte bytes)) (behind_key version n bytes))
+is_bad_argument version n bytes = not (is_whole_argument version (argument_of_code (code_byte bytes)) (behind_key version n bytes))
 
 -- the origin's number is 0, or some number is above the limit
 abbrev pub is_bad_number : Version → ℕ → ℕ → List ℕ → Bool

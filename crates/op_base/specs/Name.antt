@@ -1,6 +1,6 @@
 -- What the texts of keys, values and objects are, and which refusal a text that is none of them gets.
 use Rattle.std.specs.Prelude.{◌≡◌, ℕ, Bool, not, ◌||◌, ◌&&◌, ◌==◌, nat_eq, nat_lt, nat_le, List, [], ◌∷◌, length, Option, Some, None, Result, Err, IsOkUnless, is_some, position, codes, if◌then◌else◌}
-use Rattle.std.specs.List.{list_all, before_first, after_first}
+use Rattle.std.specs.List.{list_all, find, before_first, after_first}
 use Rattle.std.specs.Option.{option_map}
 use Rattle.std.specs.Cmp.Lexicographic.{pointwise}
 use Rattle.std.specs.Str.{is_utf8}
@@ -69,14 +69,9 @@ kind_word kind.List = codes "list"
 abbrev pub kinds : List Kind
 kinds = AwSet ∷ RwSet ∷ EwFlag ∷ DwFlag ∷ MvReg ∷ Counter ∷ RCounter ∷ kind.List ∷ []
 
--- the kind of a list whose word this is
-abbrev pub kind_among : List Kind → List ℕ → Option Kind
-kind_among [] bytes = None
-kind_among (kind ∷ others) bytes = if same_text (kind_word kind) bytes then Some kind else kind_among others bytes
-
 -- the kind whose word this is
 abbrev pub kind_of : List ℕ → Option Kind
-kind_of bytes = kind_among kinds bytes
+kind_of bytes = find (λ kind. same_text (kind_word kind) bytes) kinds
 
 abbrev pub is_colon : ℕ → Bool
 is_colon b = b == 58

@@ -1,7 +1,7 @@
 -- The table of operations: what can be done to the objects of each kind, the code of each, its word, and what stands
 -- behind it.
-use Rattle.std.specs.Prelude.{ℕ, ◌-◌, List, [], ◌∷◌, Option, Some, None, is_some, codes, filter, map, slice_index_or, if◌then◌else◌}
-use Rattle.std.specs.List.{flat_map}
+use Rattle.std.specs.Prelude.{ℕ, ◌-◌, List, [], ◌∷◌, Option, Some, None, is_some, codes, filter, map, slice_index_or}
+use Rattle.std.specs.List.{find, flat_map}
 use Rattle.op_base.specs.Name.{same_text, kinds}
 use Rattle.op_base.specs.declared.name.Kind.{Kind}
 use Rattle.op_base.specs.declared.name.Kind.TheVariants.{AwSet, RwSet, EwFlag, DwFlag, MvReg, Counter, RCounter}
@@ -62,14 +62,9 @@ verb_word Ins = codes "ins"
 verb_word Del = codes "del"
 verb_word Clear = codes "clear"
 
--- the verb of a list whose word this is
-abbrev pub verb_among : List Verb → List ℕ → Option Verb
-verb_among [] bytes = None
-verb_among (verb ∷ others) bytes = if same_text (verb_word verb) bytes then Some verb else verb_among others bytes
-
 -- the verb whose word this is
 abbrev pub verb_of_word : List ℕ → Option Verb
-verb_of_word bytes = verb_among verbs bytes
+verb_of_word bytes = find (λ verb. same_text (verb_word verb) bytes) verbs
 
 -- what stands behind a verb
 abbrev pub argument_of : Verb → Argument
