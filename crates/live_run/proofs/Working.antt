@@ -9,8 +9,8 @@ use Rattle.replica_lock.specs.declared.pass.Settings.{Settings}
 use Rattle.script_lang.specs.Ranges.{LiveLineIsWithin}
 use Rattle.script_lang.specs.declared.live.LiveCommand.{LiveCommand}
 use Rattle.script_lang.specs.declared.live.LiveCommand.TheVariants.{Client, Do, Ask}
-use Rattle.script_lang.specs.declared.live.LiveLine.{LiveLine}
-use Rattle.script_lang.specs.declared.live.LiveLine.TheVariants as line
+use Rattle.script_lang.specs.declared.line.LineOf.{LineOf}
+use Rattle.script_lang.specs.declared.line.LineOf.TheVariants as line
 use Rattle.turn_lock.specs.Turns.{LockState}
 use Rattle.live_run.specs.Ended.{AreLocks}
 use Rattle.live_run.specs.Inputs.{command_in, commands_in, replica_of_client, works_at}
@@ -26,7 +26,7 @@ use Rattle.live_run.proofs.Places.{each_pushed}
 
 -- ---- where a client works
 
-works_below : (n clients c at : ℕ) (l : LiveLine) → LiveLineIsWithin n clients l → at < n → fold (works_at c) at (command_in l) < n
+works_below : (n clients c at : ℕ) (l : LineOf LiveCommand) → LiveLineIsWithin n clients l → at < n → fold (works_at c) at (command_in l) < n
 works_below n clients c at (line.Run (Client k r)) within low = elim (cases_eq k c) [
   | inl same ↦ subst (λ x. x < n) (sym (cond-true (k == c) r at (eq-eqb k c same))) within.1
   | inr other ↦ subst (λ x. x < n) (sym (cond-false (k == c) r at (ne_eqb k c other))) low

@@ -8,12 +8,12 @@ use Rattle.op_base.specs.Order.{text_cmp}
 use Rattle.op_base.specs.declared.name.ObjectId.{ObjectId}
 use Rattle.script_lang.specs.declared.live.LiveCommand.{LiveCommand}
 use Rattle.script_lang.specs.declared.live.LiveCommand.TheVariants.{Client, Do, Ask}
-use Rattle.script_lang.specs.declared.live.LiveLine.{LiveLine}
-use Rattle.script_lang.specs.declared.live.LiveLine.TheVariants.{Skip, Run, Bad, NoMemory}
+use Rattle.script_lang.specs.declared.line.LineOf.{LineOf}
+use Rattle.script_lang.specs.declared.line.LineOf.TheVariants.{Skip, Run, Bad, NoMemory}
 use Rattle.live_run.specs.declared.input.NumberedLine.{NumberedLine}
 
 -- the commands among lines, in order
-abbrev pub command_in : LiveLine → List LiveCommand
+abbrev pub command_in : LineOf LiveCommand → List LiveCommand
 command_in (Run command) = command ∷ []
 command_in Skip = []
 command_in (Bad code) = []
@@ -58,7 +58,7 @@ put_object_of objects (Do c update) = put_object update.object objects
 put_object_of objects (Ask c object) = put_object object objects
 
 -- that a line names, where it is a command
-abbrev pub put_object_of_line : List ObjectId → LiveLine → List ObjectId
+abbrev pub put_object_of_line : List ObjectId → LineOf LiveCommand → List ObjectId
 put_object_of_line objects line = fold put_object_of objects (command_in line)
 
 -- objects in byte order of their texts, none twice

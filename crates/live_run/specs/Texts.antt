@@ -15,8 +15,9 @@ use Rattle.replica_node.specs.contracts.journal.JournalRecorder.TheImpl.{ghosts}
 use Rattle.replica_node.specs.declared.node.Node.{Node}
 use Rattle.script_lang.specs.Notes.{note_line}
 use Rattle.script_lang.specs.Replies.{joined, reply_words}
-use Rattle.script_lang.specs.declared.live.LiveLine.{LiveLine}
-use Rattle.script_lang.specs.declared.live.LiveLine.TheVariants.{Skip, Run, Bad, NoMemory}
+use Rattle.script_lang.specs.declared.live.LiveCommand.{LiveCommand}
+use Rattle.script_lang.specs.declared.line.LineOf.{LineOf}
+use Rattle.script_lang.specs.declared.line.LineOf.TheVariants.{Skip, Run, Bad, NoMemory}
 use Rattle.script_lang.specs.declared.reply.Reply.{Reply}
 use Rattle.script_lang.specs.declared.reply.Reply.TheVariants as reply
 use Rattle.world_model.specs.World.{PlainWorld}
@@ -30,7 +31,7 @@ abbrev pub line_with : List (List ℕ) → List ℕ
 line_with words = joined words ++ 10 ∷ []
 
 -- a line that is no command, and the number of its fault
-abbrev pub bad_words : ℕ → LiveLine → List ℕ
+abbrev pub bad_words : ℕ → LineOf LiveCommand → List ℕ
 bad_words number (Bad code) = line_with (codes "bad" ∷ codes "line" ∷ decimal number ∷ decimal code ∷ [])
 bad_words number (Run command) = []
 bad_words number Skip = []

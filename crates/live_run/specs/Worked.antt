@@ -7,7 +7,7 @@ use Rattle.causal_model.specs.Worked.{does_to, counter_c, yes}
 use Rattle.causal_model.specs.declared.note.Note.{Note}
 use Rattle.causal_model.specs.declared.note.Note.TheVariants as note
 use Rattle.script_lang.specs.declared.live.LiveCommand.TheVariants.{Do, Ask}
-use Rattle.script_lang.specs.declared.live.LiveLine.TheVariants.{Skip, Run, Bad}
+use Rattle.script_lang.specs.declared.line.LineOf.TheVariants.{Skip, Run, Bad}
 use Rattle.script_lang.specs.declared.reply.Reply.TheVariants as reply
 use Rattle.world_model.specs.Settling.{round_of, is_quiescent}
 use Rattle.world_model.specs.Journals.{world_of_journals}

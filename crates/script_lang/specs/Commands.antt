@@ -1,5 +1,6 @@
 -- The commands of a script. Each `..._words` is the command of the words behind its first.
 use Rattle.std.specs.Prelude.{◌≡◌, ◌⊎◌, ℕ, Bool, true, false, nat_lt, List, [], ◌∷◌, length, Result, Ok, Err, Option, Some, None, codes, if◌then◌else◌}
+use Rattle.std.specs.List.{find}
 use Rattle.std.specs.Option.{option_or}
 use Rattle.op_base.specs.Name.{same_text}
 use Rattle.op_base.specs.declared.name.ObjectId.{ObjectId}
@@ -13,9 +14,9 @@ use Rattle.script_lang.specs.declared.command.Command.{Command}
 use Rattle.script_lang.specs.declared.command.Command.TheVariants.{Do, Ask, Ids, Tombs, Beat, Give, Resend, Raw, Settle, Members, Log, Size, Stable, Seen, Noops, Lags, Stop}
 use Rattle.script_lang.specs.declared.command.Keyword.{Keyword}
 use Rattle.script_lang.specs.declared.command.Keyword.TheVariants as keywords
-use Rattle.script_lang.specs.declared.command.Line.{Line}
-use Rattle.script_lang.specs.declared.command.Line.TheVariants.{Skip, Run, Bad}
-use Rattle.script_lang.specs.declared.command.Line.TheVariants as lines
+use Rattle.script_lang.specs.Lines.{run_or_bad}
+use Rattle.script_lang.specs.declared.line.LineOf.{LineOf}
+use Rattle.script_lang.specs.declared.line.LineOf.TheVariants.{Skip}
 use Rattle.script_lang.specs.declared.header.Mode.{Mode}
 use Rattle.script_lang.specs.declared.header.Mode.TheVariants as mode
 
@@ -142,8 +143,7 @@ asking_keywords = keywords.Ask ∷ keywords.Ids ∷ keywords.Tombs ∷ keywords.
 
 -- the keyword of a list whose word this is
 abbrev pub keyword_among : List Keyword → List ℕ → Option Keyword
-keyword_among [] word = None
-keyword_among (keyword ∷ others) word = if same_text (keyword_word keyword) word then Some keyword else keyword_among others word
+keyword_among keywords word = find (λ keyword. same_text (keyword_word keyword) word) keywords
 
 -- the keyword whose word this is
 abbrev pub keyword_named : List ℕ → Option Keyword
@@ -205,26 +205,13 @@ command_words mode n (keyword ∷ words) = words_behind n (keyword_of mode keywo
 abbrev pub command_of : Mode → ℕ → List ℕ → Result Command Fault
 command_of mode n line = if nat_lt most_line_bytes (length line) then Err fault.TooLong else command_words mode n (words_of line)
 
--- a line that is no command, by the number of its fault
-abbrev pub bad_line : Option ℕ → Line
-bad_line (Some code) = Bad code
-bad_line None = lines.NoMemory
-
-abbrev pub run_or_bad : Result Command Fault → Line
-run_or_bad (Ok command) = Run command
-run_or_bad (Err fault) = bad_line (number_of_fault fault)
-
 -- what a line of a script of a mode is, in a store of n members
-abbrev pub line_in : Mode → ℕ → List ℕ → Line
+abbrev pub line_in : Mode → ℕ → List ℕ → LineOf Command
 line_in mode n line = if is_passed_over line then Skip else run_or_bad (command_of mode n line)
 
 -- behind a header store, and behind a header keep
-abbrev pub line_of : ℕ → List ℕ → Line
+abbrev pub line_of : ℕ → List ℕ → LineOf Command
 line_of n line = line_in mode.Store n line
 
-abbrev pub keep_line_of : ℕ → List ℕ → Line
+abbrev pub keep_line_of : ℕ → List ℕ → LineOf Command
 keep_line_of n line = line_in mode.Keep n line
-
--- a line was read as this, unless memory ran out
-abbrev pub IsLineOrNoMemory : Line → Line → Type 0
-IsLineOrNoMemory line result = (result ≡ line) ⊎ (result ≡ lines.NoMemory)

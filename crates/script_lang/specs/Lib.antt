@@ -4,6 +4,7 @@ pub mod Fault
 pub mod Names
 pub mod Acts
 pub mod Headers
+pub mod Lines
 pub mod Commands
 pub mod LiveCommands
 pub mod Ranges

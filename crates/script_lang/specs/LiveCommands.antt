@@ -9,9 +9,9 @@ use Rattle.script_lang.specs.declared.fault.Fault.{Fault}
 use Rattle.script_lang.specs.declared.fault.Fault.TheVariants as fault
 use Rattle.script_lang.specs.declared.live.LiveCommand.{LiveCommand}
 use Rattle.script_lang.specs.declared.live.LiveCommand.TheVariants.{Client, Do, Ask}
-use Rattle.script_lang.specs.declared.live.LiveLine.{LiveLine}
-use Rattle.script_lang.specs.declared.live.LiveLine.TheVariants.{Skip, Run, Bad}
-use Rattle.script_lang.specs.declared.live.LiveLine.TheVariants as lines
+use Rattle.script_lang.specs.Lines.{run_or_bad}
+use Rattle.script_lang.specs.declared.line.LineOf.{LineOf}
+use Rattle.script_lang.specs.declared.line.LineOf.TheVariants.{Skip}
 
 abbrev pub client_command : ℕ → ℕ → List ℕ → List ℕ → Result LiveCommand Fault
 client_command n clients c r = member_of clients c >>= λ c. member_of n r >>= λ r. Ok (Client c r)
@@ -64,19 +64,6 @@ abbrev pub live_command_of : ℕ → ℕ → List ℕ → Result LiveCommand Fau
 live_command_of n clients line =
     if nat_lt most_line_bytes (length line) then Err fault.TooLong else live_words n clients (words_of line)
 
--- a line that is no command, by the number of its fault
-abbrev pub bad_live_line : Option ℕ → LiveLine
-bad_live_line (Some code) = Bad code
-bad_live_line None = lines.NoMemory
-
-abbrev pub live_run_or_bad : Result LiveCommand Fault → LiveLine
-live_run_or_bad (Ok command) = Run command
-live_run_or_bad (Err fault) = bad_live_line (number_of_fault fault)
-
 -- what a line of a live input is, with n members and so many clients
-abbrev pub live_line_of : ℕ → ℕ → List ℕ → LiveLine
-live_line_of n clients line = if is_passed_over line then Skip else live_run_or_bad (live_command_of n clients line)
-
--- a line was read as this, unless memory ran out
-abbrev pub IsLiveLineOrNoMemory : LiveLine → LiveLine → Type 0
-IsLiveLineOrNoMemory line result = (result ≡ line) ⊎ (result ≡ lines.NoMemory)
+abbrev pub live_line_of : ℕ → ℕ → List ℕ → LineOf LiveCommand
+live_line_of n clients line = if is_passed_over line then Skip else run_or_bad (live_command_of n clients line)

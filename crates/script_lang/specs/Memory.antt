@@ -1,5 +1,5 @@
 -- What a reader answers where memory may run out, and of which lines it tells that.
-use Rattle.std.specs.Prelude.{◌≡◌, ◌≢◌, ℕ, Bool, true, false, IsTrue, nat_lt, nat_le, List, length, Result, Ok, Err, MatchResult, IfErr}
+use Rattle.std.specs.Prelude.{◌≡◌, ◌≢◌, ℕ, Bool, true, false, IsTrue, nat_lt, List, length, Result, Ok, Err, MatchResult, IfErr}
 use Rattle.op_base.specs.declared.name.TheConstants.{VALUE_BYTES_IN_PLACE}
 use Rattle.op_base.specs.declared.operation.Act.{Act}
 use Rattle.op_base.specs.declared.operation.Act.TheVariants as acts
@@ -7,12 +7,8 @@ use Rattle.script_lang.specs.declared.fault.Fault.{Fault}
 use Rattle.script_lang.specs.declared.fault.Fault.TheVariants.{TooLong, Keyword, Words, Member, Object, Operation, Value, Number, NoMemory}
 use Rattle.script_lang.specs.declared.command.Command.{Command}
 use Rattle.script_lang.specs.declared.command.Command.TheVariants as command
-use Rattle.script_lang.specs.declared.command.Line.{Line}
-use Rattle.script_lang.specs.declared.command.Line.TheVariants as line
 use Rattle.script_lang.specs.declared.live.LiveCommand.{LiveCommand}
 use Rattle.script_lang.specs.declared.live.LiveCommand.TheVariants as live
-use Rattle.script_lang.specs.declared.live.LiveLine.{LiveLine}
-use Rattle.script_lang.specs.declared.live.LiveLine.TheVariants as live_line
 
 -- a reader answers what is to be read, or its fault, unless memory runs out
 abbrev pub Reads : {A : Type 0} → Result A Fault → Result A Fault → Type 0
@@ -77,22 +73,8 @@ keeps (command.Noops r) = false
 keeps (command.Lags r) = false
 keeps (command.Stop r b) = false
 
--- whether memory may run out at a line: at a command that keeps what takes memory, and at one whose fault is 7 or 8
-abbrev pub line_takes_memory : Line → Bool
-line_takes_memory line.Skip = false
-line_takes_memory (line.Run command) = keeps command
-line_takes_memory (line.Bad code) = nat_le 7 code
-line_takes_memory line.NoMemory = true
-
 -- whether a live command keeps a value of more than 24 bytes
 abbrev pub live_keeps : LiveCommand → Bool
 live_keeps (live.Client c r) = false
 live_keeps (live.Do c update) = has_long_value update.act
 live_keeps (live.Ask c object) = false
-
--- whether memory may run out at a live line
-abbrev pub live_line_takes_memory : LiveLine → Bool
-live_line_takes_memory live_line.Skip = false
-live_line_takes_memory (live_line.Run command) = live_keeps command
-live_line_takes_memory (live_line.Bad code) = nat_le 7 code
-live_line_takes_memory live_line.NoMemory = true

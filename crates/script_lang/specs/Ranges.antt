@@ -3,12 +3,10 @@ use Rattle.std.specs.Prelude.{◌≡◌, ℕ, ◌<◌, ◌≤◌}
 use Rattle.op_base.specs.declared.name.Kind.TheVariants as kinds
 use Rattle.script_lang.specs.declared.command.Command.{Command}
 use Rattle.script_lang.specs.declared.command.Command.TheVariants as command
-use Rattle.script_lang.specs.declared.command.Line.{Line}
-use Rattle.script_lang.specs.declared.command.Line.TheVariants as line
 use Rattle.script_lang.specs.declared.live.LiveCommand.{LiveCommand}
 use Rattle.script_lang.specs.declared.live.LiveCommand.TheVariants as live
-use Rattle.script_lang.specs.declared.live.LiveLine.{LiveLine}
-use Rattle.script_lang.specs.declared.live.LiveLine.TheVariants as live_line
+use Rattle.script_lang.specs.declared.line.LineOf.{LineOf}
+use Rattle.script_lang.specs.Lines.{OfCommand}
 
 -- each member that a command names is below n, it asks for 1 to 16 members, and for the ids and tombs of a list alone
 abbrev pub IsWithin : ℕ → Command → Type 0
@@ -30,11 +28,8 @@ IsWithin n (command.Noops r) = r < n
 IsWithin n (command.Lags r) = r < n
 IsWithin n (command.Stop r b) = r < n
 
-abbrev pub LineIsWithin : ℕ → Line → Type 0
-LineIsWithin n line.Skip = Unit {0}
-LineIsWithin n (line.Run command) = IsWithin n command
-LineIsWithin n (line.Bad code) = Unit {0}
-LineIsWithin n line.NoMemory = Unit {0}
+abbrev pub LineIsWithin : ℕ → LineOf Command → Type 0
+LineIsWithin n line = OfCommand (IsWithin n) line
 
 -- each client that a command names is below clients, each member below n
 abbrev pub IsLiveWithin : ℕ → ℕ → LiveCommand → Type 0
@@ -42,8 +37,5 @@ IsLiveWithin n clients (live.Client c r) = (c < clients) × (r < n)
 IsLiveWithin n clients (live.Do c update) = c < clients
 IsLiveWithin n clients (live.Ask c object) = c < clients
 
-abbrev pub LiveLineIsWithin : ℕ → ℕ → LiveLine → Type 0
-LiveLineIsWithin n clients live_line.Skip = Unit {0}
-LiveLineIsWithin n clients (live_line.Run command) = IsLiveWithin n clients command
-LiveLineIsWithin n clients (live_line.Bad code) = Unit {0}
-LiveLineIsWithin n clients live_line.NoMemory = Unit {0}
+abbrev pub LiveLineIsWithin : ℕ → ℕ → LineOf LiveCommand → Type 0
+LiveLineIsWithin n clients line = OfCommand (IsLiveWithin n clients) line

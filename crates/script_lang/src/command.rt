@@ -2,13 +2,15 @@
 
 ghost use Rattle.std.specs.Prelude.{◌≡◌, ℕ, ◌<◌, true, IfOk, IsTrue, map};
 ghost use Rattle.op_base.specs.declared.name.Kind.TheVariants as kinds;
-ghost use Rattle.script_lang.specs.Commands.{do_command, do_words, ask_command, ask_words, asked_list, lone_list, give_command, give_words, resend_command, resend_words, raw_command, raw_words, settle_words, members_words, stop_command, stop_words, has_lone_member, lone_member, has_keyword, doing_keywords, asking_keywords, keyword_among, keyword_named, keyword_of, keyword_words, command_words, command_of, line_of, keep_line_of, line_in, bad_line, IsLineOrNoMemory};
-ghost use Rattle.script_lang.specs.Memory.{Reads, IsAmple, keeps, line_takes_memory};
+ghost use Rattle.script_lang.specs.Commands.{do_command, do_words, ask_command, ask_words, asked_list, lone_list, give_command, give_words, resend_command, resend_words, raw_command, raw_words, settle_words, members_words, stop_command, stop_words, has_lone_member, lone_member, has_keyword, doing_keywords, asking_keywords, keyword_among, keyword_named, keyword_of, keyword_words, command_words, command_of, line_of, keep_line_of, line_in};
+ghost use Rattle.script_lang.specs.Lines.{IsLineOrNoMemory, may_lack};
+ghost use Rattle.script_lang.specs.Memory.{Reads, IsAmple, keeps};
 ghost use Rattle.script_lang.specs.Ranges.{IsWithin, LineIsWithin};
 
 use crate::act::{are_few, read_update};
 use crate::fault::{Fault, MOST_LINE_BYTES};
 use crate::header::Mode;
+use crate::line::{LineOf, bad_line};
 use crate::name::{read_amount, read_hex, read_list, read_member, read_object, read_size};
 use crate::word::{MOST_WORDS, find_words, is_passed_over};
 use op_base::{ByteList, ObjectId, Update};
@@ -55,17 +57,7 @@ pub enum Command {
 }
 
 /// What a line of a script is.
-#[derive(Debug, PartialEq, Eq, Drop)]
-pub enum Line {
-    /// It has no word, or its first begins with `#`.
-    Skip,
-    /// It is a command.
-    Run(Command),
-    /// It is no command, with the number of its fault, 1 to 8.
-    Bad(u8),
-    /// There is no memory for what it keeps.
-    NoMemory,
-}
+pub type Line = LineOf<Command>;
 
 /// The first word of a command, of which there is one for each.
 #[derive(Clone, Copy, Debug, PartialEq, Eq)]
@@ -94,7 +86,7 @@ pub enum Keyword {
 pub fn read_line(alloc: Global, line: &[u8], n: u8) -> Line
     ensures line { IsLineOrNoMemory (line_of n line.now) result }
     ensures within { LineIsWithin n result }
-    ensures ample { result ≡ Line.NoMemory → IsTrue (line_takes_memory (line_of n line.now)) }
+    ensures ample { result ≡ LineOf.NoMemory → IsTrue (may_lack keeps (line_of n line.now)) }
 {
     read_line_in(alloc, Mode::Store, line, n)
 }
@@ -104,7 +96,7 @@ pub fn read_line(alloc: Global, line: &[u8], n: u8) -> Line
 pub fn read_keep_line(alloc: Global, line: &[u8], n: u8) -> Line
     ensures line { IsLineOrNoMemory (keep_line_of n line.now) result }
     ensures within { LineIsWithin n result }
-    ensures ample { result ≡ Line.NoMemory → IsTrue (line_takes_memory (keep_line_of n line.now)) }
+    ensures ample { result ≡ LineOf.NoMemory → IsTrue (may_lack keeps (keep_line_of n line.now)) }
 {
     read_line_in(alloc, Mode::Keep, line, n)
 }
@@ -113,7 +105,7 @@ pub fn read_keep_line(alloc: Global, line: &[u8], n: u8) -> Line
 fn read_line_in(alloc: Global, mode: Mode, line: &[u8], n: u8) -> Line
     ensures line { IsLineOrNoMemory (line_in mode n line.now) result }
     ensures within { LineIsWithin n result }
-    ensures ample { result ≡ Line.NoMemory → IsTrue (line_takes_memory (line_in mode n line.now)) }
+    ensures ample { result ≡ LineOf.NoMemory → IsTrue (may_lack keeps (line_in mode n line.now)) }
 {
     if is_passed_over(line) {
         return Line::Skip;
@@ -121,16 +113,6 @@ fn read_line_in(alloc: Global, mode: Mode, line: &[u8], n: u8) -> Line
     match read_command(alloc, mode, line, n) {
         Ok(command) => Line::Run(command),
         Err(fault) => bad_line(fault.number()),
-    }
-}
-
-/// The line of a fault's number.
-fn bad_line(number: Option<u8>) -> Line
-    ensures { result ≡ bad_line number }
-{
-    match number {
-        Some(code) => Line::Bad(code),
-        None => Line::NoMemory,
     }
 }
 

@@ -1,12 +1,14 @@
 //! The commands of a live input.
 
 ghost use Rattle.std.specs.Prelude.{◌≡◌, ℕ, IfOk, IsTrue, map};
-ghost use Rattle.script_lang.specs.LiveCommands.{client_command, client_words, client_do, client_do_words, client_ask, client_ask_words, named_words, live_words, live_command_of, live_line_of, bad_live_line, IsLiveLineOrNoMemory};
-ghost use Rattle.script_lang.specs.Memory.{Reads, IsAmple, live_keeps, live_line_takes_memory};
+ghost use Rattle.script_lang.specs.LiveCommands.{client_command, client_words, client_do, client_do_words, client_ask, client_ask_words, named_words, live_words, live_command_of, live_line_of};
+ghost use Rattle.script_lang.specs.Lines.{IsLineOrNoMemory, may_lack};
+ghost use Rattle.script_lang.specs.Memory.{Reads, IsAmple, live_keeps};
 ghost use Rattle.script_lang.specs.Ranges.{IsLiveWithin, LiveLineIsWithin};
 
 use crate::act::{are_few, read_update};
 use crate::fault::{Fault, MOST_LINE_BYTES};
+use crate::line::{LineOf, bad_line};
 use crate::name::{client_digits, read_member, read_object};
 use crate::word::{is_passed_over, is_text, split};
 use op_base::{ObjectId, Update};
@@ -24,41 +26,21 @@ pub enum LiveCommand {
 }
 
 /// What a line of a live input is.
-#[derive(Debug, PartialEq, Eq, Drop)]
-pub enum LiveLine {
-    /// It has no word, or its first begins with `#`.
-    Skip,
-    /// It is a command.
-    Run(LiveCommand),
-    /// It is no command, with the number of its fault, 1 to 8.
-    Bad(u8),
-    /// There is no memory for what it keeps.
-    NoMemory,
-}
+pub type LiveLine = LineOf<LiveCommand>;
 
 /// What a line of a live input is, with `n` members and so many clients. The line is without its newline and one
 /// carriage return at its end.
 pub fn read_live_line(alloc: Global, line: &[u8], n: u8, clients: u8) -> LiveLine
-    ensures line { IsLiveLineOrNoMemory (live_line_of n clients line.now) result }
+    ensures line { IsLineOrNoMemory (live_line_of n clients line.now) result }
     ensures within { LiveLineIsWithin n clients result }
-    ensures ample { result ≡ LiveLine.NoMemory → IsTrue (live_line_takes_memory (live_line_of n clients line.now)) }
+    ensures ample { result ≡ LineOf.NoMemory → IsTrue (may_lack live_keeps (live_line_of n clients line.now)) }
 {
     if is_passed_over(line) {
         return LiveLine::Skip;
     }
     match read_live_command(alloc, line, n, clients) {
         Ok(command) => LiveLine::Run(command),
-        Err(fault) => bad_live_line(fault.number()),
-    }
-}
-
-/// The line of a fault's number.
-fn bad_live_line(number: Option<u8>) -> LiveLine
-    ensures { result ≡ bad_live_line number }
-{
-    match number {
-        Some(code) => LiveLine::Bad(code),
-        None => LiveLine::NoMemory,
+        Err(fault) => bad_line(fault.number()),
     }
 }
 

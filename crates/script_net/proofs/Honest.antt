@@ -17,8 +17,8 @@ use Rattle.causal_model.specs.declared.outcome.Receive.TheVariants as receive
 use Rattle.script_lang.specs.Commands.{line_of, keep_line_of}
 use Rattle.script_lang.specs.declared.command.Command.{Command}
 use Rattle.script_lang.specs.declared.command.Command.TheVariants as command
-use Rattle.script_lang.specs.declared.command.Line.{Line}
-use Rattle.script_lang.specs.declared.command.Line.TheVariants as line
+use Rattle.script_lang.specs.declared.line.LineOf.{LineOf}
+use Rattle.script_lang.specs.declared.line.LineOf.TheVariants as line
 use Rattle.world_model.specs.Commands as world_command
 use Rattle.world_model.specs.Honest.{IsHonest, IsSentMessage}
 use Rattle.world_model.specs.Offering.{offered_between, resent_of}
@@ -69,14 +69,14 @@ command_keeps world (command.Noops r) honest can plain = honest
 command_keeps world (command.Lags r) honest can plain = honest
 command_keeps world (command.Stop r b) honest can plain = honest
 
-line_keeps : (world : PlainWorld) (l : Line) → IsHonest world → ((c : Command) → l ≡ line.Run c → CanRun (size_of world) c) → offers_bytes l ≡ false → IsHonest (line_world world l)
+line_keeps : (world : PlainWorld) (l : LineOf Command) → IsHonest world → ((c : Command) → l ≡ line.Run c → CanRun (size_of world) c) → offers_bytes l ≡ false → IsHonest (line_world world l)
 line_keeps world line.Skip honest can plain = honest
 line_keeps world (line.Run c) honest can plain = command_keeps world c honest (can c refl) plain
 line_keeps world (line.Bad code) honest can plain = honest
 line_keeps world line.NoMemory honest can plain = honest
 
 module _ (world : PlainWorld) (bytes : List ℕ) (lines : List (List ℕ)) (honest : IsHonest world) (plain : are_unforged (exchanges (OfStore world) (bytes ∷ lines)) ≡ true) where
-  abbrev first : Line
+  abbrev first : LineOf Command
   first = line_of (size_of world) bytes
 
   parts : (not (offers_bytes first) ≡ true) × (are_unforged (exchanges (OfStore (store_of_line world bytes)) lines) ≡ true)
@@ -121,7 +121,7 @@ keep_command_keeps keep (command.Noops r) is can = is
 keep_command_keeps keep (command.Lags r) is can = is
 keep_command_keeps keep (command.Stop r b) is can = (stop_is_kept keep r b is can).is_keep
 
-keep_line_keeps : (keep : PlainKeep) (l : Line) → IsKeep keep → ((c : Command) → l ≡ line.Run c → CanRun (size_of keep.world) c) → IsKeep (line_at keep_command_at l keep).1
+keep_line_keeps : (keep : PlainKeep) (l : LineOf Command) → IsKeep keep → ((c : Command) → l ≡ line.Run c → CanRun (size_of keep.world) c) → IsKeep (line_at keep_command_at l keep).1
 keep_line_keeps keep line.Skip is can = is
 keep_line_keeps keep (line.Run c) is can = keep_command_keeps keep c is (can c refl)
 keep_line_keeps keep (line.Bad code) is can = is
@@ -145,7 +145,7 @@ keep_scripts_are_honest header lines n w limit e =
 
 -- ---- replies
 
-received_is_fair : (l : Line) (world : PlainWorld) (r : ℕ) (m : Message) → IsHonest world → r < size_of world → IsSentMessage world m → is_fair_to l (receive_reply (offer_at r m world).0) ≡ true
+received_is_fair : (l : LineOf Command) (world : PlainWorld) (r : ℕ) (m : Message) → IsHonest world → r < size_of world → IsSentMessage world m → is_fair_to l (receive_reply (offer_at r m world).0) ≡ true
 received_is_fair line world r m honest l sent = by (offer_at r m world).0 refl where
   by : (got : Receive) → (offer_at r m world).0 ≡ got → is_fair_to line (receive_reply got) ≡ true
   by receive.Old e = refl
@@ -197,7 +197,7 @@ command_is_fair world (command.Noops r) honest can plain = refl
 command_is_fair world (command.Lags r) honest can plain = refl
 command_is_fair world (command.Stop r b) honest can plain = refl
 
-line_is_fair : (world : PlainWorld) (l : Line) → IsHonest world → ((c : Command) → l ≡ line.Run c → CanRun (size_of world) c) → offers_bytes l ≡ false → is_fair_to l (line_reply world l) ≡ true
+line_is_fair : (world : PlainWorld) (l : LineOf Command) → IsHonest world → ((c : Command) → l ≡ line.Run c → CanRun (size_of world) c) → offers_bytes l ≡ false → is_fair_to l (line_reply world l) ≡ true
 line_is_fair world line.Skip honest can plain = refl
 line_is_fair world (line.Run c) honest can plain = command_is_fair world c honest (can c refl) plain
 line_is_fair world (line.Bad code) honest can plain = refl
@@ -205,7 +205,7 @@ line_is_fair world line.NoMemory honest can plain = refl
 
 -- ---- replies where replicas are stopped
 
-keep_give_is_fair : (keep : PlainKeep) (r k s : ℕ) (l : Line) → IsKeep keep → r < size_of keep.world → (found : Option Message) → sent_message keep.world k s ≡ found → is_fair_to l (given_reply (keep_give_of r keep found).0) ≡ true
+keep_give_is_fair : (keep : PlainKeep) (r k s : ℕ) (l : LineOf Command) → IsKeep keep → r < size_of keep.world → (found : Option Message) → sent_message keep.world k s ≡ found → is_fair_to l (given_reply (keep_give_of r keep found).0) ≡ true
 keep_give_is_fair keep r k s l is low None e = refl
 keep_give_is_fair keep r k s l is low (Some m) e = let honest = kept_is_honest keep is in received_is_fair l keep.world r m honest low (sent_message_was_sent keep.world k s m honest e)
 
@@ -228,7 +228,7 @@ keep_command_is_fair keep (command.Noops r) is can = refl
 keep_command_is_fair keep (command.Lags r) is can = refl
 keep_command_is_fair keep (command.Stop r b) is can = refl
 
-keep_line_is_fair : (keep : PlainKeep) (l : Line) → IsKeep keep → ((c : Command) → l ≡ line.Run c → CanRun (size_of keep.world) c) → is_fair_to l (line_at keep_command_at l keep).0 ≡ true
+keep_line_is_fair : (keep : PlainKeep) (l : LineOf Command) → IsKeep keep → ((c : Command) → l ≡ line.Run c → CanRun (size_of keep.world) c) → is_fair_to l (line_at keep_command_at l keep).0 ≡ true
 keep_line_is_fair keep line.Skip is can = refl
 keep_line_is_fair keep (line.Run c) is can = keep_command_is_fair keep c is (can c refl)
 keep_line_is_fair keep (line.Bad code) is can = refl

@@ -13,8 +13,8 @@ use Rattle.causal_model.proofs.Delivery.Logs.{log_is_bounded}
 use Rattle.script_lang.specs.Commands.{line_of}
 use Rattle.script_lang.specs.declared.command.Command.{Command}
 use Rattle.script_lang.specs.declared.command.Command.TheVariants as command
-use Rattle.script_lang.specs.declared.command.Line.{Line}
-use Rattle.script_lang.specs.declared.command.Line.TheVariants as line
+use Rattle.script_lang.specs.declared.line.LineOf.{LineOf}
+use Rattle.script_lang.specs.declared.line.LineOf.TheVariants as line
 use Rattle.script_lang.specs.declared.header.Mode.TheVariants as mode
 use Rattle.script_lang.specs.declared.reply.Reply.TheVariants as reply
 use Rattle.world_model.specs.World.{PlainWorld, size_of, epoch_in, opening, replica_of}
@@ -54,14 +54,14 @@ command_keeps world (command.Noops r) is can stay = world_keeps_itself world is
 command_keeps world (command.Lags r) is can stay = world_keeps_itself world is
 command_keeps world (command.Stop r b) is can stay = world_keeps_itself world is
 
-line_keeps : (world : PlainWorld) (l : Line) → IsWorld world → ((c : Command) → l ≡ line.Run c → CanRun (size_of world) c) → changes_members l ≡ false → KeepsWorld world (line_world world l)
+line_keeps : (world : PlainWorld) (l : LineOf Command) → IsWorld world → ((c : Command) → l ≡ line.Run c → CanRun (size_of world) c) → changes_members l ≡ false → KeepsWorld world (line_world world l)
 line_keeps world line.Skip is can stay = world_keeps_itself world is
 line_keeps world (line.Run c) is can stay = command_keeps world c is (can c refl) stay
 line_keeps world (line.Bad code) is can stay = world_keeps_itself world is
 line_keeps world line.NoMemory is can stay = world_keeps_itself world is
 
 -- every line keeps a world of the store
-line_keeps_store : (world : PlainWorld) (l : Line) → IsWorld world → ((c : Command) → l ≡ line.Run c → CanRun (size_of world) c) → KeepsStore world (line_world world l)
+line_keeps_store : (world : PlainWorld) (l : LineOf Command) → IsWorld world → ((c : Command) → l ≡ line.Run c → CanRun (size_of world) c) → KeepsStore world (line_world world l)
 line_keeps_store world (line.Run (command.Members n)) is can = let within = can (command.Members n) refl in regrouping_keeps_store world n is within.0 within.1
 line_keeps_store world l is can = let kept = line_keeps world l is can refl in record { is_world = kept.is_world; w = kept.w; limit = kept.limit }
 

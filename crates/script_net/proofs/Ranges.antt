@@ -21,7 +21,8 @@ use Rattle.op_base.specs.declared.operation.Act.{Act}
 use Rattle.op_base.specs.declared.operation.Act.TheVariants as act
 use Rattle.op_base.specs.declared.verb.Verb.{Verb}
 use Rattle.op_base.specs.declared.verb.Verb.TheVariants as verbs
-use Rattle.script_lang.specs.Commands.{do_command, do_words, ask_words, lone_list, give_words, resend_words, raw_words, settle_words, members_words, stop_words, lone_member, keyword_of, keyword_words, words_behind, command_words, command_of, bad_line, run_or_bad, line_in}
+use Rattle.script_lang.specs.Commands.{do_command, do_words, ask_words, lone_list, give_words, resend_words, raw_words, settle_words, members_words, stop_words, lone_member, keyword_of, keyword_words, words_behind, command_words, command_of, line_in}
+use Rattle.script_lang.specs.Lines.{bad_line, run_or_bad}
 use Rattle.script_lang.specs.Fault.{◌>>=◌, most_line_bytes, number_of_fault}
 use Rattle.script_lang.specs.Names.{below, member_of, object_in, is_list, list_in, is_point, element_from, element_in, place_in, value_in, bytes_in, amount_in, size_in}
 use Rattle.script_lang.specs.Acts.{verb_in, act_in, kind_act, are_few, update_in}
@@ -32,7 +33,7 @@ use Rattle.script_lang.specs.declared.fault.Fault.{Fault}
 use Rattle.script_lang.specs.declared.fault.Fault.TheVariants as fault
 use Rattle.script_lang.specs.declared.command.Command.{Command}
 use Rattle.script_lang.specs.declared.command.Command.TheVariants as command
-use Rattle.script_lang.specs.declared.command.Line.TheVariants as line
+use Rattle.script_lang.specs.declared.line.LineOf.TheVariants as line
 use Rattle.script_lang.specs.declared.command.Keyword.{Keyword}
 use Rattle.script_lang.specs.declared.command.Keyword.TheVariants as keywords
 use Rattle.script_lang.specs.declared.header.Mode.{Mode}

@@ -2,8 +2,9 @@
 use Rattle.std.specs.Prelude.{◌≡◌, ℕ, Bool, true, false, not, IsTrue, All, List, [], ◌∷◌, Option, Some, None}
 use Rattle.std.specs.List.{list_all, flat_map}
 use Rattle.script_lang.specs.Headers.{header_of}
-use Rattle.script_lang.specs.declared.command.Line.{Line}
-use Rattle.script_lang.specs.declared.command.Line.TheVariants.{Run}
+use Rattle.script_lang.specs.declared.command.Command.{Command}
+use Rattle.script_lang.specs.declared.line.LineOf.{LineOf}
+use Rattle.script_lang.specs.declared.line.LineOf.TheVariants.{Run}
 use Rattle.script_lang.specs.declared.command.Command.TheVariants.{Raw}
 use Rattle.script_lang.specs.declared.reply.Reply.{Reply}
 use Rattle.script_lang.specs.declared.reply.Reply.TheVariants.{Far, Held, Unsettled, Took}
@@ -15,7 +16,7 @@ use Rattle.script_net.specs.Transcript.{AnyPlain, line_read, replied_at, reply_t
 
 -- a line as it is read, and what is replied to it
 pub record Exchange : Type 0 where
-  pub line : Line
+  pub line : LineOf Command
   pub reply : Option Reply
 
 -- those of lines, each in the plain world before it
@@ -39,7 +40,7 @@ exchanges_of script = exchanges_from (from_command (lines_of script))
 -- ---- no bytes
 
 -- whether a line offers bytes, which anyone may have made
-abbrev pub offers_bytes : Line → Bool
+abbrev pub offers_bytes : LineOf Command → Bool
 offers_bytes (Run (Raw r bytes)) = true
 offers_bytes line = false
 
@@ -54,7 +55,7 @@ is_unforged script = are_unforged (exchanges_of script)
 
 -- whether what is replied to a line, if anything, tells neither that a message is far or was dropped, nor that a beat is held
 -- or the store isn't settled; of which the last may be told to a change of members
-abbrev pub is_fair_to : Line → Option Reply → Bool
+abbrev pub is_fair_to : LineOf Command → Option Reply → Bool
 is_fair_to line (Some Far) = false
 is_fair_to line (Some Held) = false
 is_fair_to line (Some Unsettled) = changes_members line

@@ -7,8 +7,8 @@ use Rattle.causal_model.specs.History.{SameEvents}
 use Rattle.causal_model.specs.Stability.{unstable_operations}
 use Rattle.script_lang.specs.Commands.{line_of, keep_line_of}
 use Rattle.script_lang.specs.Headers.{header_of}
-use Rattle.script_lang.specs.declared.command.Line.{Line}
-use Rattle.script_lang.specs.declared.command.Line.TheVariants.{Run}
+use Rattle.script_lang.specs.declared.line.LineOf.{LineOf}
+use Rattle.script_lang.specs.declared.line.LineOf.TheVariants.{Run}
 use Rattle.script_lang.specs.declared.command.Command.{Command}
 use Rattle.script_lang.specs.declared.command.Command.TheVariants.{Do, Ask, Raw, Members}
 use Rattle.script_lang.specs.declared.header.Header.TheVariants.{Store}
@@ -24,10 +24,10 @@ use Rattle.script_net.specs.Transcript.{AnyPlain, OfStore, line_at, text_of_line
 -- ---- a store's lines
 
 -- the reply to a line in the plain world of a store, and that world after it
-abbrev pub line_reply : PlainWorld → Line → Option Reply
+abbrev pub line_reply : PlainWorld → LineOf Command → Option Reply
 line_reply world line = (line_at command_at line world).0
 
-abbrev pub line_world : PlainWorld → Line → PlainWorld
+abbrev pub line_world : PlainWorld → LineOf Command → PlainWorld
 line_world world line = (line_at command_at line world).1
 
 -- that world after a line's bytes, and after lines

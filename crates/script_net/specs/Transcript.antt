@@ -5,8 +5,8 @@ use Rattle.script_lang.specs.Headers.{header_of}
 use Rattle.script_lang.specs.Replies.{reply_line}
 use Rattle.script_lang.specs.declared.command.Command.{Command}
 use Rattle.script_lang.specs.declared.command.Command.TheVariants.{Members}
-use Rattle.script_lang.specs.declared.command.Line.{Line}
-use Rattle.script_lang.specs.declared.command.Line.TheVariants as line
+use Rattle.script_lang.specs.declared.line.LineOf.{LineOf}
+use Rattle.script_lang.specs.declared.line.LineOf.TheVariants as line
 use Rattle.script_lang.specs.declared.header.Header.{Header}
 use Rattle.script_lang.specs.declared.header.Header.TheVariants.{Store, Keep, Live}
 use Rattle.script_lang.specs.declared.reply.Reply.{Reply}
@@ -27,14 +27,14 @@ pub data AnyPlain : Type 0 where
 
 -- What is replied to a line where this comes of a command, and what the world is then. There is no reply to a line that is passed
 -- over.
-abbrev pub line_at : {W : Type 0} → (Command → W → Option Reply × W) → Line → W → Option Reply × W
+abbrev pub line_at : {W : Type 0} → (Command → W → Option Reply × W) → LineOf Command → W → Option Reply × W
 line_at runs line.Skip world = (None, world)
 line_at runs (line.Run command) world = runs command world
 line_at runs (line.Bad fault) world = (Some (reply.Bad fault), world)
 line_at runs line.NoMemory world = (None, world)
 
 -- a line of bytes as it is read
-abbrev pub line_read : AnyPlain → List ℕ → Line
+abbrev pub line_read : AnyPlain → List ℕ → LineOf Command
 line_read (OfStore world) bytes = line_of (size_of world) bytes
 line_read (OfKeep keep) bytes = keep_line_of (size_of keep.world) bytes
 
@@ -55,7 +55,7 @@ abbrev pub world_of_line : AnyPlain → List ℕ → AnyPlain
 world_of_line world bytes = (replied_at bytes world).1
 
 -- whether a line asks for a change of members
-abbrev pub changes_members : Line → Bool
+abbrev pub changes_members : LineOf Command → Bool
 changes_members (line.Run (Members n)) = true
 changes_members other = false
 

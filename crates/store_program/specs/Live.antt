@@ -4,8 +4,9 @@ use Rattle.store_io.specs.Bytes.{Gave, Ended, Took}
 use Rattle.script_lang.specs.Headers.{header_of}
 use Rattle.script_lang.specs.LiveCommands.{live_line_of}
 use Rattle.script_lang.specs.declared.header.Header.TheVariants.{Live}
-use Rattle.script_lang.specs.declared.live.LiveLine.{LiveLine}
-use Rattle.script_lang.specs.declared.live.LiveLine.TheVariants.{Skip}
+use Rattle.script_lang.specs.declared.live.LiveCommand.{LiveCommand}
+use Rattle.script_lang.specs.declared.line.LineOf.{LineOf}
+use Rattle.script_lang.specs.declared.line.LineOf.TheVariants.{Skip}
 use Rattle.script_net.specs.Lines.{lines_of, from_command}
 use Rattle.script_net.specs.Transcript.{lacks_header}
 use Rattle.live_run.specs.Runs.{IsLiveText}
@@ -17,7 +18,7 @@ use Rattle.store_program.specs.Words.{request_of}
 use Rattle.store_program.specs.Run.{most_input, is_no_live, is_headless, TookFront, SourceSeen, SinkSeen, EndsHeadless}
 
 -- a line with its number, where it isn't passed over
-abbrev pub numbered : ℕ → LiveLine → List NumberedLine
+abbrev pub numbered : ℕ → LineOf LiveCommand → List NumberedLine
 numbered number Skip = []
 numbered number line = record { number = number; line = line } ∷ []
 
