@@ -164,6 +164,7 @@ impl Replica {
 
     /// Takes the next message of a state, whose other early messages are still early: it is delivered, or dropped where it is
     /// crooked.
+    #[inline(always)]
     fn take(&mut self, message: Message) -> Step
         requires next { ∥ ((s : State) × IsNextOf self.old message s) ∥₁ }
         requires spare { length self.old.log.entries + length self.old.buffer.early + 1 ≤ (shown self.old.items).spare }

@@ -142,7 +142,7 @@ fn run_store_line(
 }
 
 /// Runs a command on a world, and puts the line of its reply. On `NoMemory` it is as above.
-#[inline(never)]
+#[inline(always)]
 fn run_command(
     alloc: Global,
     world: &mut World,

@@ -364,6 +364,6 @@ fn is_put_in(object: &ObjectId, value: Option<&Value>, entries: &[Entry]) -> boo
     ensures { result
         ≡ list_any (λ e. acts_on object.now (puts_in (option_copied value.entry)) (message_of e).op) entries.now }
 {
-    entries.iter().any(|entry| entry.update.object.is_same(object)
-        && puts_in(value, &entry.update.act))
+    entries.iter().any(|entry| puts_in(value, &entry.update.act)
+        && entry.update.object.is_same(object))
 }
