@@ -280,7 +280,10 @@ pub fn operation(alloc: Global, version: Version, code: u8, bytes: &[u8]) -> Res
         return Ok(Op::NoOp);
     }
     let (kind, verb) = operation_of(code);
-    let (key, rest) = key_field(alloc, version, bytes)?;
+    let (key, rest) = match key_field(alloc, version, bytes) {
+        Ok(field) => field,
+        Err(fault) => return Err(fault.into()),
+    };
     let act = last_act(alloc, version, verb, rest)?;
     let object = ObjectId { kind, key };
     Ok(Op::Update(Update { object, act }))

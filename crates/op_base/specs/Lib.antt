@@ -3,6 +3,7 @@ pub mod Object
 pub mod Verb
 pub mod Operation
 pub mod InPlace
+pub mod CopyRooms
 pub mod Code
 pub mod Valid
 pub mod TagFields

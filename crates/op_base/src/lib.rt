@@ -9,6 +9,7 @@ mod name;
 mod operation;
 mod order;
 mod outcome;
+mod room;
 mod tag;
 #[cfg(test)]
 mod tests;
@@ -25,6 +26,7 @@ pub use name::{
 pub use operation::{Act, Op, Update};
 pub use order::item_order;
 pub use outcome::{Answer, Cell, Crook, Item, Step};
+pub use room::CopyRoom;
 pub use tag::{ElementId, MOST_MEMBERS, MessageId, Tag};
 pub use validity::{operations_are_valid, updates_are_valid};
 pub use verb::{Argument, Verb, operation_of};

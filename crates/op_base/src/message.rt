@@ -4,11 +4,13 @@
 //! (arXiv 1710.04469); the tag here is a textbook vector timestamp.
 
 ghost use Rattle.std.specs.Prelude.{◌≡◌, ◌<◌, length, IfOk, IsOk};
+ghost use Rattle.op_base.specs.CopyRooms.{IsCopyRoomFor};
 ghost use Rattle.op_base.specs.InPlace.{IsActInPlace, IsInPlace};
 ghost use Rattle.op_base.specs.Timestamp.{id_at};
 
 use crate::memory::NoMemory;
 use crate::operation::{Op, Update};
+use crate::room::CopyRoom;
 use crate::tag::{MessageId, Tag};
 use std::alloc::Global;
 
@@ -51,11 +53,19 @@ impl Message {
         ensures copy { IfOk result (λ copy. copy ≡ self.now) }
         ensures in_place { IsInPlace self.now.op → IsOk result }
     {
-        Ok(Message {
+        Ok(self.copied(self.op.room(alloc)?))
+    }
+
+    /// An equal message, for whose operation memory was taken.
+    pub fn copied(&self, room: CopyRoom) -> Message
+        requires { IsCopyRoomFor room self.now.op }
+        ensures { result ≡ self.now }
+    {
+        Message {
             origin: self.origin,
             tag: self.tag,
-            op: self.op.copy(alloc)?,
-        })
+            op: self.op.copied(room),
+        }
     }
 }
 

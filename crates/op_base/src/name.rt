@@ -14,9 +14,11 @@ ghost use Rattle.std.specs.Int.{from_be_bytes, w64};
 ghost use Rattle.std.specs.Ordering.{nat_cmp, as_partial_cmp};
 ghost use Rattle.std.specs.Cmp.{partial_equiv_from_equiv};
 ghost use Rattle.std.specs.Cmp.Lexicographic.{pointwise, slice_cmp, nat_list_eq_equiv, nat_list_cmp_total, texts_ties, texts_po};
+ghost use Rattle.op_base.specs.CopyRooms.{IsCopyRoomForValue};
 ghost use Rattle.op_base.specs.Name.{is_key, is_value, is_object, is_key_byte, is_value_byte, key_fault, value_fault, object_fault, kind_word, kind_of, kind_part, key_part, is_colon, Refuses};
 
 use crate::memory::NoMemory;
+use crate::room::CopyRoom;
 use smallvec::SmallVec;
 use std::alloc::{AllocError, Global};
 use std::cmp::Ordering;
@@ -111,7 +113,7 @@ impl From<AllocError> for NameFault {
 
 /// A key: 1 to 32 bytes of `a-z`, `0-9`, `_`, `.` and `-`, which stand in the key itself, with zeros behind them, so
 /// that keys are compared as four numbers. Contracts see the list of the bytes.
-#[derive(Drop)]
+#[derive(Clone, Copy)]
 pub struct Key {
     len: u8,
     bytes: [u8; MOST_KEY_BYTES],
@@ -122,11 +124,15 @@ impl Model for Key {
 
     ghost Value = { List ℕ };
 
-    ghost use Rattle.op_base.specs.KeyFields.{IsStored, text_of};
+    ghost use Rattle.op_base.specs.KeyFields.{IsStored, text_of, stored, stored-text_of};
 
     ghost view = { text_of };
 
     ghost invariant = { IsStored };
+
+    ghost inverse = { stored };
+
+    ghost inverse_ok = { stored-text_of };
 }
 
 /// A value: 1 to 4096 bytes of UTF-8 with no byte at or below 0x20 and no 0x7F, so that a terminal prints it
@@ -148,7 +154,7 @@ impl Model for Value {
 }
 
 /// The name of an object: its kind and its key. Its text is the kind's word, a colon and the key.
-#[derive(Clone, Debug, PartialEq, Eq, PartialOrd, Ord, Hash, Drop)]
+#[derive(Clone, Copy, Debug, PartialEq, Eq, PartialOrd, Ord, Hash)]
 pub struct ObjectId {
     /// The type of the object.
     pub kind: Kind,
@@ -385,10 +391,7 @@ impl Key {
     pub fn copy(&self, _alloc: Global) -> Result<Key, NoMemory>
         ensures { result ≡ Ok self.now }
     {
-        Ok(Key {
-            len: self.len,
-            bytes: self.bytes,
-        })
+        Ok(*self)
     }
 }
 
@@ -435,6 +438,35 @@ impl Value {
             bytes: SmallVec::from_slice(alloc, self.bytes.as_slice())?,
         })
     }
+
+    /// Takes what a copy of the value needs memory for: nothing, where it stands in place. `NoMemory` leaves nothing behind.
+    pub fn room(&self, alloc: Global) -> Result<CopyRoom, NoMemory>
+        ensures room { IfOk result (λ room. IsCopyRoomForValue room self.now) }
+        ensures in_place { length self.now ≤ VALUE_BYTES_IN_PLACE → IsOk result }
+    {
+        if self.bytes.len() <= VALUE_BYTES_IN_PLACE {
+            return Ok(CopyRoom::none(alloc));
+        }
+        let bytes = Vec::from_slice(alloc, self.bytes.as_slice())?;
+        Ok(CopyRoom { bytes })
+    }
+
+    /// An equal value, for which memory was taken.
+    #[inline(always)]
+    pub fn copied(&self, room: CopyRoom) -> Value
+        requires { IsCopyRoomForValue room self.now }
+        ensures { result ≡ self.now }
+    {
+        if self.bytes.len() > VALUE_BYTES_IN_PLACE {
+            return Value {
+                bytes: SmallVec::from_vec(room.bytes),
+            };
+        }
+        let Ok(bytes) = SmallVec::from_slice(*self.bytes.allocator(), self.bytes.as_slice()) else {
+            unreachable!()
+        };
+        Value { bytes }
+    }
 }
 
 impl ObjectId {
@@ -466,30 +498,16 @@ impl ObjectId {
     }
 
     /// An equal name. It takes no memory.
-    pub fn copy(&self, alloc: Global) -> Result<ObjectId, NoMemory>
+    pub fn copy(&self, _alloc: Global) -> Result<ObjectId, NoMemory>
         ensures { result ≡ Ok self.now }
     {
-        Ok(ObjectId {
-            kind: self.kind,
-            key: self.key.copy(alloc)?,
-        })
+        Ok(*self)
     }
 }
 
 impl fmt::Debug for Key {
     fn fmt<W: fmt::Write>(&self, f: &mut fmt::Formatter<W>) -> fmt::Result {
         f.debug_tuple("Key").field(&self.as_slice()).finish()
-    }
-}
-
-impl Clone for Key {
-    ghost is_clone = { λ key copy. copy ≡ key };
-
-    fn clone(&self) -> Result<Key, AllocError> {
-        Ok(Key {
-            len: self.len,
-            bytes: self.bytes,
-        })
     }
 }
 

@@ -3,11 +3,12 @@
 //! That an operation is sent as itself, computed from no state, is the idea of Baquero, Almeida and Shoker
 //! (arXiv 1710.04469). Which acts a kind has is said by the table of operations.
 
-ghost use Rattle.std.specs.Prelude.{◌≡◌, IsTrue, Some, is_ok, IfOk, IfErr, IsOk};
+ghost use Rattle.std.specs.Prelude.{◌≡◌, IsTrue, Some, is_ok, IfOk, IfErr, IsOk, option_copied};
 ghost use Rattle.op_base.specs.Operation.{verb_of, names_elements, act_code, has_act, is_place};
 
 use crate::memory::NoMemory;
 use crate::name::{Kind, ObjectId, Value};
+use crate::room::CopyRoom;
 use crate::tag::ElementId;
 use crate::verb::Verb;
 use std::alloc::Global;
@@ -92,7 +93,8 @@ fn act_code(kind: Kind, act: &Act) -> Option<u8>
 }
 
 impl Act {
-    ghost use Rattle.op_base.specs.InPlace.{IsActInPlace};
+    ghost use Rattle.op_base.specs.InPlace.{IsActInPlace, value_in};
+    ghost use Rattle.op_base.specs.CopyRooms.{IsCopyRoomForAct};
 
     /// What it does, without its argument.
     pub fn verb(&self) -> Verb
@@ -112,28 +114,60 @@ impl Act {
         }
     }
 
+    /// The value that it carries, where it carries one.
+    fn value(&self) -> Option<&Value>
+        ensures { option_copied result ≡ value_in self.now }
+    {
+        match self {
+            Act::Add(value) | Act::Rmv(value) | Act::Write(value) | Act::Ins(value, _) => {
+                Some(value)
+            }
+            _ => None,
+        }
+    }
+
+    /// Takes what a copy of the act needs memory for. `NoMemory` leaves nothing behind.
+    fn room(&self, alloc: Global) -> Result<CopyRoom, NoMemory>
+        ensures room { IfOk result (λ room. IsCopyRoomForAct room self.now) }
+        ensures in_place { IsActInPlace self.now → IsOk result }
+    {
+        match self.value() {
+            Some(value) => value.room(alloc),
+            None => Ok(CopyRoom::none(alloc)),
+        }
+    }
+
+    /// An equal act, for which memory was taken.
+    fn copied(&self, room: CopyRoom) -> Act
+        requires { IsCopyRoomForAct room self.now }
+        ensures { result ≡ self.now }
+    {
+        match self {
+            Act::Add(value) => Act::Add(value.copied(room)),
+            Act::Rmv(value) => Act::Rmv(value.copied(room)),
+            Act::Clear => Act::Clear,
+            Act::Enable => Act::Enable,
+            Act::Disable => Act::Disable,
+            Act::Write(value) => Act::Write(value.copied(room)),
+            Act::Inc(amount) => Act::Inc(*amount),
+            Act::Dec(amount) => Act::Dec(*amount),
+            Act::Ins(value, place) => Act::Ins(value.copied(room), *place),
+            Act::Del(id) => Act::Del(*id),
+        }
+    }
+
     /// An equal act. One whose value, if it has one, stands in place takes no memory; `NoMemory` leaves nothing behind.
     pub fn copy(&self, alloc: Global) -> Result<Act, NoMemory>
         ensures copy { IfOk result (λ copy. copy ≡ self.now) }
         ensures in_place { IsActInPlace self.now → IsOk result }
     {
-        match self {
-            Act::Add(value) => Ok(Act::Add(value.copy(alloc)?)),
-            Act::Rmv(value) => Ok(Act::Rmv(value.copy(alloc)?)),
-            Act::Clear => Ok(Act::Clear),
-            Act::Enable => Ok(Act::Enable),
-            Act::Disable => Ok(Act::Disable),
-            Act::Write(value) => Ok(Act::Write(value.copy(alloc)?)),
-            Act::Inc(amount) => Ok(Act::Inc(*amount)),
-            Act::Dec(amount) => Ok(Act::Dec(*amount)),
-            Act::Ins(value, place) => Ok(Act::Ins(value.copy(alloc)?, *place)),
-            Act::Del(id) => Ok(Act::Del(*id)),
-        }
+        Ok(self.copied(self.room(alloc)?))
     }
 }
 
 impl Update {
     ghost use Rattle.op_base.specs.InPlace.{IsActInPlace};
+    ghost use Rattle.op_base.specs.CopyRooms.{IsCopyRoomForAct};
     ghost use Rattle.op_base.specs.Reading.{update_of};
 
     /// An update of an object. The pair comes back exactly where the object's kind has no such act.
@@ -171,16 +205,33 @@ impl Update {
         ensures copy { IfOk result (λ copy. copy ≡ self.now) }
         ensures in_place { IsActInPlace self.now.act → IsOk result }
     {
-        Ok(Update {
-            object: self.object.copy(alloc)?,
-            act: self.act.copy(alloc)?,
-        })
+        Ok(self.copied(self.room(alloc)?))
+    }
+
+    /// Takes what a copy of the update needs memory for. `NoMemory` leaves nothing behind.
+    pub fn room(&self, alloc: Global) -> Result<CopyRoom, NoMemory>
+        ensures room { IfOk result (λ room. IsCopyRoomForAct room self.now.act) }
+        ensures in_place { IsActInPlace self.now.act → IsOk result }
+    {
+        self.act.room(alloc)
+    }
+
+    /// An equal update, for which memory was taken.
+    pub fn copied(&self, room: CopyRoom) -> Update
+        requires { IsCopyRoomForAct room self.now.act }
+        ensures { result ≡ self.now }
+    {
+        Update {
+            object: self.object,
+            act: self.act.copied(room),
+        }
     }
 }
 
 impl Op {
     ghost use Rattle.op_base.specs.Code.{op_code};
     ghost use Rattle.op_base.specs.InPlace.{IsInPlace};
+    ghost use Rattle.op_base.specs.CopyRooms.{IsCopyRoomFor};
 
     /// The code of the operation, 0 to 22.
     pub fn code(&self) -> u8
@@ -197,9 +248,29 @@ impl Op {
         ensures copy { IfOk result (λ copy. copy ≡ self.now) }
         ensures in_place { IsInPlace self.now → IsOk result }
     {
+        Ok(self.copied(self.room(alloc)?))
+    }
+
+    /// Takes what a copy of the operation needs memory for: nothing, where its value, if it has one, stands in place. `NoMemory`
+    /// leaves nothing behind.
+    pub fn room(&self, alloc: Global) -> Result<CopyRoom, NoMemory>
+        ensures room { IfOk result (λ room. IsCopyRoomFor room self.now) }
+        ensures in_place { IsInPlace self.now → IsOk result }
+    {
         match self {
-            Op::NoOp => Ok(Op::NoOp),
-            Op::Update(update) => Ok(Op::Update(update.copy(alloc)?)),
+            Op::NoOp => Ok(CopyRoom::none(alloc)),
+            Op::Update(update) => update.room(alloc),
+        }
+    }
+
+    /// An equal operation, for which memory was taken.
+    pub fn copied(&self, room: CopyRoom) -> Op
+        requires { IsCopyRoomFor room self.now }
+        ensures { result ≡ self.now }
+    {
+        match self {
+            Op::NoOp => Op::NoOp,
+            Op::Update(update) => Op::Update(update.copied(room)),
         }
     }
 }

@@ -140,7 +140,7 @@ impl Ranked {
             None => None,
         };
         let item = Item {
-            object: self.item.object.copy(alloc)?,
+            object: self.item.object,
             value,
             cell: self.item.cell,
         };
