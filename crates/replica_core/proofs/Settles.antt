@@ -3,7 +3,8 @@ use Rattle.std.proofs.Common.{◌≡◌, ℕ, ◌+◌, ◌*◌, ◌^◌, ◌<◌
 use Rattle.std.specs.List.{filter}
 use denote.Struct.Props.{props}
 use Rattle.std.proofs.Math.Dec.{T_prop}
-use Rattle.std.proofs.lemmas.Bool.{cond-true, cond-false, cases_Bool}
+use Rattle.std.specs.Option.{is_some}
+use Rattle.std.proofs.lemmas.Bool.{cond-true, cond-false, cases_Bool, false≢true}
 use Rattle.std.proofs.lemmas.List.Filters.{length-filter_both}
 use Rattle.op_base.specs.Message.{fits, id_of, number}
 use Rattle.op_base.specs.declared.message.Entry.{Entry}
@@ -85,6 +86,18 @@ is_applied (op.Update v) u is = by (is_counter v.object.kind) is where
   by : (counter : Bool) → (if counter then Some v else None) ≡ Some u → op.Update v ≡ op.Update u
   by true same = ap op.Update (let one : v ≡ u = cc in one)
   by false same = cc
+
+-- and of an update that is applied at once it is what is applied
+pub applied_is : (o : Op) (u : Update) → o ≡ op.Update u → is_some (applied_of o) ≡ true → applied_of o ≡ Some u
+applied_is o u is some = subst (λ x. is_some (applied_of x) ≡ true → applied_of x ≡ Some u) (sym is) (by (is_counter u.object.kind)) some where
+  by : (counter : Bool) → is_some (if counter then Some u else None) ≡ true → (if counter then Some u else None) ≡ Some u
+  by true some = refl
+  by false some = absurd (false≢true some)
+
+-- what is applied is an update
+pub noop_is_not_applied : (o : Op) → ((u : Update) → o ≡ op.Update u → ⊥) → is_some (applied_of o) ≡ true → ⊥
+noop_is_not_applied op.NoOp none some = false≢true some
+noop_is_not_applied (op.Update u) none some = none u refl
 
 -- and where none is, all are moved once they are absorbed
 pub none_is_applied : (h : History) (m : Message) (items : Shelved) → ((u : Update) → applied_of m.op ≡ Some u → ⊥) → AreAbsorbed h m (length (stripped_of h m)) items → AreMoved h m items

@@ -5,6 +5,7 @@ pub mod Rooms
 pub mod Insertions
 pub mod Settling
 pub mod Reach
+pub mod Ready
 pub mod Steps
 pub use Rattle.causal_model.specs.Counts
 pub use Rattle.causal_model.specs.Chapter

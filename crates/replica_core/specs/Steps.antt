@@ -1,5 +1,6 @@
 -- What one message more makes of parts of a replica, and what the steps of receiving make of all its fields.
 use Rattle.std.specs.Prelude.{◌≡◌, ◌≢◌, ℕ, Bool, not, ◌&&◌, ◌||◌, ◌==◌, IsTrue, List, [], ◌∷◌, ◌++◌, Some, if◌then◌else◌}
+use Rattle.op_base.specs.CopyRooms.{IsCopyRoomFor}
 use Rattle.op_base.specs.Message.{id_of}
 use Rattle.op_base.specs.declared.message.Message.{Message}
 use Rattle.op_base.specs.declared.outcome.Step.{Step}
@@ -17,10 +18,10 @@ use Rattle.replica_core.specs.declared.replica.Replica.{Replica}
 use Rattle.replica_core.specs.declared.step.Sender.{Sender}
 use Rattle.replica_core.specs.declared.step.Sender.TheVariants as sender
 
--- who sent a message that comes to a member with this matrix: of an own one there is a copy, of another member's the least of
--- each column once it is noted
+-- who sent a message that comes to a member with this matrix: of an own one there is room for a copy, of another member's the
+-- least of each column once it is noted
 abbrev pub IsSender : ℕ → Known → Message → Sender → Type 0
-IsSender me matrix m (sender.Own copy) = (m.origin ≡ me) × (copy ≡ m)
+IsSender me matrix m (sender.Own room) = (m.origin ≡ me) × IsCopyRoomFor room m.op
 IsSender me matrix m (sender.Other stable) = (m.origin ≢ me) × (stable ≡ stable_of (noted matrix.me m.origin m.tag matrix.rows))
 
 -- where the matrix was that of messages of which this is the next, it is that of those with it

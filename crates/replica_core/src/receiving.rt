@@ -22,6 +22,7 @@ use op_base::{Message, MessageId, NoMemory, Step, StepList};
 use std::alloc::Global;
 
 impl Replica {
+    ghost use Rattle.replica_core.specs.Ready.{IsReadyToAccept};
     ghost use Rattle.replica_core.specs.Rules.{StandsFor, SameSettings, Unchanged, IsBounded};
     ghost use Rattle.replica_core.specs.Steps.{HasStepped, IsNextOf, IsStepOf};
 
@@ -83,12 +84,44 @@ impl Replica {
         ensures refused { OnErr result (Unchanged self.old self.new) }
         ensures bounded { IsBounded self.new }
     {
+        let steps = self.reserve_accept(alloc, &message)?;
+        Ok(self.accept_reserved(message, steps))
+    }
+
+    /// Takes all memory for a message that `refusal` doesn't refuse to be taken in, as `accept_reserved` does, and hands out that
+    /// for the steps. `NoMemory` leaves the replica as it was.
+    pub fn reserve_accept(
+        &mut self,
+        alloc: Global,
+        message: &Message,
+    ) -> Result<Vec<Step>, NoMemory>
+        requires fits { IsTrue (fits self.old.n message.now) }
+        requires carried { IsTrue (is_carried self.old.limit message.now) }
+        requires unrefused { (s : State) → StandsFor self.old s → refusal_of self.old.w s message.now ≡ None }
+        ensures ready { IfOk result (λ steps. IsReadyToAccept self.new message.now steps) }
+        ensures unchanged { Unchanged self.old self.new }
+    {
         let most = self.buffer.len() + 1;
-        let mut steps = Vec::with_capacity(alloc, most)?;
+        let steps = Vec::with_capacity(alloc, most)?;
         self.items.reserve(self.log.len() + most)?;
-        self.reserve_element(&message)?;
-        self.take_in(message, &mut steps);
-        Ok(StepList::from_vec(steps))
+        self.reserve_element(message)?;
+        Ok(steps)
+    }
+
+    /// Takes in a message for which `reserve_accept` took memory, and makes the steps that follow. Where none is early and it can
+    /// be delivered, it never becomes early.
+    pub fn accept_reserved(&mut self, mut message: Message, mut steps: Vec<Step>) -> StepList
+        requires ready { IsReadyToAccept self.old message steps }
+        ensures steps { (s : State) → StandsFor self.old s → HasStepped self.old.w (with_early s message) result self.new }
+        ensures settings { SameSettings self.old self.new }
+    {
+        if self.comes_alone(&message) {
+            steps.push_reserved(self.take(&mut message));
+            return StepList::from_vec(steps);
+        }
+        self.buffer.keep(message, self.me, &self.counts);
+        self.make_steps(&mut steps);
+        StepList::from_vec(steps)
     }
 
     /// Takes room for the element that a message puts in, beside those of the early messages. `NoMemory` leaves the lists, and
@@ -102,30 +135,6 @@ impl Replica {
             self.lists.reserve(self.buffer.len() + 1)?;
         }
         Ok(())
-    }
-
-    /// Takes in a message that is neither old nor early already nor far, and makes the steps that follow. Where none is early
-    /// and it can be delivered, it never becomes early. There is room for a step of each early message and of this one, and for
-    /// what they can make of items and lists.
-    fn take_in(&mut self, message: Message, steps: &mut Vec<Step>)
-        requires fits { IsTrue (fits self.old.n message) }
-        requires carried { IsTrue (is_carried self.old.limit message) }
-        requires new { is_old self.old.me self.old.counts message ≡ false }
-        requires apart { is_again self.old.buffer.early message ≡ false }
-        requires near { is_far self.old.buffer.n self.old.buffer.w self.old.me self.old.counts message ≡ false }
-        requires none { steps.old.items ≡ [] }
-        requires room { length self.old.buffer.early + 1 ≤ vec_capacity steps.old }
-        requires spare { length self.old.log.entries + length self.old.buffer.early + 1 ≤ (shown self.old.items).spare }
-        requires lists_spare { insertions self.old.buffer.early + element_room message.op ≤ (lists_shown self.old.lists).spare }
-        ensures steps { (s : State) → StandsFor self.old s → HasStepped self.old.w (with_early s message) steps.new.items self.new }
-        ensures settings { SameSettings self.old self.new }
-    {
-        if self.comes_alone(&message) {
-            steps.push_reserved(self.take(message));
-        } else {
-            self.buffer.keep(message, self.me, &self.counts);
-            self.make_steps(steps);
-        }
     }
 
     /// Whether no message is early, and this one can be delivered.
@@ -156,27 +165,27 @@ impl Replica {
         ensures fewer { IfSome result (λ step. length self.new.buffer.early < length self.old.buffer.early) }
     {
         let id = self.buffer.next(&self.counts)?;
-        let Some(message) = self.buffer.remove(id) else {
+        let Some(mut message) = self.buffer.remove(id) else {
             unreachable!()
         };
-        Some(self.take(message))
+        Some(self.take(&mut message))
     }
 
     /// Takes the next message of a state, whose other early messages are still early: it is delivered, or dropped where it is
-    /// crooked.
+    /// crooked. Its operation is taken out of it where it is kept.
     #[inline(always)]
-    fn take(&mut self, message: Message) -> Step
-        requires next { ∥ ((s : State) × IsNextOf self.old message s) ∥₁ }
+    fn take(&mut self, message: &mut Message) -> Step
+        requires next { ∥ ((s : State) × IsNextOf self.old message.old s) ∥₁ }
         requires spare { length self.old.log.entries + length self.old.buffer.early + 1 ≤ (shown self.old.items).spare }
-        requires lists_spare { insertions self.old.buffer.early + element_room message.op ≤ (lists_shown self.old.lists).spare }
-        ensures step { (s : State) → IsNextOf self.old message s → IsStepOf self.old.w s result self.new }
+        requires lists_spare { insertions self.old.buffer.early + element_room message.old.op ≤ (lists_shown self.old.lists).spare }
+        ensures step { (s : State) → IsNextOf self.old message.old s → IsStepOf self.old.w s result self.new }
         ensures settings { SameSettings self.old self.new }
         ensures buffer { self.new.buffer ≡ self.old.buffer }
     {
         let id = message.id();
         let last = self.matrix.row(message.origin);
         let stable = self.matrix.stable_after(message.origin, message.tag);
-        match self.window.check(&message, &last, &stable) {
+        match self.window.check(message, &last, &stable) {
             Ok(()) => {
                 self.step(message, Sender::Other(stable));
                 Step::Took(id)

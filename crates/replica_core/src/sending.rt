@@ -8,14 +8,16 @@ ghost use Rattle.causal_model.specs.Follows.{Follows};
 ghost use Rattle.causal_model.specs.Sending.{own_message, local_messages, beat_messages, is_sent, is_beat, local_rule, beat_rule};
 ghost use Rattle.causal_model.specs.Stability.{unstable_operations, unstable_noops, noop_window};
 ghost use Rattle.causal_model.specs.State.{State, with_own};
+ghost use Rattle.causal_model.specs.States.{IsState};
 
 use crate::replica::Replica;
 use crate::step::Sender;
 use causal_model::{Beat, Local};
-use op_base::{Message, NoMemory, Op, Tag, Update, updates_are_valid};
+use op_base::{CopyRoom, Message, NoMemory, Op, Tag, Update, updates_are_valid};
 use std::alloc::Global;
 
 impl Replica {
+    ghost use Rattle.replica_core.specs.Ready.{IsReadyToCommit};
     ghost use Rattle.replica_core.specs.Rules.{StandsFor, SameSettings, Unchanged, IsBounded, IsDraft, local_of, beat_of};
 
     /// Sends an update: the message becomes the next of the history, and is handed out. Every refusal leaves the replica as
@@ -81,13 +83,12 @@ impl Replica {
         if self.has_ended() {
             return Err(Local::End);
         }
-        match update.copy(alloc) {
-            Ok(update) => {
-                updates_are_valid(&update);
-                Ok(self.next_message(Op::Update(update)))
-            }
-            Err(NoMemory) => Err(Local::NoMemory),
-        }
+        let Ok(room) = update.room(alloc) else {
+            return Err(Local::NoMemory);
+        };
+        let update = update.copied(room);
+        updates_are_valid(&update);
+        Ok(self.next_message(Op::Update(update)))
     }
 
     /// The no-op that would be sent now, for `commit`; or what `beat` answers in its place: `Quiet`, `Held` or `End`. It takes
@@ -121,14 +122,31 @@ impl Replica {
         ensures carried { IsTrue (is_carried self.old.limit message) }
         ensures bounded { IsBounded self.new }
     {
-        let own = match message.copy(alloc) {
-            Ok(sent) => Sender::Own(sent),
-            Err(NoMemory) => return Err(NoMemory),
-        };
-        self.items.reserve(self.log.len() + self.buffer.len() + 1)?;
-        self.reserve_element(&message)?;
-        self.step(message, own);
+        let room = self.reserve_commit(alloc, &message)?;
+        self.commit_reserved(message, room);
         Ok(())
+    }
+
+    /// Takes all memory for a message that was drafted to become the next of the history, as `commit_reserved` makes it. `NoMemory`
+    /// leaves the replica as it was.
+    pub fn reserve_commit(&mut self, alloc: Global, message: &Message) -> Result<CopyRoom, NoMemory>
+        requires draft { (s : State) → StandsFor self.old s → IsDraft self.old message.now s }
+        ensures ready { IfOk result (λ room. IsReadyToCommit self.new message.now room) }
+        ensures unchanged { Unchanged self.old self.new }
+    {
+        let room = message.op.room(alloc)?;
+        self.items.reserve(self.log.len() + self.buffer.len() + 1)?;
+        self.reserve_element(message)?;
+        Ok(room)
+    }
+
+    /// Makes a message for which `reserve_commit` took memory the next of the history.
+    pub fn commit_reserved(&mut self, mut message: Message, room: CopyRoom)
+        requires ready { IsReadyToCommit self.old message room }
+        ensures stands { (s : State) → StandsFor self.old s → IsState self.old.w self.old.limit (with_own s message) → StandsFor self.new (with_own s message) }
+        ensures settings { SameSettings self.old self.new }
+    {
+        self.step(&mut message, Sender::Own(room));
     }
 
     /// Whether as many own operations are unstable as the window has.

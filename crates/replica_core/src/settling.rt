@@ -1,9 +1,10 @@
 //! Log, items and lists, when a message has come.
 
-ghost use Rattle.std.specs.Prelude.{◌≡◌, ◌+◌, ◌≤◌, ◌<◌, ◌^◌, ℕ, suc, [], length, slice_get, Some, IsTrue, true};
+ghost use Rattle.std.specs.Prelude.{◌≡◌, ◌+◌, ◌≤◌, ◌<◌, ◌^◌, ℕ, suc, [], length, slice_get, Some, IsTrue, true, is_some};
 ghost use Rattle.op_base.specs.Message.{fits};
 ghost use Rattle.op_base.specs.declared.message.Message.{Message as AMessage};
 ghost use Rattle.op_base.specs.declared.name.Kind.TheVariants as kinds;
+ghost use Rattle.op_base.specs.declared.operation.Op.TheVariants as op;
 ghost use Rattle.causal_model.specs.Log.{stripped_of, is_kept, message_of};
 ghost use Rattle.causal_model.specs.Covering.{store_keeps, store_covers};
 ghost use Rattle.causal_model.specs.History.{History, with_message, is_history, epoch_of};
@@ -24,6 +25,7 @@ use list_type::Lists;
 use op_base::{Act, Entry, Kind, Message, MessageId, Op, Tag, Update};
 use polog::Polog;
 use stable_state::Items;
+use std::mem::replace;
 use type_rules::StoreRule;
 
 /// Takes out of log and items what a message covers, puts the message into the log where its kind keeps it, and its element
@@ -34,28 +36,28 @@ pub fn settle(
     items: &mut Items,
     lists: &mut Lists,
     epoch: u32,
-    message: Message,
+    message: &mut Message,
     before: &Tag,
     stable: &Tag,
 )
-    requires ready { ∥ AreReadyForSome log.old (shown items.old) (lists_shown lists.old) epoch message before.now stable.now ∥₁ }
+    requires ready { ∥ AreReadyForSome log.old (shown items.old) (lists_shown lists.old) epoch message.old before.now stable.now ∥₁ }
     requires spare { length log.old.entries + 1 ≤ (shown items.old).spare }
-    requires lists_spare { element_room message.op ≤ (lists_shown lists.old).spare }
+    requires lists_spare { element_room message.old.op ≤ (lists_shown lists.old).spare }
     requires deep { AreWithin (2 ^ 63) (lists_shown lists.old) }
-    ensures are_of { (w limit : ℕ) (h : History) → AreReady w limit h log.old (shown items.old) (lists_shown lists.old) epoch message before.now stable.now
-        → AreOf (with_message h message) log.new (shown items.new) (lists_shown lists.new) }
+    ensures are_of { (w limit : ℕ) (h : History) → AreReady w limit h log.old (shown items.old) (lists_shown lists.old) epoch message.old before.now stable.now
+        → AreOf (with_message h message.old) log.new (shown items.new) (lists_shown lists.new) }
     ensures room { log.new.room ≡ log.old.room }
     // the room for items falls by no more than the log does, and one for the message
     ensures spare { (shown items.old).spare + length log.new.entries ≤ (shown items.new).spare + (length log.old.entries + 1) }
-    ensures lists_spare { (lists_shown lists.old).spare ≤ (lists_shown lists.new).spare + element_room message.op }
+    ensures lists_spare { (lists_shown lists.old).spare ≤ (lists_shown lists.new).spare + element_room message.old.op }
     ensures deep { (most : ℕ) → AreWithin most (lists_shown lists.old) → AreWithin (most + 1) (lists_shown lists.new) }
 {
-    log.prune_within(&message, &StoreRule, reach_of(&message.op));
+    log.prune_within(message, &StoreRule, reach_of(&message.op));
     cover(items, &message.op);
     let id = message.id();
-    let applied = put(log, lists, epoch, message);
+    put(log, lists, epoch, message);
     move_stable(log, items, lists, epoch, id, before, stable);
-    apply(items, applied);
+    apply(items, message);
     items.settle_marks(log.grouped());
 }
 
@@ -79,75 +81,75 @@ pub(crate) fn is_insertion(op: &Op) -> bool
     }
 }
 
-/// Puts a message where its kind keeps it: into the log, until it is stable, or its element into a list. The update of a counter
-/// that can't be cleared is kept in neither, and comes back to be applied at once.
-fn put(log: &mut Polog, lists: &mut Lists, epoch: u32, message: Message) -> Option<Update>
-    requires fits { IsTrue (fits log.old.n message) }
-    requires room { IsTrue (is_kept store_keeps message.op) → length log.old.entries < log.old.room }
+/// Puts a message where its kind keeps it: into the log, until it is stable, or its element into a list. Its operation is taken
+/// out of it there. That of a counter that can't be cleared is kept in neither, and stays in the message.
+fn put(log: &mut Polog, lists: &mut Lists, epoch: u32, message: &mut Message)
+    requires fits { IsTrue (fits log.old.n message.old) }
+    requires room { IsTrue (is_kept store_keeps message.old.op) → length log.old.entries < log.old.room }
     requires numbers { log.old.pushed + 1 < 2 ^ 64 }
-    requires can { CanBePut epoch (entry_put message.origin message.tag message.op) (lists_shown lists.old) }
-    ensures log { log.new ≡ with_logged message.origin message.tag message.op log.old }
+    requires can { CanBePut epoch (entry_put message.old.origin message.old.tag message.old.op) (lists_shown lists.old) }
+    ensures log { log.new ≡ with_logged message.old.origin message.old.tag message.old.op log.old }
     ensures room { log.new.room ≡ log.old.room }
-    ensures applied { result ≡ applied_of message.op }
-    ensures of { (w : ℕ) (h : History) → IsTrue (is_history w (with_message h message)) → epoch ≡ epoch_of h
-        → IsLogged store_keeps store_covers h.present.n h.present.me h.present.messages message log.new
-        → AreListsOf h (lists_shown lists.old) → AreListsMoved h message 0 (lists_shown lists.new) }
-    ensures spare { (lists_shown lists.old).spare ≤ (lists_shown lists.new).spare + element_room message.op }
+    ensures applied { applied_of message.new.op ≡ applied_of message.old.op }
+    ensures of { (w : ℕ) (h : History) → IsTrue (is_history w (with_message h message.old)) → epoch ≡ epoch_of h
+        → IsLogged store_keeps store_covers h.present.n h.present.me h.present.messages message.old log.new
+        → AreListsOf h (lists_shown lists.old) → AreListsMoved h message.old 0 (lists_shown lists.new) }
+    ensures spare { (lists_shown lists.old).spare ≤ (lists_shown lists.new).spare + element_room message.old.op }
     ensures deep { (most : ℕ) → AreWithin most (lists_shown lists.old) → AreWithin (most + 1) (lists_shown lists.new) }
 {
     if is_insertion(&message.op) {
         insert(lists, epoch, message, log);
-        return None;
+    } else if is_logged(&message.op) {
+        put_into_log(log, message);
     }
-    log_or_hand_back(log, message)
 }
 
-/// Puts a message into the log where its kind keeps it, or hands back the update of a counter that can't be cleared.
-fn log_or_hand_back(log: &mut Polog, message: Message) -> Option<Update>
-    requires fits { IsTrue (fits log.old.n message) }
-    requires room { IsTrue (is_kept store_keeps message.op) → length log.old.entries < log.old.room }
-    requires numbers { log.old.pushed + 1 < 2 ^ 64 }
-    ensures log { log.new ≡ with_logged message.origin message.tag message.op log.old }
-    ensures room { log.new.room ≡ log.old.room }
-    ensures applied { result ≡ applied_of message.op }
+/// Whether an operation's kind keeps it in the log.
+fn is_logged(op: &Op) -> bool
+    ensures { result ≡ is_kept store_keeps op.now }
 {
-    let Message { origin, tag, op } = message;
-    let Op::Update(update) = op else {
-        return None;
-    };
-    if StoreRule.keeps(&update) {
+    match op {
+        Op::NoOp => false,
+        Op::Update(update) => StoreRule.keeps(update),
+    }
+}
+
+/// Puts a message into the log, and takes its operation out of it.
+fn put_into_log(log: &mut Polog, message: &mut Message)
+    requires fits { IsTrue (fits log.old.n message.old) }
+    requires kept { IsTrue (is_kept store_keeps message.old.op) }
+    requires room { length log.old.entries < log.old.room }
+    requires numbers { log.old.pushed + 1 < 2 ^ 64 }
+    ensures log { log.new ≡ with_logged message.old.origin message.old.tag message.old.op log.old }
+    ensures taken { message.new.op ≡ op.NoOp }
+{
+    if let Op::Update(update) = replace(&mut message.op, Op::NoOp) {
         log.push(Entry {
-            origin,
-            tag,
+            origin: message.origin,
+            tag: message.tag,
             update,
         });
-        return None;
-    }
-    if update.object().kind == Kind::Counter {
-        Some(update)
-    } else {
-        None
     }
 }
 
-/// Puts the element of an insertion into its list. The log has what it had before the message.
+/// Puts the element of an insertion into its list, and takes it out of the message. The log has what it had before the message.
 ///
 /// A function of its own, so that other messages don't pay for its entry's place.
 #[inline(never)]
-fn insert(lists: &mut Lists, epoch: u32, message: Message, log: &Polog)
-    requires insertion { is_insertion message.op ≡ true }
-    requires can { CanBePut epoch (entry_put message.origin message.tag message.op) (lists_shown lists.old) }
-    ensures of { (w : ℕ) (h : History) → IsTrue (is_history w (with_message h message)) → epoch ≡ epoch_of h
-        → IsLogged store_keeps store_covers h.present.n h.present.me h.present.messages message log.now
-        → AreListsOf h (lists_shown lists.old) → AreListsMoved h message 0 (lists_shown lists.new) }
+fn insert(lists: &mut Lists, epoch: u32, message: &mut Message, log: &Polog)
+    requires insertion { is_insertion message.old.op ≡ true }
+    requires can { CanBePut epoch (entry_put message.old.origin message.old.tag message.old.op) (lists_shown lists.old) }
+    ensures taken { message.new.op ≡ op.NoOp }
+    ensures of { (w : ℕ) (h : History) → IsTrue (is_history w (with_message h message.old)) → epoch ≡ epoch_of h
+        → IsLogged store_keeps store_covers h.present.n h.present.me h.present.messages message.old log.now
+        → AreListsOf h (lists_shown lists.old) → AreListsMoved h message.old 0 (lists_shown lists.new) }
     ensures spare { (lists_shown lists.old).spare ≤ (lists_shown lists.new).spare + 1 }
     ensures deep { (most : ℕ) → AreWithin most (lists_shown lists.old) → AreWithin (most + 1) (lists_shown lists.new) }
 {
-    let Message { origin, tag, op } = message;
-    if let Op::Update(update) = op {
+    if let Op::Update(update) = replace(&mut message.op, Op::NoOp) {
         let entry = Entry {
-            origin,
-            tag,
+            origin: message.origin,
+            tag: message.tag,
             update,
         };
         let entries = log.of_object(entry.update.object());
@@ -225,14 +227,37 @@ fn absorb(items: &mut Items, lists: &mut Lists, epoch: u32, entry: Entry)
     items.absorb(entry);
 }
 
-/// Applies an update of a counter that can't be cleared, where there is one.
-fn apply(items: &mut Items, applied: Option<Update>)
-    requires { CanBeApplied applied (shown items.old) }
-    ensures of { (h : History) (m : AMessage) → applied ≡ applied_of m.op
+/// Applies an update of a counter that can't be cleared, where a message has one, and takes it out of the message.
+fn apply(items: &mut Items, message: &mut Message)
+    requires { CanBeApplied (applied_of message.old.op) (shown items.old) }
+    ensures of { (h : History) (m : AMessage) → applied_of message.old.op ≡ applied_of m.op
         → AreAbsorbed h m (length (stripped_of h m)) (shown items.old) → AreMoved h m (shown items.new) }
-    ensures spare { (shown items.old).spare ≤ (shown items.new).spare + room_of applied }
+    ensures spare { (shown items.old).spare ≤ (shown items.new).spare + room_of (applied_of message.old.op) }
 {
-    if let Some(update) = applied {
+    if is_applied(&message.op) {
+        apply_update(items, message);
+    }
+}
+
+/// Applies the update of a counter that can't be cleared, which a message has, and takes it out of the message.
+fn apply_update(items: &mut Items, message: &mut Message)
+    requires applied { is_some (applied_of message.old.op) ≡ true }
+    requires can { CanBeApplied (applied_of message.old.op) (shown items.old) }
+    ensures of { (h : History) (m : AMessage) → applied_of message.old.op ≡ applied_of m.op
+        → AreAbsorbed h m (length (stripped_of h m)) (shown items.old) → AreMoved h m (shown items.new) }
+    ensures spare { (shown items.old).spare ≤ (shown items.new).spare + room_of (applied_of message.old.op) }
+{
+    if let Op::Update(update) = replace(&mut message.op, Op::NoOp) {
         items.apply(update);
+    }
+}
+
+/// Whether an operation is the update of a counter that can't be cleared.
+fn is_applied(op: &Op) -> bool
+    ensures { result ≡ is_some (applied_of op.now) }
+{
+    match op {
+        Op::NoOp => false,
+        Op::Update(update) => update.object().kind == Kind::Counter,
     }
 }

@@ -13,15 +13,15 @@ ghost use Rattle.replica_core.specs.Steps.{IsSender, KeepsMatrix, is_due_after, 
 
 use crate::replica::Replica;
 use crate::settling::settle;
-use op_base::{Message, Op, Tag};
+use op_base::{CopyRoom, Message, Op, Tag};
 use outbox::Outbox;
 use stability_matrix::Matrix;
 
 /// Who sent a message that is delivered, and what a step needs for it.
 #[derive(Drop)]
 pub(crate) enum Sender {
-    /// The replica itself: a copy of the message, which is sent again until it is stable.
-    Own(Message),
+    /// The replica itself: memory for a copy of the message, which is sent again until it is stable.
+    Own(CopyRoom),
     /// Another member: what is stable once the message is delivered.
     Other(Tag),
 }
@@ -30,22 +30,23 @@ impl Replica {
     ghost use Rattle.replica_core.specs.Rules.{StandsFor, SameSettings};
 
     /// Makes a message the next of the history. There is room for what it and each early message can make of items and lists.
-    pub(crate) fn step(&mut self, message: Message, sender: Sender)
-        requires next { ∥ ((s : State) × StandsFor self.old s × IsState self.old.w self.old.limit (with_own s message)) ∥₁ }
-        requires sender { IsSender self.old.me self.old.matrix message sender }
+    /// The operation is taken out of the message where it is kept.
+    pub(crate) fn step(&mut self, message: &mut Message, sender: Sender)
+        requires next { ∥ ((s : State) × StandsFor self.old s × IsState self.old.w self.old.limit (with_own s message.old)) ∥₁ }
+        requires sender { IsSender self.old.me self.old.matrix message.old sender }
         requires room { length self.old.log.entries + length self.old.buffer.early + 1 ≤ (shown self.old.items).spare }
-        requires lists_room { insertions self.old.buffer.early + element_room message.op ≤ (lists_shown self.old.lists).spare }
-        ensures stands { (s : State) → StandsFor self.old s → IsState self.old.w self.old.limit (with_own s message) → StandsFor self.new (with_own s message) }
+        requires lists_room { insertions self.old.buffer.early + element_room message.old.op ≤ (lists_shown self.old.lists).spare }
+        ensures stands { (s : State) → StandsFor self.old s → IsState self.old.w self.old.limit (with_own s message.old) → StandsFor self.new (with_own s message.old) }
         ensures settings { SameSettings self.old self.new }
         ensures buffer { self.new.buffer ≡ self.old.buffer }
     {
-        let (origin, tag) = (message.origin, message.tag);
+        let origin = message.origin;
         let before = self.matrix.stable();
-        note(&mut self.matrix, &mut self.outbox, &message, sender);
-        self.counts.set(origin, tag.at(origin));
-        self.due = is_due(self.due, self.me, &message);
+        note(&mut self.matrix, &mut self.outbox, message, sender);
+        self.counts.set(origin, message.tag.at(origin));
+        self.due = is_due(self.due, self.me, message);
         let stable = self.matrix.stable();
-        self.window.push(origin, tag, is_noop(&message.op));
+        self.window.push(origin, message.tag, is_noop(&message.op));
         self.window.drop_stable(&stable);
         self.outbox.drop_stable(&stable);
         let epoch = self.epoch;
@@ -61,7 +62,7 @@ impl Replica {
     }
 }
 
-/// Notes a member's next message in its matrix, and puts the copy of an own one behind those that are sent again.
+/// Notes a member's next message in its matrix, and puts a copy of an own one behind those that are sent again.
 fn note(matrix: &mut Matrix, outbox: &mut Outbox, message: &Message, sender: Sender)
     requires origin { message.now.origin < length matrix.old.rows }
     requires entries { length message.now.tag ≡ length matrix.old.rows }
@@ -74,9 +75,9 @@ fn note(matrix: &mut Matrix, outbox: &mut Outbox, message: &Message, sender: Sen
     ensures outbox { outbox.new ≡ record { n = outbox.old.n; w = outbox.old.w; messages = with_own_sent matrix.old.me message.now outbox.old.messages } }
 {
     match sender {
-        Sender::Own(sent) => {
+        Sender::Own(room) => {
             matrix.note_own(message.tag);
-            outbox.push(sent);
+            outbox.push(message.copied(room));
         }
         Sender::Other(stable) => matrix.note_with(message.origin, message.tag, stable),
     }

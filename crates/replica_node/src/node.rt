@@ -141,13 +141,15 @@ impl<R: Recorder> Node<R> {
         ensures fits { IsTrue (fits self.old.inner.n message) }
         ensures carried { IsTrue (is_carried self.old.inner.limit message) }
     {
-        let note = match message.copy(alloc) {
-            Ok(sent) => Note::Sent(sent),
-            Err(NoMemory) => return Err(NoMemory),
-        };
+        let room = message.op.room(alloc)?;
         self.journal.reserve(alloc, 1)?;
-        self.inner.commit(alloc, message)?;
-        put(&mut self.journal, &mut self.length, note);
+        let own = self.inner.reserve_commit(alloc, &message)?;
+        put(
+            &mut self.journal,
+            &mut self.length,
+            Note::Sent(message.copied(room)),
+        );
+        self.inner.commit_reserved(message, own);
         Ok(())
     }
 
@@ -190,10 +192,16 @@ impl<R: Recorder> Node<R> {
         ensures once { AsksOnceAtMost (R.asked self.old.journal) (R.asked self.new.journal) }
         ensures asked { OnOk result (R.asked self.new.journal ≡ R.asked self.old.journal + 1) }
     {
-        let kept = message.copy(alloc)?;
+        let room = message.op.room(alloc)?;
         self.journal.reserve(alloc, most_notes(&self.inner))?;
-        let steps = self.inner.accept(alloc, message)?;
-        put_accepted(&mut self.journal, &mut self.length, kept, steps.as_slice());
+        let steps = self.inner.reserve_accept(alloc, &message)?;
+        put(
+            &mut self.journal,
+            &mut self.length,
+            Note::Kept(message.copied(room)),
+        );
+        let steps = self.inner.accept_reserved(message, steps);
+        put_steps(&mut self.journal, &mut self.length, steps.as_slice());
         Ok(steps)
     }
 
@@ -279,16 +287,15 @@ pub fn put<R: Recorder>(journal: &mut R, length: &mut u64, note: Note)
     *length += 1;
 }
 
-/// Puts the notes of a message that was accepted at the end: the message, and its steps in order.
-fn put_accepted<R: Recorder>(journal: &mut R, length: &mut u64, kept: Message, steps: &[Step])
-    requires room { length_of steps.now + 1 ≤ R.spare journal.old }
-    requires few { length.old + length_of steps.now < 2 ^ 63 }
+/// Puts the notes of steps at the end, in order.
+fn put_steps<R: Recorder>(journal: &mut R, length: &mut u64, steps: &[Step])
+    requires room { length_of steps.now ≤ R.spare journal.old }
+    requires few { length.old + length_of steps.now < 2 ^ 63 + 1 }
     requires counted { IsCount length.old (R.notes journal.old) }
-    ensures noted { R.notes journal.new ≡ R.notes journal.old ++ notes.Kept kept ∷ map step_note steps.now }
+    ensures noted { R.notes journal.new ≡ R.notes journal.old ++ map step_note steps.now }
     ensures asked { R.asked journal.new ≡ R.asked journal.old }
     ensures counted { IsCount length.new (R.notes journal.new) }
 {
-    put(journal, length, Note::Kept(kept));
     for step in steps {
         put(journal, length, note_of(step));
     }

@@ -18,15 +18,16 @@ own_are c = subst (λ o. c.of_object-entries.result.now ≡ filter (is_of o) c.a
 
 pub insert-requires : goal.insert-requires
 insert-requires c =
-    let m = c.args.message in
-    let can = entry_is_put c.args.epoch m.origin m.tag m.op c.in-Update.update (lists_shown c.args.lists.now) c.in-Update.is c.requires.insertion c.requires.can in
+    let m = c.args.message.now in
+    let can = entry_is_put c.args.epoch m.origin m.tag m.op c.in-Update.update (lists_shown c.args.lists.now) (sym c.replace.ensures.value ∙ c.in-Update.is) c.requires.insertion c.requires.can in
     record { spare = can.0; fresh = can.1; deep = can.2; own = are_own _ _ _ (own_are (goal.at.insert-requires c).After-of_object-entries) }
 
 pub returns-in-Update-clause-of : goal.returns-in-Update-clause-of
 returns-in-Update-clause-of c = λ w h history epoch logged lists.
-    let m = c.args.message in
+    let m = c.args.message.now in
     let u = c.in-Update.update in
-    let is : m ≡ record { origin = m.origin; tag = m.tag; op = op.Update u } = ap (λ o. record { origin = m.origin; tag = m.tag; op = o }) c.in-Update.is in
+    let has : m.op ≡ op.Update u = sym c.replace.ensures.value ∙ c.in-Update.is in
+    let is : m ≡ record { origin = m.origin; tag = m.tag; op = op.Update u } = ap (λ o. record { origin = m.origin; tag = m.tag; op = o }) has in
     let messages = own_messages u.object _ _ (own_are (goal.at.returns-in-Update-clause-of c).After-of_object-entries)
-    ∙ ap (filter (is_on u.object)) (logged.holds ∙ insertion_leaves_log h.present.n h.present.me h.present.messages m u c.in-Update.is (ap is_insertion (sym c.in-Update.is) ∙ c.requires.insertion)) in
+    ∙ ap (filter (is_on u.object)) (logged.holds ∙ insertion_leaves_log h.present.n h.present.me h.present.messages m u has (ap is_insertion (sym has) ∙ c.requires.insertion)) in
     subst (λ x. AreListsMoved h x 0 (lists_shown c.insert.new.self)) (sym is) (c.insert.ensures.of w h (subst (λ x. IsTrue (is_history w (with_message h x))) is history) epoch messages lists)

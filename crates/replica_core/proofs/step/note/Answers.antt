@@ -9,9 +9,12 @@ use Rattle.replica_core.proofs.Steps.{last_was_deliverable}
 use Rattle.replica_core.proofs.step.note.Goals as goal
 use Rattle.replica_core.proofs.step.note.Goals.{In-Own}
 
--- who sent it, where a copy came with it
-own_is : (c : In-Own) → IsSender c.args.matrix.now.me c.args.matrix.now c.args.message.now (sender.Own c.in-Own.sent)
+-- who sent it, where there is room for its copy
+own_is : (c : In-Own) → IsSender c.args.matrix.now.me c.args.matrix.now c.args.message.now (sender.Own c.in-Own.room)
 own_is c = subst (IsSender c.args.matrix.now.me c.args.matrix.now c.args.message.now) c.in-Own.is c.requires.sender
+
+pub copied-requires : goal.copied-requires
+copied-requires c = (own_is (goal.at.copied-requires c).In-Own).1
 
 pub push-requires-clause-room : goal.push-requires-clause-room
 push-requires-clause-room c = c.requires.room (own_is (goal.at.push-requires-clause-room c).In-Own).0
@@ -19,12 +22,12 @@ push-requires-clause-room c = c.requires.room (own_is (goal.at.push-requires-cla
 pub push-requires-clause-fits : goal.push-requires-clause-fits
 push-requires-clause-fits c =
     let is = own_is (goal.at.push-requires-clause-fits c).In-Own in
-    subst (λ m. IsTrue (fits c.args.outbox.now.n m)) (sym is.1) (c.requires.fits is.0)
+    subst (λ m. IsTrue (fits c.args.outbox.now.n m)) (sym c.copied.ensures) (c.requires.fits is.0)
 
 pub push-requires-clause-next : goal.push-requires-clause-next
 push-requires-clause-next c =
     let is = own_is (goal.at.push-requires-clause-next c).In-Own in
-    subst (λ m. All (λ e. ComesAfter e m) c.args.outbox.now.messages) (sym is.1) (c.requires.next is.0)
+    subst (λ m. All (λ e. ComesAfter e m) c.args.outbox.now.messages) (sym c.copied.ensures) (c.requires.next is.0)
 
 pub returns-in-Own-clause-known : goal.returns-in-Own-clause-known
 returns-in-Own-clause-known c = λ n w me messages chapter of.
@@ -36,7 +39,7 @@ pub returns-in-Own-clause-outbox : goal.returns-in-Own-clause-outbox
 returns-in-Own-clause-outbox c =
     let is = own_is (goal.at.returns-in-Own-clause-outbox c).In-Own in
     let o = c.args.outbox.now in
-    c.push.ensures.pushed ∙ ap₂ (λ m own. record { n = o.n; w = o.w; messages = if own then o.messages ++ m ∷ [] else o.messages }) is.1 (sym (eq-eqb c.args.message.now.origin c.args.matrix.now.me is.0))
+    c.push.ensures.pushed ∙ ap₂ (λ m own. record { n = o.n; w = o.w; messages = if own then o.messages ++ m ∷ [] else o.messages }) c.copied.ensures (sym (eq-eqb c.args.message.now.origin c.args.matrix.now.me is.0))
 
 pub returns-in-Other-clause-known : goal.returns-in-Other-clause-known
 returns-in-Other-clause-known c = λ n w me messages chapter of.

@@ -26,21 +26,21 @@ returns-then-has_ended-clause-answer c = λ s stands.
     let r = c.args.self.now in
     inl (sends_by_tests r.n r.w r.limit r.me s.history.present.messages _ _ (c.if-has_ended.ensures s stands) c.args.update.now (c.if-is_busy.ensures s stands) ∙ sends_in_state (fields_of r) s stands c.args.update.now, stands)
 
-pub returns-in-Err-clause-answer : goal.returns-in-Err-clause-answer
-returns-in-Err-clause-answer c = λ s stands.
-    let is = sends (goal.at.returns-in-Err-clause-answer c).Else-has_ended c.args.update.now s stands ∙ sends_in_state (fields_of c.args.self.now) s stands c.args.update.now in
+pub returns-in_default-clause-answer : goal.returns-in_default-clause-answer
+returns-in_default-clause-answer c = λ s stands.
+    let is = sends (goal.at.returns-in_default-clause-answer c).Else-has_ended c.args.update.now s stands ∙ sends_in_state (fields_of c.args.self.now) s stands c.args.update.now in
     inr (refl, subst (λ a. IsTrue (is_sent a)) is refl, stands)
 
 pub next_message-requires : goal.next_message-requires
 next_message-requires c = λ s stands. more_may_be_sent (fields_of c.args.self.now) s stands (sym (c.if-has_ended.ensures s stands))
 
-pub returns-in-Ok-clause-answer : goal.returns-in-Ok-clause-answer
-returns-in-Ok-clause-answer c = λ s stands.
+pub returns-clause-answer : goal.returns-clause-answer
+returns-clause-answer c = λ s stands.
     let r = c.args.self.now in
-    let made = c.next_message.ensures.message s stands ∙ ap (λ (u : Update). own_message r.n r.me s.history.present.messages (op.Update u)) c.in-Ok.ensures.copy in
-    inl (ap local.Sent made ∙ sends (goal.at.returns-in-Ok-clause-answer c).Else-has_ended c.args.update.now s stands ∙ sends_in_state (fields_of r) s stands c.args.update.now, stands)
+    let made = c.next_message.ensures.message s stands ∙ ap (λ (u : Update). own_message r.n r.me s.history.present.messages (op.Update u)) c.copied-update.ensures in
+    inl (ap local.Sent made ∙ sends (goal.at.returns-clause-answer c).Else-has_ended c.args.update.now s stands ∙ sends_in_state (fields_of r) s stands c.args.update.now, stands)
 
-pub returns-in-Ok-clause-draft : goal.returns-in-Ok-clause-draft
-returns-in-Ok-clause-draft c = λ s stands.
-    let given = sym (ap local.Sent (c.next_message.ensures.message s stands) ∙ sends (goal.at.returns-in-Ok-clause-draft c).Else-has_ended c.in-Ok.update s stands) in
-    is_draft c.args.self.now s (op.Update c.in-Ok.update) c.next_message.result c.next_message.ensures.op given c.updates_are_valid.ensures
+pub returns-clause-draft : goal.returns-clause-draft
+returns-clause-draft c = λ s stands.
+    let given = sym (ap local.Sent (c.next_message.ensures.message s stands) ∙ sends (goal.at.returns-clause-draft c).Else-has_ended c.copied-update.result s stands) in
+    is_draft c.args.self.now s (op.Update c.copied-update.result) c.next_message.result c.next_message.ensures.op given c.updates_are_valid.ensures

@@ -23,60 +23,60 @@ use Rattle.replica_core.proofs.replica.Replica.step.Goals.{After-settle}
 pub note-requires-clause-origin : goal.note-requires-clause-origin
 note-requires-clause-origin c =
     let r = c.args.self.now in
-    omega (arith, origin_in (fields_of r) c.args.message c.requires.next, length-rows_in (fields_of r) r.stands)
+    omega (arith, origin_in (fields_of r) c.args.message.now c.requires.next, length-rows_in (fields_of r) r.stands)
 
 pub note-requires-clause-entries : goal.note-requires-clause-entries
 note-requires-clause-entries c =
     let r = c.args.self.now in
-    omega (arith, length-tag_in (fields_of r) c.args.message c.requires.next, length-rows_in (fields_of r) r.stands)
+    omega (arith, length-tag_in (fields_of r) c.args.message.now c.requires.next, length-rows_in (fields_of r) r.stands)
 
 pub note-requires-clause-sender : goal.note-requires-clause-sender
 note-requires-clause-sender c =
     let r = c.args.self.now in
-    subst (λ me. IsSender me r.matrix c.args.message c.args.sender) (sym (of_me_in (fields_of r) r.stands)) c.requires.sender
+    subst (λ me. IsSender me r.matrix c.args.message.now c.args.sender) (sym (of_me_in (fields_of r) r.stands)) c.requires.sender
 
 pub note-requires-clause-room : goal.note-requires-clause-room
 note-requires-clause-room c =
     let r = c.args.self.now in
-    outbox_room_in (fields_of r) c.args.message c.requires.next (AreNumbers-from_test r.me r.n r.w r.limit r.numbers).wide
+    outbox_room_in (fields_of r) c.args.message.now c.requires.next (AreNumbers-from_test r.me r.n r.w r.limit r.numbers).wide
 
 pub note-requires-clause-fits : goal.note-requires-clause-fits
-note-requires-clause-fits c = λ own. outbox_fits_in (fields_of c.args.self.now) c.args.message c.requires.next
+note-requires-clause-fits c = λ own. outbox_fits_in (fields_of c.args.self.now) c.args.message.now c.requires.next
 
 pub note-requires-clause-next : goal.note-requires-clause-next
 note-requires-clause-next c =
     let r = c.args.self.now in
-    outbox_next_in (fields_of r) c.args.message c.requires.next (AreNumbers-from_test r.me r.n r.w r.limit r.numbers).wide
+    outbox_next_in (fields_of r) c.args.message.now c.requires.next (AreNumbers-from_test r.me r.n r.w r.limit r.numbers).wide
 
 pub at-requires : goal.at-requires
 at-requires c =
     let f = fields_of c.args.self.now in
-    omega (arith, origin_in f c.args.message c.requires.next, length-tag_in f c.args.message c.requires.next)
+    omega (arith, origin_in f c.args.message.now c.requires.next, length-tag_in f c.args.message.now c.requires.next)
 
 pub set-requires : goal.set-requires
 set-requires c =
     let r = c.args.self.now in
-    omega (arith, origin_in (fields_of r) c.args.message c.requires.next, length-counts_in (fields_of r) r.stands)
+    omega (arith, origin_in (fields_of r) c.args.message.now c.requires.next, length-counts_in (fields_of r) r.stands)
 
 pub push-requires-clause-member : goal.push-requires-clause-member
 push-requires-clause-member c =
     let r = c.args.self.now in
-    omega (arith, origin_in (fields_of r) c.args.message c.requires.next, length-held_in (fields_of r) r.stands)
+    omega (arith, origin_in (fields_of r) c.args.message.now c.requires.next, length-held_in (fields_of r) r.stands)
 
 pub push-requires-clause-entries : goal.push-requires-clause-entries
 push-requires-clause-entries c =
     let r = c.args.self.now in
-    omega (arith, length-tag_in (fields_of r) c.args.message c.requires.next, length-held_in (fields_of r) r.stands)
+    omega (arith, length-tag_in (fields_of r) c.args.message.now c.requires.next, length-held_in (fields_of r) r.stands)
 
 pub push-requires-clause-room : goal.push-requires-clause-room
 push-requires-clause-room c =
     let r = c.args.self.now in
-    window_room_in (fields_of r) c.args.message c.requires.next (AreNumbers-from_test r.me r.n r.w r.limit r.numbers).wide
+    window_room_in (fields_of r) c.args.message.now c.requires.next (AreNumbers-from_test r.me r.n r.w r.limit r.numbers).wide
 
 pub push-requires-clause-next : goal.push-requires-clause-next
 push-requires-clause-next c =
     let r = c.args.self.now in
-    window_next_in (fields_of r) c.args.message c.requires.next (AreNumbers-from_test r.me r.n r.w r.limit r.numbers).wide
+    window_next_in (fields_of r) c.args.message.now c.requires.next (AreNumbers-from_test r.me r.n r.w r.limit r.numbers).wide
 
 pub drop_stable-requires : goal.drop_stable-requires
 drop_stable-requires c =
@@ -102,7 +102,7 @@ drop_stable-requires-2 c =
       c.note.ensures.members,
       length-rows_in (fields_of r) r.stands,
       ap (λ (o : Sent). o.n) c.note.ensures.outbox,
-      outbox_n_in (fields_of r) c.args.message c.requires.next,
+      outbox_n_in (fields_of r) c.args.message.now c.requires.next,
     )
 
 pub settle-requires-clause-ready : goal.settle-requires-clause-ready
@@ -113,8 +113,8 @@ settle-requires-clause-ready c =
       r.w,
       r.limit,
       x.0.history,
-      ready_with (fields_of r) x.0 c.args.message x.1 x.2 numbers.wide numbers.most c.stable-before.result c.stable-stable.result c.stable-before.ensures.known
-          (stable_with (fields_of r) x.0 c.args.message x.1 x.2 c.note.new.matrix c.stable-stable.result c.note.ensures.known c.stable-stable.ensures.known),
+      ready_with (fields_of r) x.0 c.args.message.now x.1 x.2 numbers.wide numbers.most c.stable-before.result c.stable-stable.result c.stable-before.ensures.known
+          (stable_with (fields_of r) x.0 c.args.message.now x.1 x.2 c.note.new.matrix c.stable-stable.result c.note.ensures.known c.stable-stable.ensures.known),
     ))
 
 pub settle-requires-clause-lists_spare : goal.settle-requires-clause-lists_spare
@@ -126,11 +126,11 @@ settle-requires-clause-deep c =
     within_in (fields_of r) r.stands (AreNumbers-from_test r.me r.n r.w r.limit r.numbers).most
 
 -- once all parts have the message, the fields stand for the state with it
-after : (c : After-settle) (s : State) → Standing (fields_of c.args.self.now) s → IsState c.args.self.now.w c.args.self.now.limit (with_own s c.args.message)
-    → Standing (record (fields_of c.args.self.now) { counts = c.set.new.self; matrix = c.note.new.matrix; window = c.drop_stable.new.self; log = c.settle.new.log; items = shown c.settle.new.items; lists = lists_shown c.settle.new.lists; outbox = c.drop_stable-2.new.self; due = c.is_due-self.result }) (with_own s c.args.message)
+after : (c : After-settle) (s : State) → Standing (fields_of c.args.self.now) s → IsState c.args.self.now.w c.args.self.now.limit (with_own s c.args.message.now)
+    → Standing (record (fields_of c.args.self.now) { counts = c.set.new.self; matrix = c.note.new.matrix; window = c.drop_stable.new.self; log = c.settle.new.log; items = shown c.settle.new.items; lists = lists_shown c.settle.new.lists; outbox = c.drop_stable-2.new.self; due = c.is_due-self.result }) (with_own s c.args.message.now)
 after c =
     let r = c.args.self.now in
-    let m = c.args.message in
+    let m = c.args.message.now in
     let numbers = AreNumbers-from_test r.me r.n r.w r.limit r.numbers in
     all_stand (fields_of r) m numbers.wide numbers.most _ _ _ _ _ _ _ _ _ _ _ _ (c.set.ensures ∙ ap (slice_set r.counts m.origin) c.at.ensures) c.note.ensures.known c.stable-before.ensures.known c.stable-stable.ensures.known
     (λ messages. c.push.ensures.with r.n r.w r.me messages m refl refl (sym c.is_noop.ensures)) c.drop_stable.ensures.of c.note.ensures.outbox c.drop_stable-2.ensures.dropped c.drop_stable-2.ensures.sent
@@ -140,7 +140,7 @@ after c =
 pub invariant_of-self : goal.invariant_of-self
 invariant_of-self c = record {
   numbers = c.args.self.now.numbers;
-  stands = ∥∥₁_map c.requires.next (λ x. (with_own x.0 c.args.message, after (goal.at.invariant_of-self c).After-settle x.0 x.1 x.2));
+  stands = ∥∥₁_map c.requires.next (λ x. (with_own x.0 c.args.message.now, after (goal.at.invariant_of-self c).After-settle x.0 x.1 x.2));
 }
 
 pub returns-clause-stands : goal.returns-clause-stands

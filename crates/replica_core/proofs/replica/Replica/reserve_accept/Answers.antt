@@ -1,0 +1,67 @@
+use Rattle.std.proofs.Common.{IsTrue, length, ap, ap₂, refl, subst, sym, ◌∙◌, arith}
+use Rattle.op_base.specs.Message.{fits}
+use Rattle.causal_model.specs.Counts.{is_carried}
+use Rattle.causal_model.specs.Early.{is_again}
+use Rattle.causal_model.specs.Receiving.{is_old, is_far}
+use Rattle.causal_buffer.specs.Buffer.{Buffer}
+use Rattle.list_type.specs.Shown.{shown as lists_shown}
+use Rattle.polog.specs.Value.{Log}
+use Rattle.stable_state.specs.Shown.{shown}
+use Rattle.replica_core.specs.Rules.{fields_of, Unchanged}
+use Rattle.replica_core.proofs.Bounds.{few_logged, few_early}
+use Rattle.replica_core.proofs.Receives.{new_in, apart_in, near_in}
+use Rattle.replica_core.proofs.Stands.{with_room_in, unchanged_after}
+use Rattle.replica_core.proofs.replica.Replica.reserve_accept.Goals as goal
+use Rattle.replica_core.proofs.replica.Replica.reserve_accept.Goals.{In_ok-reserve_element}
+
+pub invariant_of-self-2 : goal.invariant_of-self-2
+invariant_of-self-2 c =
+    let r = c.args.self.now in
+    record { numbers = r.numbers; stands = with_room_in (fields_of r) r.stands (shown c.reserve.new.self) (lists_shown r.lists) c.reserve.ensures.items c.reserve.ensures.spare refl (omega arith) }
+
+-- once there is room for items and elements, nothing else changed
+room_taken : (c : In_ok-reserve_element) → Unchanged c.args.self.now c.reserve_element.new.self
+room_taken c = unchanged_after _ _ _ (record {
+  settings = record { me = refl; n = refl; w = refl; limit = refl; epoch = refl };
+  counts = refl;
+  matrix = refl;
+  window = refl;
+  buffer = refl;
+  log = refl;
+  items = c.reserve.ensures.items;
+  spare = c.reserve.ensures.spare;
+  lists = refl;
+  lists_spare = omega arith;
+  outbox = refl;
+  due = refl;
+}) c.reserve_element.ensures.unchanged
+
+pub overflow_add-most : goal.overflow_add-most
+overflow_add-most c = omega (arith, few_early c.args.self.now, c.len-most.ensures)
+
+pub overflow_add-len : goal.overflow_add-len
+overflow_add-len c = omega (arith, few_early c.args.self.now, few_logged c.args.self.now, c.len-most.ensures, c.len.ensures)
+
+pub returns-clause-ready : goal.returns-clause-ready
+returns-clause-ready c =
+    let r = c.args.self.now in
+    let m = c.args.message.now in
+    let taken = room_taken (goal.at.returns-clause-ready c).In_ok-reserve_element in
+    let same = c.reserve_element.ensures.unchanged in
+    let early = ap (λ (b : Buffer). length b.early) same.buffer in
+    record {
+      fits = subst (λ n. IsTrue (fits n m)) (sym taken.settings.n) c.requires.fits;
+      carried = subst (λ limit. IsTrue (is_carried limit m)) (sym taken.settings.limit) c.requires.carried;
+      new = ap₂ (λ me counts. is_old me counts m) same.settings.me same.counts ∙ new_in r m c.requires.unrefused;
+      apart = ap (λ (b : Buffer). is_again b.early m) same.buffer ∙ apart_in r m c.requires.unrefused;
+      near = (λ i. is_far (same.buffer i).n (same.buffer i).w (same.settings.me i) (same.counts i) m) ∙ near_in r m c.requires.unrefused;
+      none = c.in_ok-steps.ensures.items;
+      steps = omega (arith, c.len-most.ensures, c.in_ok-steps.ensures.capacity, early);
+      room = record {
+        items = omega (arith, c.in_ok-reserve.ensures.room, c.len.ensures, c.len-most.ensures, c.reserve_element.ensures.items, early, ap (λ (l : Log). length l.entries) same.log);
+        lists = c.in_ok-reserve_element.ensures.room;
+      };
+    }
+
+pub returns-clause-unchanged : goal.returns-clause-unchanged
+returns-clause-unchanged c = room_taken (goal.at.returns-clause-unchanged c).In_ok-reserve_element
