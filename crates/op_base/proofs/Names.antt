@@ -1,13 +1,13 @@
 -- A text has no fault exactly where it is a name.
-use Rattle.std.proofs.Common.{◌≡◌, ◌≢◌, ap, ℕ, ◌+◌, Bool, true, false, not, ◌&&◌, cond, List, [], ◌∷◌, length, suc, refl, sym, ◌∙◌, arith}
+use Rattle.std.proofs.Common.{◌≡◌, ◌≢◌, ap, ℕ, ◌+◌, Bool, true, false, not, ◌&&◌, cond, List, [], ◌∷◌, length, zero, suc, refl, sym, ◌∙◌, arith}
 use Rattle.std.specs.Prelude.{position, Option, Some, None, is_none, is_some, ◌↔◌, nat_lt, nat_le, ◌==◌, if◌then◌else◌, Result, Ok, Err, IsTrue}
 use Rattle.std.specs.List.{list_all, position_or_len}
 use Rattle.std.specs.Option.{option_map}
-use Rattle.std.specs.Str.{IsUtf8, is_utf8}
-use Rattle.std.proofs.lemmas.Bool.{false≢true, false_from_ne_true, cond-false}
+use Rattle.std.specs.Str.{IsUtf8, IsAscii, is_utf8}
+use Rattle.std.proofs.lemmas.Bool.{false≢true, false_from_ne_true, cond-false, and_parts, and_from}
 use Rattle.std.proofs.lemmas.Bool.Decides.{nat_tests}
-use Rattle.std.proofs.lemmas.Str.{is_utf8-from_IsUtf8, IsUtf8-from_is_utf8}
-use Rattle.op_base.specs.Name.{is_short, byte_fault, is_key, is_value, is_object, is_key_byte, is_value_byte, key_fault, value_fault, object_fault, kind_fault, kind_of, kind_part, key_part, or_else, Refuses}
+use Rattle.std.proofs.lemmas.Str.{is_utf8-from_IsUtf8, IsUtf8-from_is_utf8, IsUtf8-from_ascii}
+use Rattle.op_base.specs.Name.{is_short, byte_fault, is_key, is_value, is_object, is_key_byte, is_value_byte, is_plain_byte, key_fault, value_fault, object_fault, kind_fault, kind_of, kind_part, key_part, or_else, Refuses}
 use Rattle.op_base.specs.Laws.{KeysAreExact, ValuesAreExact, ObjectsAreExact}
 use Rattle.op_base.specs.Reading.{object_with}
 use Rattle.op_base.specs.declared.name.Kind.{Kind}
@@ -55,6 +55,25 @@ value_exactly bs =
     let bytes = byte_fault-none 4096 is_value_byte bs in
     let text : is_none (if is_utf8 bs then None else Some NotUtf8) ≡ is_utf8 bs = elim (is_utf8 bs) as (λ u. is_none (if u then None else Some NotUtf8) ≡ u) [ true ↦ refl | false ↦ refl ] in
     none_exactly (value_fault bs) (is_value bs) (or_else-none (byte_fault 4096 is_value_byte bs) (if is_utf8 bs then None else Some NotUtf8) ∙ (λ i. bytes i && text i))
+
+plain_values : (bs : List ℕ) → list_all is_plain_byte bs ≡ true → list_all is_value_byte bs ≡ true
+plain_values [] all = refl
+plain_values (b ∷ bs) all =
+    let parts = and_parts (is_plain_byte b) (list_all is_plain_byte bs) all in
+    let plain = parts.0 in
+    let byte : is_value_byte b ≡ true = grind (arith, nat_tests, plain) in
+    and_from (is_value_byte b) (list_all is_value_byte bs) byte (plain_values bs parts.1)
+
+plain_ascii : (bs : List ℕ) → list_all is_plain_byte bs ≡ true → IsAscii bs
+plain_ascii [] all i = omega arith
+plain_ascii (b ∷ bs) all zero = let plain = (and_parts (is_plain_byte b) (list_all is_plain_byte bs) all).0 in grind (arith, nat_tests, plain)
+plain_ascii (b ∷ bs) all (suc i) = plain_ascii bs (and_parts (is_plain_byte b) (list_all is_plain_byte bs) all).1 i
+
+-- a short text of bytes of ASCII that a value may have is a value
+pub plain_has_no_fault : (bs : List ℕ) → is_short 4096 bs ≡ true → list_all is_plain_byte bs ≡ true → value_fault bs ≡ None
+plain_has_no_fault bs short all =
+    let utf8 = is_utf8-from_IsUtf8 bs (IsUtf8-from_ascii bs (plain_ascii bs all)) in
+    (value_exactly bs).0 (and_from (is_short 4096 bs && list_all is_value_byte bs) (is_utf8 bs) (and_from (is_short 4096 bs) (list_all is_value_byte bs) short (plain_values bs all)) utf8)
 
 pub object_exactly : ObjectsAreExact
 object_exactly bs =

@@ -8,6 +8,7 @@ pub mod Code
 pub mod Valid
 pub mod TagFields
 pub mod KeyFields
+pub mod ValueFields
 pub mod Timestamp
 pub mod Message
 pub mod Order

@@ -22,6 +22,10 @@ is_key_byte b = (nat_le 97 b && nat_le b 122) || (nat_le 48 b && nat_le b 57) ||
 abbrev pub is_value_byte : ℕ → Bool
 is_value_byte b = nat_lt 32 b && not (b == 127)
 
+-- a byte of ASCII that a value may have
+abbrev pub is_plain_byte : ℕ → Bool
+is_plain_byte b = nat_lt 32 b && nat_lt b 127
+
 -- from 1 to so many bytes
 abbrev pub is_short : ℕ → List ℕ → Bool
 is_short most bytes = nat_lt 0 (length bytes) && nat_le (length bytes) most
@@ -53,6 +57,10 @@ key_fault bytes = byte_fault 32 is_key_byte bytes
 -- the first fault of a text that is to be a value
 abbrev pub value_fault : List ℕ → Option NameFault
 value_fault bytes = or_else (byte_fault 4096 is_value_byte bytes) (if is_utf8 bytes then None else Some NotUtf8)
+
+-- the first fault of such a text by what bytes it has, and not by how many
+abbrev pub fault_of_bytes : List ℕ → Option NameFault
+fault_of_bytes bytes = or_else (option_map BadByte (position (λ b. not (is_value_byte b)) bytes)) (if is_utf8 bytes then None else Some NotUtf8)
 
 -- the word of a kind
 abbrev pub kind_word : Kind → List ℕ

@@ -2,7 +2,7 @@
 //!
 //! Their texts are this project's own profile. UTF-8 is tested by `simdutf8`.
 
-ghost use Rattle.std.specs.Prelude.{◌≡◌, ◌≢◌, ◌≤◌, ◌+◌, length, take, drop, IfOk, IfErr, OnOk, IsOk, IsTrue, position, not, Some, Ok};
+ghost use Rattle.std.specs.Prelude.{◌≡◌, ◌≢◌, ◌≤◌, ◌+◌, ◌-◌, ◌++◌, length, take, drop, replicate, IfOk, IfErr, OnOk, IsOk, IsTrue, position, not, Some, Ok};
 ghost use Rattle.op_base.specs.declared.name.TheConstants.{VALUE_BYTES_IN_PLACE};
 ghost use Rattle.std.specs.List.{list_all};
 ghost use Rattle.std.specs.Prelude.{nat_eq, refl};
@@ -15,11 +15,11 @@ ghost use Rattle.std.specs.Ordering.{nat_cmp, as_partial_cmp};
 ghost use Rattle.std.specs.Cmp.{partial_equiv_from_equiv};
 ghost use Rattle.std.specs.Cmp.Lexicographic.{pointwise, slice_cmp, nat_list_eq_equiv, nat_list_cmp_total, texts_ties, texts_po};
 ghost use Rattle.op_base.specs.CopyRooms.{IsCopyRoomForValue};
-ghost use Rattle.op_base.specs.Name.{is_key, is_value, is_object, is_key_byte, is_value_byte, key_fault, value_fault, object_fault, kind_word, kind_of, kind_part, key_part, is_colon, Refuses};
+ghost use Rattle.op_base.specs.ValueFields.{text_of, bytes_of, IsKept};
+ghost use Rattle.op_base.specs.Name.{is_key, is_value, is_object, is_key_byte, is_value_byte, is_plain_byte, key_fault, value_fault, fault_of_bytes, object_fault, kind_word, kind_of, kind_part, key_part, is_colon, Refuses};
 
 use crate::memory::NoMemory;
 use crate::room::CopyRoom;
-use smallvec::SmallVec;
 use std::alloc::{AllocError, Global};
 use std::cmp::Ordering;
 use std::error::Error;
@@ -137,20 +137,37 @@ impl Model for Key {
 
 /// A value: 1 to 4096 bytes of UTF-8 with no byte at or below 0x20 and no 0x7F, so that a terminal prints it
 /// without surprises. A short one stands in the value itself. Contracts see the list of its bytes.
-#[derive(Debug, Drop)]
+#[derive(Drop)]
 pub struct Value {
-    bytes: SmallVec<u8, VALUE_BYTES_IN_PLACE>,
+    stored: Stored,
+}
+
+/// The bytes of a value.
+#[derive(Drop)]
+enum Stored {
+    /// At most `VALUE_BYTES_IN_PLACE`: a copy is one of numbers.
+    Short(Short),
+    /// More of them.
+    Long(Vec<u8>),
+}
+
+/// A short text: so many bytes of an array, the first.
+#[derive(Clone, Copy)]
+struct Short {
+    len: u8,
+    bytes: [u8; VALUE_BYTES_IN_PLACE],
 }
 
 impl Model for Value {
-    ghost use Rattle.std.specs.Prelude.{List, ℕ, IsTrue};
-    ghost use Rattle.op_base.specs.Name.{is_value};
+    ghost use Rattle.std.specs.Prelude.{List, ℕ};
 
     ghost Value = { List ℕ };
 
-    ghost view = { λ v. v.bytes.items };
+    ghost use Rattle.op_base.specs.ValueFields.{bytes_of, IsKept};
 
-    ghost invariant = { λ v. IsTrue (is_value v.bytes.items) };
+    ghost view = { λ v. bytes_of v.stored };
+
+    ghost invariant = { λ v. IsKept v.stored };
 }
 
 /// The name of an object: its kind and its key. Its text is the kind's word, a colon and the key.
@@ -197,16 +214,26 @@ impl Kind {
     }
 }
 
+/// Each comparison is made, so that none is jumped over: the tests of several bytes are then one.
 fn is_key_byte(b: u8) -> bool
     ensures { result ≡ is_key_byte b }
 {
-    matches!(b, b'a'..=b'z' | b'0'..=b'9' | b'_' | b'.' | b'-')
+    let is_letter = (b >= b'a') & (b <= b'z');
+    let is_digit = (b >= b'0') & (b <= b'9');
+    is_letter | is_digit | (b == b'_') | (b == b'.') | (b == b'-')
 }
 
 fn is_value_byte(b: u8) -> bool
     ensures { result ≡ is_value_byte b }
 {
     b > 0x20 && b != 0x7F
+}
+
+/// Whether a byte is of ASCII, and one that a value may have.
+fn is_plain_byte(b: u8) -> bool
+    ensures { result ≡ is_plain_byte b }
+{
+    (b > 0x20) & (b < 0x7F)
 }
 
 /// Whether a key may have each of the bytes. There is no early end, so that several bytes are tested at once.
@@ -236,6 +263,18 @@ fn are_value_bytes(bytes: &[u8]) -> bool
     let mut all = true;
     for b in bytes {
         all &= is_value_byte(*b);
+    }
+    all
+}
+
+/// Whether all bytes are of ASCII, and such as a value may have. Those of most values are, and then nothing else is to be
+/// tested of them.
+fn are_plain_bytes(bytes: &[u8]) -> bool
+    ensures { result ≡ list_all is_plain_byte bytes.now }
+{
+    let mut all = true;
+    for b in bytes {
+        all &= is_plain_byte(*b);
     }
     all
 }
@@ -279,6 +318,18 @@ fn value_fault(bytes: &[u8]) -> Option<NameFault>
     if bytes.len() > MOST_VALUE_BYTES {
         return Some(NameFault::TooLong);
     }
+    if are_plain_bytes(bytes) {
+        None
+    } else {
+        fault_beyond_ascii(bytes)
+    }
+}
+
+/// Why bytes are no value by what bytes they are, where they aren't.
+#[inline(never)]
+fn fault_beyond_ascii(bytes: &[u8]) -> Option<NameFault>
+    ensures { result ≡ fault_of_bytes bytes.now }
+{
     if let Some(at) = bad_value_place(bytes) {
         return Some(NameFault::BadByte { at });
     }
@@ -379,6 +430,14 @@ impl Key {
         &self.bytes[..self.len as usize]
     }
 
+    /// The bytes, with zeros behind them up to 32.
+    #[inline(always)]
+    pub fn padded(&self) -> &[u8; MOST_KEY_BYTES]
+        ensures { result.now ≡ self.now ++ replicate (32 - length self.now) 0 }
+    {
+        &self.bytes
+    }
+
     /// The bytes, as text.
     pub fn as_str(&self) -> &str
         ensures { result.now ≡ self.now }
@@ -408,7 +467,7 @@ impl Value {
         match value_fault(bytes) {
             Some(fault) => Err(fault),
             None => Ok(Value {
-                bytes: SmallVec::from_slice(alloc, bytes)?,
+                stored: Stored::of(alloc, bytes)?,
             }),
         }
     }
@@ -418,7 +477,10 @@ impl Value {
         ensures bytes { result.now ≡ self.now }
         ensures valid { IsTrue (is_value self.now) }
     {
-        self.bytes.as_slice()
+        match &self.stored {
+            Stored::Short(short) => short.as_slice(),
+            Stored::Long(bytes) => bytes.as_slice(),
+        }
     }
 
     /// The bytes, as text.
@@ -434,9 +496,7 @@ impl Value {
         ensures copy { IfOk result (λ copy. copy ≡ self.now) }
         ensures in_place { length self.now ≤ VALUE_BYTES_IN_PLACE → IsOk result }
     {
-        Ok(Value {
-            bytes: SmallVec::from_slice(alloc, self.bytes.as_slice())?,
-        })
+        Ok(self.copied(self.room(alloc)?))
     }
 
     /// Takes what a copy of the value needs memory for: nothing, where it stands in place. `NoMemory` leaves nothing behind.
@@ -444,11 +504,12 @@ impl Value {
         ensures room { IfOk result (λ room. IsCopyRoomForValue room self.now) }
         ensures in_place { length self.now ≤ VALUE_BYTES_IN_PLACE → IsOk result }
     {
-        if self.bytes.len() <= VALUE_BYTES_IN_PLACE {
-            return Ok(CopyRoom::none(alloc));
+        match &self.stored {
+            Stored::Short(_) => Ok(CopyRoom::none(alloc)),
+            Stored::Long(bytes) => Ok(CopyRoom {
+                bytes: Vec::from_slice(alloc, bytes.as_slice())?,
+            }),
         }
-        let bytes = Vec::from_slice(alloc, self.bytes.as_slice())?;
-        Ok(CopyRoom { bytes })
     }
 
     /// An equal value, for which memory was taken.
@@ -457,15 +518,51 @@ impl Value {
         requires { IsCopyRoomForValue room self.now }
         ensures { result ≡ self.now }
     {
-        if self.bytes.len() > VALUE_BYTES_IN_PLACE {
-            return Value {
-                bytes: SmallVec::from_vec(room.bytes),
-            };
+        match &self.stored {
+            Stored::Short(short) => Value {
+                stored: Stored::Short(*short),
+            },
+            Stored::Long(_) => Value {
+                stored: Stored::Long(room.bytes),
+            },
         }
-        let Ok(bytes) = SmallVec::from_slice(*self.bytes.allocator(), self.bytes.as_slice()) else {
-            unreachable!()
-        };
-        Value { bytes }
+    }
+}
+
+impl Stored {
+    /// The bytes of a text. `NoMemory` comes only where they don't stand in place.
+    fn of(alloc: Global, text: &[u8]) -> Result<Stored, AllocError>
+        ensures bytes { IfOk result (λ stored. bytes_of stored ≡ text.now) }
+        ensures kept { IsTrue (is_value text.now) → IfOk result IsKept }
+        ensures in_place { length text.now ≤ VALUE_BYTES_IN_PLACE → IsOk result }
+    {
+        if text.len() <= VALUE_BYTES_IN_PLACE {
+            return Ok(Stored::Short(Short::of(text)));
+        }
+        Ok(Stored::Long(Vec::from_slice(alloc, text)?))
+    }
+}
+
+impl Short {
+    fn of(text: &[u8]) -> Short
+        requires { length text.now ≤ VALUE_BYTES_IN_PLACE }
+        ensures bytes { text_of result ≡ text.now }
+        ensures within { result.len ≤ VALUE_BYTES_IN_PLACE }
+    {
+        let mut bytes = [0; VALUE_BYTES_IN_PLACE];
+        bytes[..text.len()].copy_from_slice(text);
+        Short {
+            len: text.len() as u8,
+            bytes,
+        }
+    }
+
+    /// The bytes.
+    fn as_slice(&self) -> &[u8]
+        requires { self.now.len ≤ VALUE_BYTES_IN_PLACE }
+        ensures { result.now ≡ text_of self.now }
+    {
+        &self.bytes[..self.len as usize]
     }
 }
 
@@ -511,13 +608,24 @@ impl fmt::Debug for Key {
     }
 }
 
+impl fmt::Debug for Value {
+    fn fmt<W: fmt::Write>(&self, f: &mut fmt::Formatter<W>) -> fmt::Result {
+        f.debug_tuple("Value").field(&self.as_slice()).finish()
+    }
+}
+
 impl Clone for Value {
     ghost is_clone = { λ value copy. copy ≡ value };
 
     fn clone(&self) -> Result<Value, AllocError> {
-        Ok(Value {
-            bytes: SmallVec::from_slice(*self.bytes.allocator(), self.as_slice())?,
-        })
+        match &self.stored {
+            Stored::Short(short) => Ok(Value {
+                stored: Stored::Short(*short),
+            }),
+            Stored::Long(bytes) => Ok(Value {
+                stored: Stored::Long(Vec::from_slice(*bytes.allocator(), bytes.as_slice())?),
+            }),
+        }
     }
 }
 
