@@ -128,6 +128,7 @@ fn no_rest(rest: &[u8]) -> Result<(), FrameFault>
 }
 
 /// A value behind its length, or want of memory for it, and what stands behind it.
+#[inline(always)]
 fn value_field(
     alloc: Global,
     version: Version,
@@ -280,6 +281,7 @@ pub fn operation(alloc: Global, version: Version, code: u8, bytes: &[u8]) -> Res
         return Ok(Op::NoOp);
     }
     let (kind, verb) = operation_of(code);
+    // By a match and not by `?`, for which the borrow checker has no rule on a pair of a `Copy` key and a slice.
     let (key, rest) = match key_field(alloc, version, bytes) {
         Ok(field) => field,
         Err(fault) => return Err(fault.into()),
