@@ -1,17 +1,18 @@
--- Ranks stand in the order of items, as far as they differ.
+-- Ranks stand in the order of items, as far as they differ, and tell an item whose text is shorter than they are.
 use Rattle.std.proofs.Common.{◌≡◌, ℕ, zero, suc, ◌+◌, ◌*◌, ◌^◌, ◌<◌, ◌≤◌, true, List, [], ◌∷◌, ◌++◌, ◌-◌, take, drop, length, min, inl, inr, refl, sym, ap, subst, ◌∙◌, get_or-drop, length-append, append_assoc, ◌⊎◌, arith}
 use Rattle.std.specs.Prelude.{Option, Some, None, unwrap_or, slice_index, slice_set, replicate, IsTrue}
 use Rattle.std.specs.List.{list_all}
-use Rattle.std.specs.Option.{option_cmp}
+use Rattle.std.specs.Option.{option_cmp, ForSome}
 use Rattle.std.specs.Ordering.{MatchOrdering, ordering_then, ordering_reverse, nat_cmp}
 use Rattle.std.specs.declared.cmp.Ordering.{Ordering}
 use Rattle.std.specs.declared.cmp.Ordering.TheVariants.{Less, Equal, Greater}
-use Rattle.std.proofs.lemmas.Bool.{cases_lt, and_parts}
+use Rattle.std.proofs.lemmas.Bool.{cases_lt, and_parts, false≢true}
 use Rattle.std.proofs.lemmas.List.{length-set, get_or_append_left, get_or-append_right, get_or_past, get_or-take, length-take-le}
 use Rattle.std.proofs.lemmas.Cmp.{ranked, nat_cmp_total, tied_itself}
 use Rattle.std.proofs.lemmas.Nat.{row_fits, mul-add-lt, same_from_place}
+use borrow.Rule.Slice.PartMut.{put_mid, same_len_mid}
 use Rattle.byteorder.specs.Endian.{big_from, big_number}
-use Rattle.op_base.specs.Name.{is_key, is_key_byte}
+use Rattle.op_base.specs.Name.{is_key, is_key_byte, is_value, is_value_byte}
 use Rattle.op_base.specs.Object.{kind_place}
 use Rattle.op_base.specs.Order.{text_cmp, item_cmp}
 use Rattle.op_base.specs.declared.name.ObjectId.{ObjectId}
@@ -171,13 +172,17 @@ first_decides Less b f g t = f refl
 first_decides Equal b f g t = g refl t
 first_decides Greater b f g t = absurd (greater_less t)
 
+front : (zs : List ℕ) → Bytes 32 zs → Bytes 16 zs
+front zs bytes i l = bytes i (omega (arith, l))
+
+back : (zs : List ℕ) → Bytes 32 zs → Bytes 16 (drop 16 zs)
+back zs bytes i l = subst (λ b. b < 256) (sym (get_or-drop 16 zs i 0)) (bytes (16 + i) (omega (arith, l)))
+
 ranks_less : (object : ObjectId) (value : Option (List ℕ)) (other : ObjectId) (other_value : Option (List ℕ)) → IsNamed object value → IsNamed other other_value
     → rank_cmp (rank_of object value) (rank_of other other_value) ≡ Less → item_cmp object value other other_value ≡ Less
 ranks_less object value other other_value named other_named less =
     let xs = item_text object value in
     let ys = item_text other other_value in
-    let front : (zs : List ℕ) → ((i : ℕ) → i < 32 → slice_index zs i < 256) → Bytes 16 zs = λ zs bytes i l. bytes i (omega (arith, l)) in
-    let back : (zs : List ℕ) → ((i : ℕ) → i < 32 → slice_index zs i < 256) → Bytes 16 (drop 16 zs) = λ zs bytes i l. subst (λ b. b < 256) (sym (get_or-drop 16 zs i 0)) (bytes (16 + i) (omega (arith, l))) in
     let bx = front xs named.bytes in
     let by = front ys other_named.bytes in
     let is : (zs : List ℕ) → big_number 16 zs ≡ number 16 zs = number_is 16 in
@@ -204,6 +209,94 @@ ranks_decide object value other other_value named other_named Equal is unequal =
 ranks_decide object value other other_value named other_named Greater is unequal =
     let turned = ranks_less other other_value object value other_named named (rank_turned (rank_of object value).first (rank_of other other_value).first (rank_of object value).second (rank_of other other_value).second (sym is)) in
     sym (places_total.antisymm (object, value) (other, other_value) ∙ ap ordering_reverse turned)
+
+-- ---- a text that is shorter than its rank is told by it
+
+from_fits : (n i : ℕ) (xs : List ℕ) → ((k : ℕ) → k < i + n → slice_index xs k < 256) → big_from i n xs < 256 ^ n
+from_fits zero i xs bytes = omega arith
+from_fits (suc n) i xs bytes = omega (arith, mul-add-lt (slice_index xs i) (256 ^ n) (big_from (suc i) n xs) 256 (bytes i (omega arith)) (from_fits n (suc i) xs (λ k below. bytes k (omega (arith, below)))))
+
+-- numbers that are one are made of the same bytes
+same_from : (n i : ℕ) (xs ys : List ℕ) → ((k : ℕ) → k < i + n → slice_index xs k < 256) → ((k : ℕ) → k < i + n → slice_index ys k < 256) → big_from i n xs ≡ big_from i n ys
+    → (k : ℕ) → i ≤ k → k < i + n → slice_index xs k ≡ slice_index ys k
+same_from zero i xs ys bx by same k from below = absurd (omega (arith, from, below))
+same_from (suc n) i xs ys bx by same k from below =
+    let rx : (k : ℕ) → k < suc i + n → slice_index xs k < 256 = λ k below. bx k (omega (arith, below)) in
+    let ry : (k : ℕ) → k < suc i + n → slice_index ys k < 256 = λ k below. by k (omega (arith, below)) in
+    let both = same_from_place (slice_index xs i) (big_from (suc i) n xs) (slice_index ys i) (big_from (suc i) n ys) (256 ^ n) (from_fits n (suc i) xs rx) (from_fits n (suc i) ys ry) same in
+    elim (cases_lt i k) [
+      | inl behind ↦ same_from n (suc i) xs ys rx ry both.1 k (omega (arith, behind)) (omega (arith, below))
+      | inr le ↦
+          let here : i ≡ k = omega (arith, from, le) in
+          subst (λ k. slice_index xs k ≡ slice_index ys k) here both.0
+    ]
+
+-- so texts of one rank have the same first bytes
+same_fronts : (xs ys : List ℕ) → Bytes 32 xs → Bytes 32 ys → big_number 16 xs ≡ big_number 16 ys → big_number 16 (drop 16 xs) ≡ big_number 16 (drop 16 ys)
+    → (i : ℕ) → i < 32 → slice_index xs i ≡ slice_index ys i
+same_fronts xs ys bx by first second i l =
+    elim (cases_lt i 16) [
+      | inl before ↦ same_from 16 0 xs ys (front xs bx) (front ys by) first i (omega arith) before
+      | inr past ↦
+          let at : 16 + (i - 16) ≡ i = omega (arith, past) in
+          let behind = same_from 16 0 (drop 16 xs) (drop 16 ys) (back xs bx) (back ys by) second (i - 16) (omega arith) (omega (arith, l)) in
+          subst (λ k. slice_index xs k ≡ slice_index ys k) at (sym (get_or-drop 16 xs (i - 16) 0) ∙ behind ∙ get_or-drop 16 ys (i - 16) 0)
+    ]
+
+value_byte_is_some : (b : ℕ) → is_value_byte b ≡ true → 0 < b
+value_byte_is_some b t = grind arith
+
+value_bytes : (bytes : List ℕ) → IsTrue (is_value bytes) → list_all is_value_byte bytes ≡ true
+value_bytes bytes valid = (and_parts _ _ (and_parts _ _ valid).0).1
+
+not_empty : (bytes : List ℕ) → IsTrue (is_value bytes) → [] ≡ bytes → ⊥
+not_empty bytes valid none = false≢true (subst (λ v. IsTrue (is_value v)) (sym none) valid)
+
+-- the first byte 0 ends a key, and what stands behind it is alike
+keys_tied : (xs ys us vs : List ℕ) (n : ℕ) → list_all is_key_byte xs ≡ true → list_all is_key_byte ys ≡ true → length (ys ++ 0 ∷ vs) < n → ((i : ℕ) → i < n → slice_index (xs ++ 0 ∷ us) i ≡ slice_index (ys ++ 0 ∷ vs) i)
+    → (xs ≡ ys) × ((i : ℕ) → i ≤ length vs → slice_index us i ≡ slice_index vs i)
+keys_tied xs ys us vs zero kx ky less same = absurd (omega (arith, less))
+keys_tied [] [] us vs (suc n) kx ky less same = (refl, λ i le. same (suc i) (omega (arith, le, less)))
+keys_tied [] (y ∷ ys) us vs (suc n) kx ky less same = absurd (omega (arith, same 0 (omega arith), key_byte_is_some y (and_parts _ _ ky).0))
+keys_tied (x ∷ xs) [] us vs (suc n) kx ky less same = absurd (omega (arith, same 0 (omega arith), key_byte_is_some x (and_parts _ _ kx).0))
+keys_tied (x ∷ xs) (y ∷ ys) us vs (suc n) kx ky less same =
+    let first : x ≡ y = same 0 (omega arith) in
+    let rest = keys_tied xs ys us vs n (and_parts _ _ kx).1 (and_parts _ _ ky).1 (omega (arith, less)) (λ i l. same (suc i) (omega (arith, l))) in
+    (λ j. first j ∷ rest.0 j, rest.1)
+
+-- and so does a byte 0, or the end, a value
+bytes_tied : (us vs : List ℕ) → list_all is_value_byte us ≡ true → list_all is_value_byte vs ≡ true → ((i : ℕ) → i ≤ length vs → slice_index us i ≡ slice_index vs i) → us ≡ vs
+bytes_tied [] [] bu bv same = refl
+bytes_tied [] (v ∷ vs) bu bv same = absurd (omega (arith, same 0 (omega arith), value_byte_is_some v (and_parts _ _ bv).0))
+bytes_tied (u ∷ us) [] bu bv same = absurd (omega (arith, same 0 (omega arith), value_byte_is_some u (and_parts _ _ bu).0))
+bytes_tied (u ∷ us) (v ∷ vs) bu bv same = λ j. same 0 (omega arith) j ∷ bytes_tied us vs (and_parts _ _ bu).1 (and_parts _ _ bv).1 (λ i le. same (suc i) (omega (arith, le))) j
+
+-- a value isn't empty, so it differs from none
+values_tied : (value other : Option (List ℕ)) → ForSome value (λ v. IsTrue (is_value v)) → ForSome other (λ v. IsTrue (is_value v))
+    → ((i : ℕ) → i ≤ length (unwrap_or other []) → slice_index (unwrap_or value []) i ≡ slice_index (unwrap_or other []) i) → value ≡ other
+values_tied None None v w same = refl
+values_tied None (Some ys) v w same = absurd (not_empty ys (w ys refl) (bytes_tied [] ys refl (value_bytes ys (w ys refl)) same))
+values_tied (Some xs) None v w same = absurd (not_empty xs (v xs refl) (sym (bytes_tied xs [] (value_bytes xs (v xs refl)) refl same)))
+values_tied (Some xs) (Some ys) v w same = ap Some (bytes_tied xs ys (value_bytes xs (v xs refl)) (value_bytes ys (w ys refl)) same)
+
+both_equal : (a b : Ordering) → ordering_then a b ≡ Equal → (a ≡ Equal) × (b ≡ Equal)
+both_equal Less b t = cc
+both_equal Equal b t = (refl, t)
+both_equal Greater b t = cc
+
+-- an item ties with another where their ranks are one and the other's text is shorter than a rank
+pub ranks_tie : (object : ObjectId) (value : Option (List ℕ)) (other : ObjectId) (other_value : Option (List ℕ)) → IsNamed object value → IsNamed other other_value
+    → rank_cmp (rank_of object value) (rank_of other other_value) ≡ Equal → length (item_text other other_value) < 32 → item_cmp object value other other_value ≡ Equal
+ranks_tie object value other other_value named other_named tied short =
+    let xs = item_text object value in
+    let ys = item_text other other_value in
+    let both = both_equal (nat_cmp (big_number 16 xs) (big_number 16 ys)) (nat_cmp (big_number 16 (drop 16 xs)) (big_number 16 (drop 16 ys))) tied in
+    let alike = same_fronts xs ys named.bytes other_named.bytes (nat_equal (big_number 16 xs) (big_number 16 ys) both.0) (nat_equal (big_number 16 (drop 16 xs)) (big_number 16 (drop 16 ys)) both.1) in
+    let kinds : kind_place object.kind ≡ kind_place other.kind = alike 0 (omega arith) in
+    let keys = keys_tied object.key other.key (unwrap_or value []) (unwrap_or other_value []) 31 (and_parts _ _ named.key).1 (and_parts _ _ other_named.key).1 (omega (arith, short)) (λ i l. alike (suc i) (omega (arith, l))) in
+    let values = values_tied value other_value named.valid other_named.valid keys.1 in
+    (λ j. ordering_then (ordering_then (nat_cmp (kind_place object.kind) (sym kinds j)) (text_cmp object.key (sym keys.0 j))) (option_cmp text_cmp value (sym values j)))
+    ∙ tied_itself places_total (object, value)
 
 -- ---- a text that is written into zeros
 
@@ -232,12 +325,16 @@ written old bytes ys place fits is alike i =
     get_or-append_right front rest end i 0 all past ∙ get_or-drop end old (i - end) 0 ∙ alike (end + (i - end)) ∙ get_or_past ys (end + (i - end)) 0 (omega (arith, is))
     ∙ sym (get_or_past (ys ++ bytes) i 0 (omega (arith, whole, past))))
 
--- a zero at the end changes nothing
-pub spaced : (ys : List ℕ) → Alike ys (ys ++ 0 ∷ [])
-spaced [] zero = refl
-spaced [] (suc i) = refl
-spaced (y ∷ ys) zero = refl
-spaced (y ∷ ys) (suc i) = spaced ys i
+pub all_zeros : (n i : ℕ) → slice_index (replicate n 0) i ≡ 0
+all_zeros zero i = refl
+all_zeros (suc n) zero = refl
+all_zeros (suc n) (suc i) = all_zeros n i
+
+-- zeros at the end change nothing
+spaced : (ys zeros : List ℕ) → ((i : ℕ) → slice_index zeros i ≡ 0) → Alike (ys ++ zeros) ys
+spaced [] zeros none i = none i
+spaced (y ∷ ys) zeros none zero = refl
+spaced (y ∷ ys) zeros none (suc i) = spaced ys zeros none i
 
 -- the first bytes of what comes last are enough for as many of all
 pub enough : (xs ys : List ℕ) (n i : ℕ) → i < n → slice_index (xs ++ take (min (length ys) n) ys) i ≡ slice_index (xs ++ ys) i
@@ -249,25 +346,24 @@ enough (x ∷ xs) ys n (suc i) l = enough xs ys n i (omega (arith, l))
 pub key_fits : (key : List ℕ) → IsTrue (is_key key) → length key ≤ 32
 key_fits key valid = grind arith
 
-pub all_zeros : (n i : ℕ) → slice_index (replicate n 0) i ≡ 0
-all_zeros zero i = refl
-all_zeros (suc n) zero = refl
-all_zeros (suc n) (suc i) = all_zeros n i
+-- a text of zeros into which a kind's place and a key with zeros behind it are written
+pub named_text : (zeros : List ℕ) (byte : ℕ) (key wide : List ℕ) → length zeros ≡ 66 → ((i : ℕ) → slice_index zeros i ≡ 0) → wide ≡ key ++ replicate (32 - length key) 0
+    → Alike (put_mid 1 32 (slice_set zeros 0 byte) wide) (byte ∷ key)
+named_text [] byte key wide long none is i = absurd (omega (arith, long))
+named_text (z ∷ zs) byte key wide long none is zero = refl
+named_text (z ∷ zs) byte key wide long none is (suc i) =
+    let behind = replicate (32 - length key) 0 in
+    ap (λ xs. slice_index (xs ++ drop 32 zs) i) is ∙ spaced (key ++ behind) (drop 32 zs) (λ k. get_or-drop 32 zs k 0 ∙ none (suc (32 + k))) i ∙ spaced key behind (all_zeros (32 - length key)) i
 
--- zeros with one byte set at the start
-started : (zeros : List ℕ) (byte : ℕ) → 0 < length zeros → ((i : ℕ) → slice_index zeros i ≡ 0) → Alike (slice_set zeros 0 byte) (byte ∷ [])
-started [] byte some none i = absurd (omega arith)
-started (z ∷ zs) byte some none zero = refl
-started (z ∷ zs) byte some none (suc i) = none (suc i)
+-- it is as long as it was
+pub named_long : (zeros : List ℕ) (byte : ℕ) (wide : List ℕ) → length zeros ≡ 66 → length wide ≡ length (take 32 (drop 1 (slice_set zeros 0 byte))) → length (put_mid 1 32 (slice_set zeros 0 byte) wide) ≡ 66
+named_long zeros byte wide long fits = same_len_mid 1 32 (slice_set zeros 0 byte) wide fits ∙ length-set zeros 0 byte ∙ long
 
--- a text of zeros into which a kind's place and a key are written
-pub named_text : (zeros : List ℕ) (byte : ℕ) (key text : List ℕ) → length zeros ≡ 66 → ((i : ℕ) → slice_index zeros i ≡ 0) → length key ≤ 32
-    → text ≡ (take 1 (slice_set zeros 0 byte) ++ key) ++ drop (1 + length key) (slice_set zeros 0 byte) → Alike text (byte ∷ key)
-named_text zeros byte key text long none short is =
-    subst (λ xs. Alike xs (byte ∷ key)) (sym is)
-    (written (slice_set zeros 0 byte) key (byte ∷ []) 1 (omega (arith, short, long, length-set zeros 0 byte)) refl (started zeros byte (omega (arith, long)) none))
+-- with no value it is the item's
+pub unvalued_text : (key text : List ℕ) (byte : ℕ) → Alike text (byte ∷ key) → Alike text (byte ∷ key ++ 0 ∷ [])
+unvalued_text key text byte alike i = alike i ∙ sym (spaced (byte ∷ key) (0 ∷ []) (all_zeros 1) i)
 
--- and a value behind these
+-- and with one that is written behind these
 pub valued_text : (old text key value : List ℕ) (byte : ℕ) → length old ≡ 66 → length key ≤ 32 → Alike old (byte ∷ key)
     → text ≡ (take (length key + 2) old ++ take (min (length value) 32) value) ++ drop (length key + 2 + length (take (min (length value) 32) value)) old
     → (i : ℕ) → i < 32 → slice_index text i ≡ slice_index (byte ∷ key ++ 0 ∷ value) i
@@ -276,5 +372,5 @@ valued_text old text key value byte long short alike is i l =
     let some = take (min (length value) 32) value in
     let few : length some ≤ 32 = omega (arith, length-take-le (min (length value) 32) value (omega arith)) in
     let is_long : length ys ≡ length key + 2 = omega (arith, length-append key (0 ∷ [])) in
-    let whole = written old some ys (length key + 2) (omega (arith, long, short, few)) is_long (λ k. alike k ∙ spaced (byte ∷ key) k) i in
+    let whole = written old some ys (length key + 2) (omega (arith, long, short, few)) is_long (unvalued_text key old byte alike) i in
     ap (λ xs. slice_index xs i) is ∙ whole ∙ enough ys value 32 i l ∙ ap (λ xs. slice_index (byte ∷ xs) i) (append_assoc key (0 ∷ []) value)

@@ -1,9 +1,10 @@
 -- Ranks: the first bytes of an item's text as numbers.
 use Rattle.std.specs.Prelude.{ℕ, ◌<◌, List, [], ◌∷◌, ◌++◌, Option, unwrap_or, drop, slice_index, IsTrue}
+use Rattle.std.specs.Option.{ForSome}
 use Rattle.std.specs.Ordering.{ordering_then, nat_cmp}
 use Rattle.std.specs.declared.cmp.Ordering.{Ordering}
 use Rattle.byteorder.specs.Endian.{big_number}
-use Rattle.op_base.specs.Name.{is_key}
+use Rattle.op_base.specs.Name.{is_key, is_value}
 use Rattle.op_base.specs.Object.{kind_place}
 use Rattle.op_base.specs.declared.name.ObjectId.{ObjectId}
 use Rattle.stable_state.specs.declared.rank.Rank.{Rank}
@@ -20,7 +21,8 @@ rank_of object value = record { first = big_number 16 (item_text object value); 
 abbrev pub rank_cmp : Rank → Rank → Ordering
 rank_cmp rank other = ordering_then (nat_cmp rank.first other.first) (nat_cmp rank.second other.second)
 
--- an object has a key that is one, and the first bytes of its item's text are bytes
+-- an object has a key that is one, a value is one, and the first bytes of its item's text are bytes
 pub record IsNamed (object : ObjectId) (value : Option (List ℕ)) : Type 0 where
   pub key : IsTrue (is_key object.key)
+  pub valid : ForSome value (λ v. IsTrue (is_value v))
   pub bytes : (i : ℕ) → i < 32 → slice_index (item_text object value) i < 256

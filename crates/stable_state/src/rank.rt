@@ -1,11 +1,13 @@
 //! Items with their ranks: numbers that tell most items apart without a look at their names.
 //!
 //! That the first bytes of a name are kept as a number beside it, so that most steps of a search compare two numbers, is a
-//! textbook rule.
+//! textbook rule. A text that is so short that the rank has all of it, and a zero behind it, is told by its rank alone: no
+//! other item has this rank.
 
-ghost use Rattle.std.specs.Prelude.{◌≡◌, ℕ, ◌/◌, ◌%◌, ◌^◌, ◌≤◌, ◌<◌, IfOk, IsTrue, option_copied, slice_index, length, take, drop, ◌+◌, ◌++◌, ◌∷◌, []};
+ghost use Rattle.std.specs.Prelude.{◌≡◌, ℕ, ◌/◌, ◌%◌, ◌^◌, ◌≤◌, ◌<◌, nat_lt, IfOk, IsTrue, option_copied, slice_index, length, take, drop, ◌+◌, ◌++◌, ◌∷◌, []};
+ghost use Rattle.std.specs.Option.{ForSome};
 ghost use Rattle.std.specs.Ordering.{nat_cmp};
-ghost use Rattle.op_base.specs.Name.{is_key};
+ghost use Rattle.op_base.specs.Name.{is_key, is_value};
 ghost use Rattle.op_base.specs.Object.{kind_place};
 ghost use Rattle.op_base.specs.Order.{item_cmp};
 ghost use Rattle.byteorder.specs.Endian.{big_number};
@@ -25,7 +27,8 @@ const RANK_BYTES: usize = 32;
 const TEXT_BYTES: usize = MOST_KEY_BYTES + RANK_BYTES + 2;
 
 /// The first 32 bytes of an item's text, as two numbers of 16 bytes each: the place of its kind, its key, a byte 0, and its
-/// value. Items stand in the order of their ranks, as far as these differ.
+/// value. Items stand in the order of their ranks, as far as these differ. Behind a text that is shorter stand zeros. Neither
+/// a key nor a value has a byte 0, so two items of one rank are one, where the text of either is shorter.
 #[derive(Clone, Copy, Drop)]
 pub struct Rank {
     first: u128,
@@ -81,6 +84,18 @@ impl<'a> Sought<'a> {
     {
         self.rank
     }
+
+    /// Whether the rank has the item's whole text, and a zero behind it: then it tells all.
+    fn is_short(&self) -> bool
+        ensures { result ≡ nat_lt (length (item_text self.now.object.now (option_copied self.now.value))) 32 }
+    {
+        let key_len = self.object.key.as_slice().len();
+        let value_len = match self.value {
+            Some(value) => value.as_slice().len(),
+            None => 0,
+        };
+        key_len + value_len + 2 < RANK_BYTES
+    }
 }
 
 impl Ranked {
@@ -106,6 +121,7 @@ impl Ranked {
         ensures { result ≡ item_cmp self.now.object self.now.value sought.now.object.now (option_copied sought.now.value) }
     {
         match rank_order(self.rank, sought.rank) {
+            Ordering::Equal if sought.is_short() => Ordering::Equal,
             Ordering::Equal => self.name_order(sought),
             unequal => unequal,
         }
@@ -214,11 +230,12 @@ fn rank_in(text: &[u8]) -> Rank
 fn front_of(object: &ObjectId, value: Option<&Value>) -> [u8; TEXT_BYTES]
     ensures front { (i : ℕ) → i < 32 → slice_index result i ≡ slice_index (item_text object.now (option_copied value.entry)) i }
     ensures key { IsTrue (is_key object.now.key) }
+    ensures value { ForSome (option_copied value.entry) (λ v. IsTrue (is_value v)) }
 {
     let key = object.key.as_slice();
     let mut text = zeros();
     text[0] = place_of_kind(object.kind);
-    write_at(&mut text, 1, key);
+    text[1..1 + MOST_KEY_BYTES].copy_from_slice(object.key.padded());
     if let Some(value) = value {
         let bytes = value.as_slice();
         let len = bytes.len().min(RANK_BYTES);

@@ -1,26 +1,30 @@
-use Rattle.std.proofs.Common.{◌≡◌, ◌+◌, [], ◌∷◌, ◌++◌, length, take, drop, sym, ap, subst, ◌∙◌}
-use Rattle.std.specs.Prelude.{option_copied, unwrap_or, slice_index, IsTrue}
-use Rattle.op_base.specs.Name.{is_key}
-use Rattle.stable_state.proofs.Ranks.{spaced, key_fits, named_text, valued_text}
+use Rattle.std.proofs.Common.{◌+◌, [], ◌∷◌, ◌++◌, length, take, drop, sym, ap, ◌∙◌}
+use Rattle.std.specs.Prelude.{option_copied, unwrap_or, slice_index, slice_set}
+use borrow.Rule.Slice.PartMut.{put_mid}
+use Rattle.stable_state.proofs.Ranks.{key_fits, named_text, named_long, unvalued_text, valued_text}
 use Rattle.stable_state.proofs.rank.front_of.Goals as goal
 
 pub returns-in-Some-clause-front : goal.returns-in-Some-clause-front
 returns-in-Some-clause-front c =
-    let key = c.as_slice-key.result.now in
+    let key = c.args.object.now.key in
     let place = c.place_of_kind.result in
-    let value = c.as_slice-bytes.result.now in
-    let short = key_fits key (subst (λ k. IsTrue (is_key k)) (sym c.as_slice-key.ensures.bytes) c.as_slice-key.ensures.valid) in
-    let first = named_text c.zeros-text.result place key c.write_at.new.text c.zeros-text.ensures.len c.zeros-text.ensures.each short c.write_at.ensures in
+    let wide = c.copy_from_slice.new.self in
+    let old = put_mid 1 32 (slice_set c.zeros-text.result 0 place) wide in
+    let bytes = c.as_slice-bytes.result.now in
+    let named = named_text c.zeros-text.result place key wide c.zeros-text.ensures.len c.zeros-text.ensures.each (c.copy_from_slice.ensures.after ∙ c.padded.ensures) in
+    let long = named_long c.zeros-text.result place wide c.zeros-text.ensures.len c.copy_from_slice.ensures.len in
+    let written =
+    c.write_at.ensures
+    ∙ (λ j. (take (length (c.as_slice-key.ensures.bytes j) + 2) old ++ take (c.min-len.ensures j) bytes) ++ drop (length (c.as_slice-key.ensures.bytes j) + 2 + length (take (c.min-len.ensures j) bytes)) old) in
     λ i l.
-    valued_text c.write_at.new.text c.write_at-in-Some.new.text key value place c.write_at.array_long short first
-    (subst (λ n. c.write_at-in-Some.new.text ≡ (take (length key + 2) c.write_at.new.text ++ take n value) ++ drop (length key + 2 + length (take n value)) c.write_at.new.text) c.min-len.ensures c.write_at-in-Some.ensures) i l
-    ∙ (λ j. slice_index (c.place_of_kind.ensures j ∷ (c.as_slice-key.ensures.bytes j ++ 0 ∷ (c.as_slice-bytes.ensures.bytes ∙ ap (λ value. unwrap_or (option_copied value) []) (sym c.in-Some.is)) j)) i)
+    valued_text old c.write_at.new.text key bytes place long (key_fits key c.as_slice-key.ensures.valid) named written i l
+    ∙ (λ j. slice_index (c.place_of_kind.ensures j ∷ (key ++ 0 ∷ (c.as_slice-bytes.ensures.bytes ∙ ap (λ value. unwrap_or (option_copied value) []) (sym c.in-Some.is)) j)) i)
 
 pub returns-in_default-clause-front : goal.returns-in_default-clause-front
 returns-in_default-clause-front c = λ i l.
-    let key = c.as_slice-key.result.now in
+    let key = c.args.object.now.key in
     let place = c.place_of_kind.result in
-    let short = key_fits key (subst (λ k. IsTrue (is_key k)) (sym c.as_slice-key.ensures.bytes) c.as_slice-key.ensures.valid) in
-    let first = named_text c.zeros-text.result place key c.write_at.new.text c.zeros-text.ensures.len c.zeros-text.ensures.each short c.write_at.ensures in
-    first i ∙ spaced (place ∷ key) i
-    ∙ (λ j. slice_index (c.place_of_kind.ensures j ∷ (c.as_slice-key.ensures.bytes j ++ 0 ∷ unwrap_or (option_copied (sym c.in_default.is j)) [])) i)
+    let wide = c.copy_from_slice.new.self in
+    let named = named_text c.zeros-text.result place key wide c.zeros-text.ensures.len c.zeros-text.ensures.each (c.copy_from_slice.ensures.after ∙ c.padded.ensures) in
+    unvalued_text key (put_mid 1 32 (slice_set c.zeros-text.result 0 place) wide) place named i
+    ∙ (λ j. slice_index (c.place_of_kind.ensures j ∷ (key ++ 0 ∷ unwrap_or (option_copied (sym c.in_default.is j)) [])) i)

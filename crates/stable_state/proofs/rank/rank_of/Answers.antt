@@ -11,6 +11,7 @@ returns c =
       rank = λ i. record { first = (c.rank_in.ensures.first ∙ alike.0) i; second = (c.rank_in.ensures.second ∙ alike.1) i };
       named = record {
         key = c.front_of.ensures.key;
+        valid = c.front_of.ensures.value;
         bytes = λ i l. subst (λ b. b < 256) (c.front_of.ensures.front i l) (c.rank_in.ensures.bytes i);
       };
     }
