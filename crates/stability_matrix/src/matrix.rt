@@ -63,7 +63,17 @@ impl Matrix {
         ensures entries { length result ≡ length self.now.rows }
         ensures known { (n me : ℕ) (messages : List Message) → IsMatrixOf n me messages self.now → result ≡ known_vector n me messages y }
     {
-        self.rows[y as usize]
+        *self.row_at(y)
+    }
+
+    /// The same, where it stands.
+    pub fn row_at(&self, y: u8) -> &Tag
+        requires { y < length self.now.rows }
+        ensures row { result.now ≡ row_of self.now.rows y }
+        ensures entries { length result.now ≡ length self.now.rows }
+        ensures known { (n me : ℕ) (messages : List Message) → IsMatrixOf n me messages self.now → result.now ≡ known_vector n me messages y }
+    {
+        &self.rows[y as usize]
     }
 
     /// Notes a message of another member: its row becomes the timestamp, and the own row's entry at it the message's number.
@@ -75,22 +85,22 @@ impl Matrix {
         ensures members { length self.new.rows ≡ length self.old.rows }
         ensures known { KeepsKnown origin tag self.old self.new }
     {
-        let stable = self.stable_after(origin, tag);
-        self.note_with(origin, tag, stable);
+        let stable = self.stable_with(origin, &tag);
+        self.note_with(origin, &tag, &stable);
     }
 
-    /// As `note`, where it is known what `stable_after` gives: no least is computed.
-    pub fn note_with(&mut self, origin: u8, tag: Tag, stable: Tag)
+    /// As `note`, where it is known what `stable_with` gives: no least is computed.
+    pub fn note_with(&mut self, origin: u8, tag: &Tag, stable: &Tag)
         requires origin { origin < length self.old.rows }
         requires other { origin ≢ self.old.me }
-        requires entries { length tag ≡ length self.old.rows }
-        requires stable { stable ≡ stable_of (noted self.old.me origin tag self.old.rows) }
-        ensures noted { self.new ≡ record { me = self.old.me; rows = noted self.old.me origin tag self.old.rows } }
+        requires entries { length tag.now ≡ length self.old.rows }
+        requires stable { stable.now ≡ stable_of (noted self.old.me origin tag.now self.old.rows) }
+        ensures noted { self.new ≡ record { me = self.old.me; rows = noted self.old.me origin tag.now self.old.rows } }
         ensures members { length self.new.rows ≡ length self.old.rows }
-        ensures known { KeepsKnown origin tag self.old self.new }
+        ensures known { KeepsKnown origin tag.now self.old self.new }
     {
-        note_in(&mut self.rows[..self.n as usize], self.me, origin, &tag);
-        self.stable = stable;
+        note_in(&mut self.rows[..self.n as usize], self.me, origin, tag);
+        self.stable = *stable;
     }
 
     /// Notes an own message: the own row becomes the timestamp.
@@ -112,6 +122,14 @@ impl Matrix {
         self.stable
     }
 
+    /// The same, where they stand.
+    pub fn stable_counts(&self) -> &Tag
+        ensures least { result.now ≡ stable_of self.now.rows }
+        ensures known { (n me : ℕ) (messages : List Message) → IsMatrixOf n me messages self.now → result.now ≡ stable_vector n me messages }
+    {
+        &self.stable
+    }
+
     /// What `stable` gives after `note` with the same arguments.
     pub fn stable_after(&self, origin: u8, tag: Tag) -> Tag
         requires origin { origin < length self.now.rows }
@@ -120,12 +138,23 @@ impl Matrix {
         ensures least { result ≡ stable_of (noted self.now.me origin tag self.now.rows) }
         ensures known { StableAfter origin tag self.now result }
     {
-        if self.keeps_least(origin, &tag) {
+        self.stable_with(origin, &tag)
+    }
+
+    /// The same of a timestamp where it stands.
+    pub fn stable_with(&self, origin: u8, tag: &Tag) -> Tag
+        requires origin { origin < length self.now.rows }
+        requires other { origin ≢ self.now.me }
+        requires entries { length tag.now ≡ length self.now.rows }
+        ensures least { result ≡ stable_of (noted self.now.me origin tag.now self.now.rows) }
+        ensures known { StableAfter origin tag.now self.now result }
+    {
+        if self.keeps_least(origin, tag) {
             return self.stable;
         }
         let mut rows = self.rows;
         let rows = &mut rows[..self.n as usize];
-        note_in(rows, self.me, origin, &tag);
+        note_in(rows, self.me, origin, tag);
         least_of(rows)
     }
 

@@ -3,7 +3,7 @@ use Rattle.std.proofs.lemmas.List.{get_or_default, get_or-take}
 use Rattle.stability_matrix.specs.Fields.{rows_of}
 use Rattle.stability_matrix.specs.Rows.{row_of}
 use Rattle.stability_matrix.proofs.Standing.{get_or-known, length-known}
-use Rattle.stability_matrix.proofs.matrix.Matrix.row.Goals as goal
+use Rattle.stability_matrix.proofs.matrix.Matrix.row_at.Goals as goal
 
 pub returns-clause-known : goal.returns-clause-known
 returns-clause-known c = λ n me messages stands.
