@@ -10,7 +10,7 @@ use Rattle.causal_model.specs.Counts.{is_deliverable}
 use Rattle.causal_model.proofs.States.Early.{IsDeliverable-from_test, test-from_IsDeliverable}
 
 -- that a message fits, in parts
-fits_store : (n : ℕ) (m : Message) → IsTrue (fits n m) → (length m.tag ≡ n) × (0 < number m)
+pub fits_store : (n : ℕ) (m : Message) → IsTrue (fits n m) → (length m.tag ≡ n) × (0 < number m)
 fits_store n m t =
     let outer = and_parts ((length m.tag == n) && nat_lt m.origin n) (nat_lt 0 (number m)) t in
     (eqb-true (length m.tag) n (and_parts (length m.tag == n) (nat_lt m.origin n) outer.0).0, ltb-true 0 (number m) outer.1)

@@ -1,10 +1,10 @@
 -- The queues that a buffer keeps, after an edit of one of them, and what is next.
-use Rattle.std.proofs.Common.{◌≡◌, ◌≢◌, ℕ, ◌+◌, ◌^◌, ◌<◌, ◌≤◌, Bool, true, false, not, cond, ◌&&◌, ◌==◌, nat_lt, IsTrue, All, List, [], ◌∷◌, ◌++◌, length, get_or, set, refl, sym, ap, subst, ◌∙◌, inl, inr, Option, Some, None, Bor, arith}
+use Rattle.std.proofs.Common.{◌≡◌, ◌≢◌, ℕ, ◌+◌, ◌-◌, ◌^◌, ◌<◌, ◌≤◌, Bool, true, false, not, cond, ◌&&◌, ◌==◌, ◌↔◌, nat_lt, IsTrue, All, List, [], ◌∷◌, ◌++◌, length, get_or, set, refl, sym, ap, subst, ◌∙◌, inl, inr, Option, Some, None, Bor, arith}
 use Rattle.std.specs.List.{find, list_any, flat_map}
-use Rattle.std.specs.Option.{is_some, option_map, option_copied, option_to_list}
+use Rattle.std.specs.Option.{is_some, is_none, option_map, option_copied, option_to_list, IfSome, IfNone}
 use Rattle.std.specs.Bool.{then_some}
 use Rattle.std.specs.Int.{from_bool}
-use Rattle.std.proofs.lemmas.Bool.{and_left, and_right, and_parts, or_left, or_from, lt-ltb, le-ltb, cases_eq, false≢true, false_from_ne_true, ne_eqb, eq-eqb, eqb-true, not-true}
+use Rattle.std.proofs.lemmas.Bool.{and_left, and_right, and_parts, or_left, or_from, lt-ltb, le-ltb, cases_eq, cases_order, false≢true, false_from_ne_true, ne_eqb, eq-eqb, eqb-true, not-true}
 use Rattle.std.proofs.lemmas.List.{get_or_default, get_or-set_same, get_or-set_other, length-set, length-append, get_or_append_left}
 use Rattle.std.proofs.Math.Seq.{get_or-append_seam}
 use Rattle.std.proofs.lemmas.List.Elements.{All-nil, All-cons, All-head, All-tail, All-filter, filter_passes}
@@ -17,12 +17,14 @@ use Rattle.causal_model.specs.Stability.{noop_window}
 use Rattle.causal_model.specs.Receiving.{is_far}
 use Rattle.causal_model.specs.Early.{is_again, stands_before, put_early, has_id, without}
 use Rattle.causal_model.proofs.States.Early.{All-put_early, IsNear-from_test, IsDeliverable-from_test}
-use Rattle.causal_model.proofs.Theory.Finds.{none_found}
+use Rattle.causal_model.proofs.Theory.Finds.{found, none_found, none_passes}
 use Rattle.causal_buffer.specs.Buffer.{AreAhead, AreNear, IsNextId}
 use Rattle.causal_buffer.specs.declared.queue.Queue.{Queue}
-use Rattle.causal_buffer.specs.Queue.{messages, IsQueue, AreWithin, IsKept, AreKept, AreQueues, is_ready}
-use Rattle.causal_buffer.proofs.Places.{has, all_at, standing_few, find_of_id}
-use Rattle.causal_buffer.proofs.Parts.{All-flat, All-part, any_is_found, IsPartFor, FailElsewhere, find_flat, without_flat, put_flat, first_flat, none_flat, length-flat}
+use Rattle.causal_buffer.specs.declared.queue.Wait.{Wait}
+use Rattle.causal_buffer.specs.Row.{Row}
+use Rattle.causal_buffer.specs.Queue.{messages, standing, ArePlaces, WaitsFor, AreWaiting, IsQueue, AreWithin, IsKept, AreKept, AreQueues, is_ready, can_be_taken, AreUnready, IsLowest}
+use Rattle.causal_buffer.proofs.Places.{has, all_at, standing_few, find_of_id, length-taken, without_at, places_set}
+use Rattle.causal_buffer.proofs.Parts.{All-flat, All-part, any_is_found, IsPartFor, FailElsewhere, find_flat, without_flat, put_flat, first_flat, first_put, none_flat, length-flat, find-put_early}
 
 pub some_copied : {X : Type 0} (r : Option (Bor X)) → is_some r ≡ is_some (option_copied r)
 some_copied None = refl
@@ -81,11 +83,83 @@ next_is_told n counted id m can t same =
     elim can as (λ b. then_some b id ≡ option_map id_of (cond b (Some m) None)) [ true ↦ ap Some of | false ↦ refl ]
     ∙ ap (λ b. option_map id_of (cond b (Some m) None)) own
 
+pub can_be_told : (n : ℕ) (counted : List ℕ) (id : MessageId) (early : List Message) (can : Bool) → can ≡ can_be_taken n counted (find (has_id id) early)
+    → then_some can id ≡ option_map id_of (find (is_ready n counted id.origin) (option_to_list (find (has_id id) early)))
+can_be_told n counted id early can = by (find (has_id id) early) refl where
+  by : (o : Option Message) → find (has_id id) early ≡ o → can ≡ can_be_taken n counted o → then_some can id ≡ option_map id_of (find (is_ready n counted id.origin) (option_to_list o))
+  by None e same = ap (λ b. then_some b id) same
+  by (Some m) e same = next_is_told n counted id m can (found (has_id id) early m e).1 same
+
+-- what passes of at most one is that one
+found_is : (p : Message → Bool) (o : Option Message) → is_some (find p (option_to_list o)) ≡ true → find p (option_to_list o) ≡ o
+found_is p None e = refl
+found_is p (Some m) e = by (p m) e where
+  by : (b : Bool) → is_some (cond b (Some m) None) ≡ true → cond b (Some m) None ≡ Some m
+  by true f = refl
+  by false f = absurd (false≢true f)
+
+-- what is ready of the lowest member
+pub is_lowest : (end n member : ℕ) (counted : List ℕ) (early : List Message) (id : MessageId) → member < end → IsNextId n counted id → Some id ≡ option_map id_of (find (is_ready n counted member) early) → AreUnready member n counted early
+    → IsLowest end n counted early id
+is_lowest end n member counted early id below next ready unready =
+    let of : id.origin ≡ member = by (find (is_ready n counted member) early) refl ready in
+    record { below = omega (arith, below, of); next = next; ready = subst (λ x. Some id ≡ option_map id_of (find (is_ready n counted x) early)) (sym of) ready; lowest = subst (λ x. AreUnready x n counted early) (sym of) unready } where
+      by : (o : Option Message) → find (is_ready n counted member) early ≡ o → Some id ≡ option_map id_of o → id.origin ≡ member
+      by None e is = cc
+      by (Some m) e is =
+          let same : id ≡ id_of m = cc in
+          ap (λ (i : MessageId). i.origin) same ∙ eqb-true m.origin member (and_parts (m.origin == member) (is_deliverable n counted m) (found (is_ready n counted member) early m e).1).0
+
+-- ---- a message that isn't early is next once it is put among the early ones, where none of a lower member can be delivered
+
+module _ (n : ℕ) (counted : List ℕ) (m : Message) (early : List Message) (apart : is_again early m ≡ false) (can : is_deliverable n counted m ≡ true) (none : AreUnready m.origin n counted early) where
+  before_is_unready : (e : Message) → has_id (id_of m) e ≡ false → (e.origin < m.origin → is_ready n counted e.origin e ≡ false) → stands_before m e ≡ false → is_deliverable n counted e ≡ false
+  before_is_unready e other low not_before = false_from_ne_true (is_deliverable n counted e) (λ t. elim (cases_order e.origin m.origin) [
+    | inl same ↦
+        let numbers : number e ≡ number m = (IsDeliverable-from_test n counted e t).next ∙ ap (λ x. entry counted x + 1) same ∙ sym (IsDeliverable-from_test n counted m can).next in
+        false≢true (sym other ∙ has (id_of m) e same numbers)
+    | inr (inl below) ↦ false≢true (sym (low below) ∙ own_ready n e.origin counted e refl ∙ t)
+    | inr (inr above) ↦ false≢true (sym not_before ∙ stands_by_origin m e above)
+  ])
+
+  pub put_is_next : find (is_deliverable n counted) (put_early m early) ≡ Some m
+  put_is_next =
+      let others = none_passes (has_id (id_of m)) early (none_from (find (has_id (id_of m)) early) (sym (any_is_found (has_id (id_of m)) early) ∙ apart)) in
+      find-put_early (is_deliverable n counted) m early can (λ k d i.
+      let e = get_or early k d in
+      before_is_unready e (others k d i) (λ l. none_passes (is_ready n counted e.origin) early (none e.origin l) k d i))
+
 -- ---- one queue
 
 -- its messages are its member's
 pub queue_own : (member : ℕ) (q : Queue) → IsQueue member q → All (λ m. m.origin ≡ member) (messages q)
 queue_own member q is = All-flat option_to_list (λ m. m.origin ≡ member) q.places.items (λ k d l. all_at (λ m. m.origin ≡ member) (get_or q.places.items k d) (λ m e. is.are_places.own k m (get_or_default q.places.items k None d l ∙ e)))
+
+-- the next of them, looked for by its id
+pub queue_ready_by_id : (n : ℕ) (counted : List ℕ) (id : MessageId) (q : Queue) → IsQueue id.origin q → id.seq ≡ entry counted id.origin + 1
+    → find (is_ready n counted id.origin) (messages q) ≡ find (is_ready n counted id.origin) (option_to_list (find (has_id id) (messages q)))
+queue_ready_by_id n counted id q is e = find_of_id id.origin q.first q.places.items is.are_places id refl (is_ready n counted id.origin) (λ m ne. not_ready n id.origin counted m (λ same. ne (same ∙ sym e)))
+
+pub queue_none_ready : (n : ℕ) (counted : List ℕ) (member : ℕ) (q : Queue) → IsQueue member q → 2 ^ 32 ≤ entry counted member + 1 → find (is_ready n counted member) (messages q) ≡ None
+queue_none_ready n counted member q is high = none_found (is_ready n counted member) (messages q) (λ k d i. not_ready n member counted (get_or (messages q) k d) (λ same. omega (arith, same, high, is.small k d i)))
+
+-- once the message at a place is taken out
+module _ (id : MessageId) (q : Queue) (is : IsQueue id.origin q) (k : ℕ) (at : id.seq ≡ q.first + k) (row : Row) (left : row ≡ record q.places { items = set q.places.items k None }) where
+  pub left_in_queue : standing row.items ≡ without id (messages q)
+  left_in_queue = ap (λ (r : Row). standing r.items) left ∙ without_at id.origin q.first q.places.items is.are_places id refl k at
+
+  module _ (m : Message) (there : get_or q.places.items k None ≡ Some m) where
+    pub one_fewer : length (standing row.items) + 1 ≡ length (messages q)
+    one_fewer = omega (arith, length-taken q.places.items k m there, ap (λ (r : Row). length (standing r.items)) left)
+
+    pub taken_queue : IsQueue id.origin (record q { places = row; filled = q.filled - 1 })
+    taken_queue = record {
+      are_places = subst (λ (r : Row). ArePlaces id.origin q.first r.items) (sym left) (places_set id.origin q.first q.places.items is.are_places k None (λ m e. absurd (cc)));
+      within = omega (arith, ap (λ (r : Row). length r.items) left, length-set q.places.items k None, ap (λ (r : Row). r.room) left, is.within);
+      counted = omega (arith, one_fewer, is.counted);
+      small = subst (All (λ m. number m < 2 ^ 32)) (sym left_in_queue) (All-filter (λ m. not (has_id id m)) (λ m. number m < 2 ^ 32) (messages q) is.small);
+      waiting = subst (AreWaiting id.origin q.wait) (sym left_in_queue) (All-filter (λ m. not (has_id id m)) (WaitsFor id.origin q.wait) (messages q) is.waiting);
+    }
 
 -- some queue of queues
 one_of : (qs : List Queue) (x : ℕ) → x < length qs → Queue
@@ -107,25 +181,37 @@ module _ (n w : ℕ) where
       ]
 
   -- a queue with a message put into it, and one without a message
-  pub kept_put : (m : Message) (old new : Queue) → IsKept n w m.origin old → IsTrue (fits n m) → IsQueue m.origin new → messages new ≡ put_early m (messages old) → new.places.room ≡ old.places.room → IsKept n w m.origin new
-  kept_put m old new is fit queue e room = record {
+  pub kept_put : (m : Message) (old new : Queue) → IsKept n w m.origin old → IsTrue (fits n m) → IsQueue m.origin new → messages new ≡ put_early m (messages old) → new.places.room ≡ old.places.room → new.wait.member ≤ old.wait.member → IsKept n w m.origin new
+  kept_put m old new is fit queue e room waits = record {
     is_queue = queue;
     fit = subst (All (λ z. IsTrue (fits n z))) (sym e) (All-put_early (λ z. IsTrue (fits n z)) m (messages old) fit is.fit);
     room = room ∙ is.room;
+    wait = omega (arith, waits, is.wait);
   }
 
-  pub kept_without : (id : MessageId) (old new : Queue) → IsKept n w id.origin old → IsQueue id.origin new → messages new ≡ without id (messages old) → new.places.room ≡ old.places.room → IsKept n w id.origin new
-  kept_without id old new is queue e room = record {
+  pub kept_without : (id : MessageId) (old new : Queue) → IsKept n w id.origin old → IsQueue id.origin new → messages new ≡ without id (messages old) → new.places.room ≡ old.places.room → new.wait ≡ old.wait → IsKept n w id.origin new
+  kept_without id old new is queue e room same = record {
     is_queue = queue;
     fit = subst (All (λ z. IsTrue (fits n z))) (sym e) (All-filter (λ m. not (has_id id m)) (λ z. IsTrue (fits n z)) (messages old) is.fit);
     room = room ∙ is.room;
+    wait = subst (λ (wait : Wait). wait.member < n) (sym same) is.wait;
   }
 
-  pub kept_empty : (x : ℕ) (q : Queue) → IsQueue x q → messages q ≡ [] → q.places.room ≡ w + noop_window n w → IsKept n w x q
-  kept_empty x q queue e room = record {
+  pub kept_empty : (x : ℕ) (q : Queue) → IsQueue x q → messages q ≡ [] → q.places.room ≡ w + noop_window n w → q.wait.member < n → IsKept n w x q
+  kept_empty x q queue e room wait = record {
     is_queue = queue;
     fit = subst (All (λ z. IsTrue (fits n z))) (sym e) (All-nil (λ z. IsTrue (fits n z)));
     room = room;
+    wait = wait;
+  }
+
+  -- one of which only what is waited for is other
+  pub kept_waiting : (x : ℕ) (old new : Queue) → IsKept n w x old → IsQueue x new → new ≡ record old { wait = new.wait } → new.wait.member < n → IsKept n w x new
+  kept_waiting x old new is queue same wait = record {
+    is_queue = queue;
+    fit = subst (λ q. All (λ z. IsTrue (fits n z)) (messages q)) (sym same) is.fit;
+    room = ap (λ (q : Queue). q.places.room) same ∙ is.room;
+    wait = wait;
   }
 
   -- it has at most as many messages as it has room for
@@ -179,14 +265,12 @@ module _ (n w : ℕ) where
     pub ready_by_id : (counted : List ℕ) (id : MessageId) (q : Queue) → id.origin < length qs → q ≡ get_or qs id.origin q → id.seq ≡ entry counted id.origin + 1
         → find (is_ready n counted id.origin) (flat_map messages qs) ≡ find (is_ready n counted id.origin) (option_to_list (find (has_id id) (messages q)))
     ready_by_id counted id q l at e =
-        ready_in_queue qs q kept counted id.origin l ∙ ap (λ z. find (is_ready n counted id.origin) (messages z)) (sym at)
-        ∙ find_of_id id.origin q.first q.places.items (kept_at id.origin q l at).is_queue.are_places id refl (is_ready n counted id.origin) (λ m ne. not_ready n id.origin counted m (λ same. ne (same ∙ sym e)))
+        ready_in_queue qs q kept counted id.origin l ∙ ap (λ z. find (is_ready n counted id.origin) (messages z)) (sym at) ∙ queue_ready_by_id n counted id q (kept_at id.origin q l at).is_queue e
 
     -- there is none where its number would fit no number's type
     pub none_ready : (counted : List ℕ) (member : ℕ) (q : Queue) → member < length qs → q ≡ get_or qs member q → 2 ^ 32 ≤ entry counted member + 1 → find (is_ready n counted member) (flat_map messages qs) ≡ None
     none_ready counted member q l at high =
-        ready_in_queue qs q kept counted member l ∙ ap (λ z. find (is_ready n counted member) (messages z)) (sym at)
-        ∙ none_found (is_ready n counted member) (messages q) (λ k d i. not_ready n member counted (get_or (messages q) k d) (λ same. omega (arith, same, high, (kept_at member q l at).is_queue.small k d i)))
+        ready_in_queue qs q kept counted member l ∙ ap (λ z. find (is_ready n counted member) (messages z)) (sym at) ∙ queue_none_ready n counted member q (kept_at member q l at).is_queue high
 
     -- of a member's messages what can be delivered is what is ready
     ready_is_deliverable : (counted : List ℕ) (member : ℕ) (d : Queue) → member < length qs → find (is_ready n counted member) (flat_map messages qs) ≡ find (is_deliverable n counted) (messages (get_or qs member d))
@@ -204,6 +288,43 @@ module _ (n w : ℕ) where
 
     pub none_is_next : (counted : List ℕ) → ((k : ℕ) → k < length qs → find (is_ready n counted k) (flat_map messages qs) ≡ None) → find (is_deliverable n counted) (flat_map messages qs) ≡ None
     none_is_next counted none = none_flat messages (is_deliverable n counted) qs (λ k c l. sym (ready_is_deliverable counted k c l) ∙ none k l)
+
+    -- the message of the lowest member is found by its id, and it is next
+    pub lowest_is_next : (counted : List ℕ) (id : MessageId) → IsLowest n n counted (flat_map messages qs) id → length qs ≡ n
+        → (find (has_id id) (flat_map messages qs) ≡ find (is_deliverable n counted) (flat_map messages qs)) × (is_some (find (has_id id) (flat_map messages qs)) ≡ true)
+    lowest_is_next counted id is count =
+        let early = flat_map messages qs in
+        let l : id.origin < length qs = omega (arith, is.below, count) in
+        let d = one_of qs id.origin l in
+        let q = get_or qs id.origin d in
+        let some = some_mapped id_of (find (is_ready n counted id.origin) early) id is.ready in
+        let by_id = ready_by_id counted id q l (get_or_default qs id.origin d q l) is.next.numbered in
+        let here : find (has_id id) early ≡ find (is_ready n counted id.origin) early
+        = find_in_queue qs d kept id l ∙ sym (found_is (is_ready n counted id.origin) (find (has_id id) (messages q)) (ap is_some (sym by_id) ∙ some)) ∙ sym by_id in
+        (here ∙ sym (next_is_lowest counted id.origin l is.lowest some), ap is_some here ∙ some)
+
+    -- where it is of a lower member than another message, that one isn't next once it is put among them
+    pub put_is_not_next : (counted : List ℕ) (m : Message) (id : MessageId) → m.origin < length qs → IsLowest m.origin n counted (flat_map messages qs) id
+        → find (is_deliverable n counted) (put_early m (flat_map messages qs)) ≢ Some m
+    put_is_not_next counted m id inside is e =
+        let early = flat_map messages qs in
+        let x = id.origin in
+        let l : x < length qs = omega (arith, is.below, inside) in
+        let d = one_of qs x l in
+        let some = some_mapped id_of (find (is_ready n counted x) early) id is.ready in
+        let same = ready_is_deliverable counted x d l in
+        let first = first_put messages (is_deliverable n counted) m qs x d l
+        (λ k c le j b i. higher_stands_after m (get_or (messages (get_or qs k c)) j b) (omega (arith, le, is.below, own qs kept k c (omega (arith, le, l)) j b i)))
+        (λ k c below. sym (ready_is_deliverable counted k c (omega (arith, below, l))) ∙ is.lowest k below) (ap is_some (sym same) ∙ some) in
+        let passes = (found (is_ready n counted x) early m (same ∙ sym first ∙ e)).1 in
+        omega (arith, is.below, eqb-true m.origin x (and_parts (m.origin == x) (is_deliverable n counted m) passes).0)
+
+    -- so whether one can be delivered of a lower member tells whether it is next
+    pub next_by_lower : (counted : List ℕ) (m : Message) (o : Option MessageId) → m.origin < length qs → is_again (flat_map messages qs) m ≡ false → is_deliverable n counted m ≡ true
+        → IfSome o (IsLowest m.origin n counted (flat_map messages qs)) → IfNone o (AreUnready m.origin n counted (flat_map messages qs))
+        → IsTrue (is_none o) ↔ (find (is_deliverable n counted) (put_early m (flat_map messages qs)) ≡ Some m)
+    next_by_lower counted m None inside apart can some none = ((λ _. put_is_next n counted m (flat_map messages qs) apart can none), (λ _. refl))
+    next_by_lower counted m (Some id) inside apart can some none = ((λ t. absurd (false≢true t)), (λ e. absurd (put_is_not_next counted m id inside some e)))
 
     -- a new message that is neither old nor far can be put into its member's queue
     module _ (me : ℕ) (counted : List ℕ) (m : Message) (q : Queue) (l : m.origin < length qs) (at : q ≡ get_or qs m.origin q) where

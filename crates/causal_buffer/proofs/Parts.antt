@@ -2,7 +2,7 @@
 use Rattle.std.proofs.Common.{◌≡◌, ◌≢◌, ℕ, zero, suc, ◌+◌, ◌*◌, ◌<◌, ◌≤◌, Bool, true, false, not, cond, ◌||◌, All, List, [], ◌∷◌, ◌++◌, length, get_or, set, refl, sym, ap, ap₂, ◌∙◌, Some, None, arith}
 use Rattle.std.specs.List.{filter, find, flat_map, list_any}
 use Rattle.std.specs.Option.{is_some}
-use Rattle.std.proofs.lemmas.Bool.{cond-true, cond-false, not_from_false, false≢true}
+use Rattle.std.proofs.lemmas.Bool.{cond-true, cond-false, cond_both, not_from_false, false≢true}
 use Rattle.std.proofs.lemmas.List.{length-append}
 use Rattle.std.proofs.lemmas.List.Concat.{flat_map-append}
 use Rattle.std.proofs.lemmas.List.Elements.{All-nil, All-cons, All-head, All-tail, All-append, All-weaker, filter-append}
@@ -57,6 +57,14 @@ put-append_right m [] ys before = refl
 put-append_right m (x ∷ xs) ys before =
     cond-false (stands_before m x) (m ∷ x ∷ (xs ++ ys)) (x ∷ put_early m (xs ++ ys)) (All-head (λ e. stands_before m e ≡ false) x xs before)
     ∙ ap (λ l. x ∷ l) (put-append_right m xs ys (All-tail (λ e. stands_before m e ≡ false) x xs before))
+
+-- it is found, where all that it doesn't stand before fail a test that it passes
+pub find-put_early : (p : Message → Bool) (m : Message) (early : List Message) → p m ≡ true → All (λ e. stands_before m e ≡ false → p e ≡ false) early → find p (put_early m early) ≡ Some m
+find-put_early p m [] passes fail = cond-true (p m) (Some m) None passes
+find-put_early p m (e ∷ early) passes fail =
+    let rest = find-put_early p m early passes (All-tail (λ x. stands_before m x ≡ false → p x ≡ false) e early fail) in
+    cond_both (stands_before m e) (m ∷ e ∷ early) (e ∷ put_early m early) (λ l. find p l ≡ Some m) (λ _. cond-true (p m) (Some m) (find p (e ∷ early)) passes)
+    (λ not_before. cond-false (p e) (Some e) (find p (put_early m early)) (All-head (λ x. stands_before m x ≡ false → p x ≡ false) e early fail not_before) ∙ rest)
 
 -- of messages that fail a test all stay
 pub all_stay : (p : Message → Bool) (xs : List Message) → All (λ m. p m ≡ false) xs → filter (λ m. not (p m)) xs ≡ xs
@@ -126,6 +134,16 @@ module _ {Q : Type 0} (f : Q → List Message) where
         find-append_right p (f q) (flat_map f qs) (none_passes p (f q) (none 0 q (omega arith)))
         ∙ first_flat qs x d (omega (arith, l)) (λ k c below. none (suc k) c (omega (arith, below))) some
 
+    -- so it is found where one more is put behind that part
+    pub first_put : (m : Message) (qs : List Q) (x : ℕ) (d : Q) → x < length qs → ((k : ℕ) (d : Q) → k ≤ x → All (λ e. stands_before m e ≡ false) (f (get_or qs k d)))
+        → ((k : ℕ) (d : Q) → k < x → find p (f (get_or qs k d)) ≡ None) → is_some (find p (f (get_or qs x d))) ≡ true → find p (put_early m (flat_map f qs)) ≡ find p (f (get_or qs x d))
+    first_put m [] x d l before none some = absurd (omega (arith, l))
+    first_put m (q ∷ qs) zero d l before none some =
+        ap (find p) (put-append_right m (f q) (flat_map f qs) (before 0 q (omega arith))) ∙ find-append_left p (f q) (put_early m (flat_map f qs)) some
+    first_put m (q ∷ qs) (suc x) d l before none some =
+        ap (find p) (put-append_right m (f q) (flat_map f qs) (before 0 q (omega arith))) ∙ find-append_right p (f q) (put_early m (flat_map f qs)) (none_passes p (f q) (none 0 q (omega arith)))
+        ∙ first_put m qs x d (omega (arith, l)) (λ k c le. before (suc k) c (omega (arith, le))) (λ k c below. none (suc k) c (omega (arith, below))) some
+
     pub none_flat : (qs : List Q) → ((k : ℕ) (d : Q) → k < length qs → find p (f (get_or qs k d)) ≡ None) → find p (flat_map f qs) ≡ None
     none_flat [] none = refl
     none_flat (q ∷ qs) none =
@@ -144,6 +162,12 @@ module _ {Q : Type 0} (f : Q → List Message) where
   length-set_flat (y ∷ qs) zero q d l = omega (arith, length-append (f q) (flat_map f qs), length-append (f y) (flat_map f qs))
   length-set_flat (y ∷ qs) (suc x) q d l =
       omega (arith, length-set_flat qs x q d (omega (arith, l)), length-append (f y) (flat_map f (set qs x q)), length-append (f y) (flat_map f qs))
+
+  -- where one part has the same, the list has
+  pub set_alike : (qs : List Q) (x : ℕ) (q d : Q) → x < length qs → f q ≡ f (get_or qs x d) → flat_map f (set qs x q) ≡ flat_map f qs
+  set_alike [] x q d l same = absurd (omega (arith, l))
+  set_alike (y ∷ qs) zero q d l same = ap (λ part. part ++ flat_map f qs) same
+  set_alike (y ∷ qs) (suc x) q d l same = ap (λ rest. f y ++ rest) (set_alike qs x q d (omega (arith, l)) same)
 
   pub none_more : (qs : List Q) (q : Q) → flat_map f qs ≡ [] → f q ≡ [] → flat_map f (qs ++ q ∷ []) ≡ []
   none_more qs q e none = flat_map-append f qs (q ∷ []) ∙ ap₂ (λ l r. l ++ (r ++ [])) e none

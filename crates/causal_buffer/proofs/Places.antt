@@ -1,8 +1,8 @@
 -- The places of a member's queue: what is found by a number stands at its place, and what edits of places make of the messages.
 use Rattle.std.proofs.Common.{◌≡◌, ◌≢◌, ℕ, zero, suc, ◌+◌, ◌-◌, ◌<◌, ◌≤◌, Bool, true, false, not, cond, ◌&&◌, ◌==◌, nat_lt, All, List, [], ◌∷◌, ◌++◌, length, get_or, set, take, drop, replicate, min, refl, sym, ap, subst, ◌∙◌, inl, inr, Option, Some, None, arith}
 use Rattle.std.specs.List.{find, filter}
-use Rattle.std.specs.Option.{option_to_list}
-use Rattle.std.proofs.lemmas.Bool.{and_from, and_right, or_right, or_from, cond-true, cond-false, cases_eq, cases_lt, eq-eqb, ne_eqb, lt-ltb, le-ltb, not_from_true}
+use Rattle.std.specs.Option.{is_some, option_to_list}
+use Rattle.std.proofs.lemmas.Bool.{and_from, and_right, or_right, or_from, cond-true, cond-false, cases_eq, cases_lt, eq-eqb, ne_eqb, lt-ltb, le-ltb, not_from_true, false≢true}
 use Rattle.std.proofs.lemmas.List.{get_or_default, get_or_past, get_or_append_left, get_or-append_right, get_or-replicate, get_or-take, get_or-drop, get_or-set_same, get_or-set_other, set_past, length-append, length-replicate, length-take, take_all}
 use Rattle.std.proofs.lemmas.List.Concat.{flat_map-append}
 use Rattle.std.proofs.lemmas.List.Elements.{All-nil, All-cons}
@@ -154,8 +154,26 @@ module _ (member first : ℕ) (ps : List (Option Message)) (are : ArePlaces memb
     pub found_at : (k : ℕ) → id.seq ≡ first + k → find (has_id id) (standing ps) ≡ get_or ps k None
     found_at k e = find_place (has_id id) id.seq (has_not id) k e ∙ found_one (has_id id) (get_or ps k None) (has_id_at k e)
 
+    -- and it is the only one of its number
+    pub only_of_number : (m : Message) → find (has_id id) (standing ps) ≡ Some m → All (λ y. number y ≡ id.seq → y ≡ m) (standing ps)
+    only_of_number m is = All-flat option_to_list (λ y. number y ≡ id.seq → y ≡ m) ps (λ k d l. all_at (λ y. number y ≡ id.seq → y ≡ m) (get_or ps k d) (λ y at e.
+        let here = get_or_default ps k None d l ∙ at in
+        let same : Some y ≡ Some m = sym here ∙ sym (found_at k (sym e ∙ are.numbered k y here)) ∙ is in
+        cc))
+
     pub none_has_id : id.seq < first → All (λ m. has_id id m ≡ false) (standing ps)
     none_has_id low = none_below (has_id id) id.seq (has_not id) low
+
+    -- where it is found, its place is there
+    module _ (some : is_some (find (has_id id) (standing ps)) ≡ true) where
+      pub place_is_above : first ≤ id.seq
+      place_is_above = elim (cases_lt id.seq first) [ inl low ↦ absurd (false≢true (sym (ap is_some (none_found (has_id id) (standing ps) (none_has_id low))) ∙ some)) | inr high ↦ high ]
+
+      pub found_at_place : find (has_id id) (standing ps) ≡ get_or ps (id.seq - first) None
+      found_at_place = found_at (id.seq - first) (omega (arith, place_is_above))
+
+      pub place_is_there : id.seq - first < length ps
+      place_is_there = elim (cases_lt (id.seq - first) (length ps)) [ inl l ↦ l | inr past ↦ absurd (false≢true (sym (ap is_some (found_at_place ∙ get_or_past ps (id.seq - first) None past)) ∙ some)) ]
 
     pub without_at : (k : ℕ) → id.seq ≡ first + k → standing (set ps k None) ≡ without id (standing ps)
     without_at k e = elim (cases_lt k (length ps)) [

@@ -21,7 +21,7 @@ use Rattle.causal_model.proofs.Theory.Risings.{found_alike}
 use Rattle.causal_model.proofs.States.States.{accept_keeps_state, step_keeps_state, own_keeps_state, own_makes_none_deliverable}
 use Rattle.causal_model.proofs.States.Steps.{has_own_id}
 use Rattle.causal_buffer.specs.Buffer.{Buffer, with_messages, AreAhead, AreNear}
-use Rattle.causal_buffer.specs.Standing.{IsBufferOf, KeepsEarly, KeepKeepsState, IsNextInState, TakesNext, KeepsStep, OwnKeepsBuffer, MemberIsInStore, CountsAreOfStore, EarlyAreAhead, EarlyAreNear, NextIdIsOfMessage, NextIsOfMember}
+use Rattle.causal_buffer.specs.Standing.{IsBufferOf, KeepsEarly, KeepKeepsState, IsNextInState, TakesNext, IsTakenInState, KeepsStep, OwnKeepsBuffer, MemberIsInStore, CountsAreOfStore, EarlyAreAhead, EarlyAreNear, NextIdIsOfMessage, NextIsOfMember}
 use Rattle.causal_buffer.proofs.Kept.{not_of_member}
 use Rattle.causal_buffer.proofs.Places.{has_not}
 
@@ -52,6 +52,10 @@ keep_keeps_state me counts m b fit new apart near w limit s is of member carried
 pub is_next_in_state : (counts : List ℕ) (b : Buffer) (id : Option MessageId) → id ≡ option_map id_of (next_early b.n counts b.early) → IsNextInState counts b id
 is_next_in_state counts b id e w s of are =
     e ∙ ap (λ (b : Buffer). option_map id_of (next_early b.n counts b.early)) (is_buffer_in w s b of) ∙ ap (λ c. option_map id_of (next_early s.history.present.n c s.early)) are
+
+pub is_taken_in_state : (counts : List ℕ) (b : Buffer) (taken : Option Message) → taken ≡ next_early b.n counts b.early → IsTakenInState counts b taken
+is_taken_in_state counts b taken e w s of are =
+    e ∙ ap (λ (b : Buffer). next_early b.n counts b.early) (is_buffer_in w s b of) ∙ ap (λ c. next_early s.history.present.n c s.early) are
 
 -- what stands before a message is of another id
 before_has_not : (m y : Message) → StandsBefore y m → has_id (id_of m) y ≡ false

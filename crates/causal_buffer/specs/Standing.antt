@@ -77,6 +77,10 @@ abbrev pub TakesNext : MessageId → Buffer → Option Message → Type 0
 TakesNext id old taken = (w limit : ℕ) (s : State) (m : Message) → IsState w limit s → IsBufferOf w s old → next_of s ≡ Some m → id ≡ id_of m
     → taken ≡ Some m
 
+-- what is taken of a state's buffer is what is next in the state
+abbrev pub IsTakenInState : List ℕ → Buffer → Option Message → Type 0
+IsTakenInState counts b taken = (w : ℕ) (s : State) → IsBufferOf w s b → counts ≡ counted s.history → taken ≡ next_of s
+
 -- a state's buffer is then that of the state after the step, whether the message was delivered or crooked, and that is a
 -- state that a replica can be in
 abbrev pub KeepsStep : MessageId → Buffer → Buffer → Type 0

@@ -1,8 +1,8 @@
 //! The buffer of early messages.
 
-ghost use Rattle.std.specs.Prelude.{◌≡◌, ◌↔◌, ℕ, ◌+◌, ◌<◌, ◌≤◌, false, List, [], length, slice_set, IsTrue, IfOk};
+ghost use Rattle.std.specs.Prelude.{◌≡◌, ◌↔◌, ℕ, ◌+◌, ◌<◌, ◌≤◌, true, false, List, [], length, slice_set, IsTrue, IfOk, Some, None, if◌then◌else◌};
 ghost use Rattle.std.specs.List.{find, list_any, flat_map};
-ghost use Rattle.std.specs.Option.{option_map, IfSome};
+ghost use Rattle.std.specs.Option.{is_some, option_map, IfSome, IfNone};
 ghost use Rattle.op_base.specs.Timestamp.{entry};
 ghost use Rattle.op_base.specs.Message.{number, id_of, fits};
 ghost use Rattle.op_base.specs.declared.tag.TheConstants.{MOST_MEMBERS};
@@ -11,7 +11,7 @@ ghost use Rattle.causal_model.specs.Receiving.{is_old, is_far, next_early};
 ghost use Rattle.causal_model.specs.State.{start};
 ghost use Rattle.causal_model.specs.Early.{has_id, is_again, put_early, without};
 ghost use Rattle.causal_buffer.specs.Buffer.{with_messages, offer_of, after_offer, AreAhead, AreNear, IsNextId, KeepsAhead, KeepsNear};
-ghost use Rattle.causal_buffer.specs.Queue.{is_ready};
+ghost use Rattle.causal_buffer.specs.Queue.{is_ready, AreUnready, IsLowest};
 
 use crate::queue::{Queue, number};
 use causal_model::{MOST_WINDOW, most_unstable};
@@ -34,8 +34,9 @@ pub enum Offer {
 ///
 /// It is a queue for each member, with a place for each number from that of the member's next message on. So a message is
 /// kept, found and removed at once by its number, whatever else is early and in whatever order messages come, and what is next
-/// is found by one look at each member. Contracts see the early messages as one list, by origin and then by number; where that
-/// is a state's, they say what each call makes of the state.
+/// is found by one look at each member. A member's next message is looked at itself only where it isn't known to wait: what it
+/// was found to wait for is kept. Contracts see the early messages as one list, by origin and then by number; where that is a
+/// state's, they say what each call makes of the state.
 #[derive(Debug, Drop)]
 pub struct CausalBuffer {
     n: u8,
@@ -68,7 +69,7 @@ pub fn is_deliverable(message: &Message, counts: &Tag) -> bool
 }
 
 impl CausalBuffer {
-    ghost use Rattle.causal_buffer.specs.Standing.{IsBufferOf, AnswersInState, KeepsOffered, OfferKeepsState, KeepsEarly, KeepKeepsState, IsNextInState, TakesNext, KeepsStep};
+    ghost use Rattle.causal_buffer.specs.Standing.{IsBufferOf, AnswersInState, KeepsOffered, OfferKeepsState, KeepsEarly, KeepKeepsState, IsNextInState, TakesNext, IsTakenInState, KeepsStep};
 
     /// The buffer of a store of `n` members with a window `w`, with no message. It takes all the room that it will ever need,
     /// and doesn't fill it.
@@ -182,6 +183,87 @@ impl CausalBuffer {
             }
         }
         None
+    }
+
+    /// Whether a message that isn't early, and can be delivered, would be taken next if it were kept: whether no early message of a
+    /// lower member can be delivered.
+    pub fn comes_next(&mut self, message: &Message, counts: &Tag) -> bool
+        requires fits { IsTrue (fits self.old.n message.now) }
+        requires counts { length counts.now ≡ self.old.n }
+        requires apart { is_again self.old.early message.now ≡ false }
+        requires deliverable { is_deliverable self.old.n counts.now message.now ≡ true }
+        ensures next { IsTrue result ↔ (next_early self.old.n counts.now (put_early message.now self.old.early) ≡ Some message.now) }
+        ensures unchanged { self.new ≡ self.old }
+    {
+        self.held == 0 || self.ready_below(message.origin, counts).is_none()
+    }
+
+    /// Takes the message that is taken next out, into a place: of those that can be delivered, that of the lowest member. `false`
+    /// exactly where no message can be delivered, and then nothing changes.
+    pub fn take_next(&mut self, counts: &Tag, into: &mut Message) -> bool
+        requires counts { length counts.now ≡ self.old.n }
+        ensures taken { (if result then Some into.new else None) ≡ next_early self.old.n counts.now self.old.early }
+        ensures others { self.new ≡ (if result then with_messages self.old (without (id_of into.new) self.old.early) else self.old) }
+        ensures unwritten { result ≡ false → into.new ≡ into.old }
+
+        // What was asked of the messages that are held holds of them again, once the message is counted.
+        ensures held_ahead { IsTrue result → KeepsAhead (id_of into.new) self.old self.new }
+        ensures held_near { IsTrue result → KeepsNear (id_of into.new) self.old self.new }
+
+        // Where it is a state's buffer:
+        ensures in_state { IsTakenInState counts.now self.old (if result then Some into.new else None) }
+        ensures stands { IsTrue result → KeepsStep (id_of into.new) self.old self.new }
+    {
+        if self.held == 0 {
+            return false;
+        }
+        match self.ready_below(self.n, counts) {
+            Some(id) => {
+                self.move_out(id, into);
+                true
+            }
+            None => false,
+        }
+    }
+
+    /// Moves the early message of an id, which is there, into a place.
+    fn move_out(&mut self, id: MessageId, into: &mut Message)
+        requires member { id.origin < self.old.n }
+        requires there { is_some (find (has_id id) self.old.early) ≡ true }
+        ensures moved { Some into.new ≡ find (has_id id) self.old.early }
+        ensures others { self.new ≡ with_messages self.old (without id self.old.early) }
+    {
+        self.queues[id.origin as usize].move_out(id, into);
+        self.held -= 1;
+    }
+
+    /// The id of the message that is taken next of those of members below one. `None` exactly where none of them can be
+    /// delivered.
+    fn ready_below(&mut self, end: u8, counts: &Tag) -> Option<MessageId>
+        requires end { end ≤ self.old.n }
+        requires counts { length counts.now ≡ self.old.n }
+        ensures found { IfSome result (IsLowest end self.old.n counts.now self.old.early) }
+        ensures none { IfNone result (AreUnready end self.old.n counts.now self.old.early) }
+        ensures unchanged { self.new ≡ self.old }
+    {
+        for member in 0..end {
+            if let Some(id) = self.told_ready(member, counts) {
+                return Some(id);
+            }
+        }
+        None
+    }
+
+    /// The id of a member's next message, where that is early and can be delivered.
+    #[inline(always)]
+    fn told_ready(&mut self, member: u8, counts: &Tag) -> Option<MessageId>
+        requires member { member < self.old.n }
+        requires counts { length counts.now ≡ self.old.n }
+        ensures ready { result ≡ option_map id_of (find (is_ready self.old.n counts.now member) self.old.early) }
+        ensures is_next { IfSome result (IsNextId self.old.n counts.now) }
+        ensures unchanged { self.new ≡ self.old }
+    {
+        self.queues[member as usize].next_ready(member, counts)
     }
 
     /// The id of a member's next message, where that is early and can be delivered.

@@ -1,7 +1,7 @@
 //! Places for the early messages of one member, in a block of memory of which little is touched while there are few.
 
-ghost use Rattle.std.specs.Prelude.{◌≡◌, ◌+◌, ◌-◌, ◌*◌, ◌^◌, ◌<◌, ◌≤◌, [], ◌++◌, length, take, drop, replicate, min, slice_index_or, slice_set, vec_capacity, IfOk, Some, None};
-ghost use Rattle.std.specs.Option.{option_copied};
+ghost use Rattle.std.specs.Prelude.{◌≡◌, true, ◌+◌, ◌-◌, ◌*◌, ◌^◌, ◌<◌, ◌≤◌, [], ◌++◌, length, take, drop, replicate, min, slice_index_or, slice_set, vec_capacity, IfOk, Some, None};
+ghost use Rattle.std.specs.Option.{is_some, option_copied};
 
 use op_base::{Message, NoMemory};
 use std::alloc::Global;
@@ -72,6 +72,16 @@ impl Places {
         } else {
             None
         }
+    }
+
+    /// Moves the message at a place into another, and leaves the place empty.
+    pub fn move_out(&mut self, place: usize, into: &mut Message)
+        requires there { place < length self.old.items }
+        requires some { is_some (slice_index_or self.old.items place None) ≡ true }
+        ensures moved { Some into.new ≡ slice_index_or self.old.items place None }
+        ensures left { self.new ≡ record self.old { items = slice_set self.old.items place None } }
+    {
+        move_out(&mut self.block[self.start + place], into);
     }
 
     /// Puts a message at an empty place.
@@ -193,4 +203,16 @@ fn fill(place: &mut Option<Message>, message: Message)
 {
     let None = place else { unreachable!() };
     *place = Some(message);
+}
+
+/// Moves the message at a place into another, and leaves the place empty.
+fn move_out(place: &mut Option<Message>, into: &mut Message)
+    requires { is_some place.old ≡ true }
+    ensures moved { Some into.new ≡ place.old }
+    ensures empty { place.new ≡ None }
+{
+    let Some(message) = place.take() else {
+        unreachable!()
+    };
+    *into = message;
 }

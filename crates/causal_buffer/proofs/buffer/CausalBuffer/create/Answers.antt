@@ -17,7 +17,7 @@ loop-preserved c =
     let made = c.in_ok-create.ensures in
     record {
       count = ap length items ∙ omega (arith, length-append qs (q ∷ []), c.loop.invariant.count);
-      kept = subst (AreKept n w) (sym items) (kept_push n w qs q c.loop.invariant.kept (kept_empty n w (length qs) q (made.kept (length qs)) made.empty (omega (arith, made.room, c.most_unstable-room.ensures.value))));
+      kept = subst (AreKept n w) (sym items) (kept_push n w qs q c.loop.invariant.kept (kept_empty n w (length qs) q (made.kept (length qs)) made.empty (omega (arith, made.room, c.most_unstable-room.ensures.value)) (omega (arith, made.wait, c.requires.some))));
       none = ap (flat_map messages) items ∙ none_more messages qs q c.loop.invariant.none made.empty;
     }
 

@@ -62,7 +62,7 @@ invariant_of-self c =
       few = c.self.invariant.few;
       narrow = c.self.invariant.narrow;
       count = length-set qs m.origin c.put.new.self ∙ c.self.invariant.count;
-      kept = kept_set n w qs m.origin c.put.new.self c.self.invariant.kept (kept_put n w m c.index_mut.result.now c.put.new.self kept fit c.put.ensures.kept c.put.ensures.put c.put.ensures.room);
+      kept = kept_set n w qs m.origin c.put.new.self c.self.invariant.kept (kept_put n w m c.index_mut.result.now c.put.new.self kept fit c.put.ensures.kept c.put.ensures.put c.put.ensures.room c.put.ensures.wait);
       counted = omega (arith, c.self.invariant.counted, length-put_early m (flat_map messages qs), ap length (put (goal.at.invariant_of-self c).After-put));
     }
 

@@ -37,7 +37,7 @@ invariant_of-self c =
       few = c.self.invariant.few;
       narrow = c.self.invariant.narrow;
       count = length-set qs c.args.id.origin c.take-taken.new.self ∙ c.self.invariant.count;
-      kept = kept_set n w qs c.args.id.origin c.take-taken.new.self c.self.invariant.kept (kept_without n w c.args.id q c.take-taken.new.self kept c.take-taken.ensures.kept c.take-taken.ensures.others c.take-taken.ensures.room);
+      kept = kept_set n w qs c.args.id.origin c.take-taken.new.self c.self.invariant.kept (kept_without n w c.args.id q c.take-taken.new.self kept c.take-taken.ensures.kept c.take-taken.ensures.others c.take-taken.ensures.room c.take-taken.ensures.wait);
       counted = omega (arith, c.self.invariant.counted, fewer (goal.at.invariant_of-self c).After-is_some, taken_is (goal.at.invariant_of-self c).After-from);
     }
 

@@ -1,12 +1,15 @@
-use Rattle.std.proofs.Common.{◌≡◌, ◌+◌, ◌-◌, ◌^◌, ◌<◌, ◌≤◌, ◌++◌, min, take, drop, None, All, length, set, refl, sym, ap, subst, ◌∙◌, Some, arith}
+use Rattle.std.proofs.Common.{◌≡◌, ◌+◌, ◌-◌, ◌^◌, ◌<◌, ◌≤◌, ◌++◌, ◌==◌, if◌then◌else◌, min, take, drop, None, All, length, set, refl, sym, ap, subst, ◌∙◌, Some, arith}
 use Rattle.std.proofs.lemmas.List.Elements.{All-head, All-tail, All-weaker}
 use Rattle.std.specs.List.{find}
 use Rattle.std.proofs.lemmas.List.{length-set}
 use Rattle.op_base.specs.Message.{number, id_of}
 use Rattle.causal_model.specs.Early.{put_early, has_id}
 use Rattle.causal_model.proofs.States.Early.{All-put_early}
-use Rattle.causal_buffer.specs.Queue.{ArePlaces, standing, messages}
+use Rattle.causal_buffer.specs.Queue.{ArePlaces, AreWaiting, standing, messages}
 use Rattle.causal_buffer.specs.Row.{Row}
+use Rattle.causal_buffer.specs.declared.queue.TheConstants.{NO_WAIT}
+use Rattle.causal_buffer.specs.declared.queue.Wait.{Wait}
+use Rattle.causal_buffer.proofs.Waits.{waits_after}
 use Rattle.causal_buffer.proofs.Places.{nones, begun, places_begun, standing_begun, are_put, standing_put, inside, is_empty, standing_few, length-put_early}
 use Rattle.causal_buffer.proofs.queue.Queue.put.Goals as goal
 use Rattle.causal_buffer.proofs.queue.Queue.put.Goals.{After-reach}
@@ -53,6 +56,14 @@ put c =
     standing_put m.origin (c.args.count + 1) c.push_front.new.self.items c.reach.new.self.items m (c.number-seq.result - (c.args.count + 1)) (are_places c) refl (numbered c) (longer c) (fresh c)
     ∙ ap (put_early m) (same c)
 
+-- what is still known of what its messages wait for
+waiting : (c : After-reach) (wait : Wait) → wait ≡ (if c.args.self.now.wait.seq == number c.args.message then NO_WAIT else c.args.self.now.wait) → (row : Row) → standing row.items ≡ put_early c.args.message (messages c.args.self.now)
+    → AreWaiting c.args.message.origin wait (standing row.items)
+waiting c wait is row put =
+    let m = c.args.message in
+    let q = c.args.self.now in
+    subst (AreWaiting m.origin wait) (sym put) (subst (λ known. AreWaiting m.origin known (put_early m (messages q))) (sym is) (waits_after m.origin c.args.count q.places.room q.wait m (messages q) c.requires.near c.requires.queue.waiting))
+
 pub fill-requires-clause-there : goal.fill-requires-clause-there
 fill-requires-clause-there c =
     let m = c.args.message in
@@ -88,4 +99,5 @@ returns-clause-kept c =
       within = omega (arith, ap (λ (row : Row). length row.items) c.fill.ensures, length-set items place (Some m), ap (λ (row : Row). row.room) c.fill.ensures, c.reach.ensures.within);
       counted = omega (arith, c.requires.queue.counted, length-put_early m (messages c.args.self.now), ap length (returns-clause-put c));
       small = subst (All (λ z. number z < 2 ^ 32)) (sym (returns-clause-put c)) (All-put_early (λ z. number z < 2 ^ 32) m (messages c.args.self.now) (omega arith) c.requires.queue.small);
+      waiting = waiting here c.forget.new.wait (c.forget.ensures ∙ ap (λ seq. if c.args.self.now.wait.seq == seq then NO_WAIT else c.args.self.now.wait) c.number-seq.ensures) c.fill.new.self (returns-clause-put c);
     }

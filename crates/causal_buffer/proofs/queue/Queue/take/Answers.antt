@@ -1,14 +1,11 @@
-use Rattle.std.proofs.Common.{◌≡◌, ◌+◌, ◌^◌, ◌<◌, false, not, All, length, get_or, refl, sym, ap, subst, ◌∙◌, None, arith}
+use Rattle.std.proofs.Common.{◌≡◌, ◌+◌, ◌<◌, false, All, get_or, refl, sym, ◌∙◌, None, arith}
 use Rattle.std.specs.List.{find}
-use Rattle.std.proofs.lemmas.List.{length-set}
-use Rattle.std.proofs.lemmas.List.Elements.{All-filter}
-use Rattle.op_base.specs.Message.{number}
 use Rattle.causal_model.specs.Early.{has_id, without}
 use Rattle.causal_model.proofs.Theory.Finds.{none_found}
-use Rattle.causal_buffer.specs.Queue.{ArePlaces, standing, messages}
-use Rattle.causal_buffer.specs.Row.{Row}
+use Rattle.causal_buffer.specs.Queue.{standing, messages}
+use Rattle.causal_buffer.proofs.Kept.{left_in_queue, one_fewer, taken_queue}
 use Rattle.causal_buffer.proofs.Parts.{all_stay}
-use Rattle.causal_buffer.proofs.Places.{below_from, found_at, none_has_id, without_at, places_set, length-taken}
+use Rattle.causal_buffer.proofs.Places.{below_from, found_at, none_has_id, length-taken}
 use Rattle.causal_buffer.proofs.queue.Queue.take.Goals as goal
 use Rattle.causal_buffer.proofs.queue.Queue.take.Goals.{Start, After-take}
 
@@ -37,9 +34,7 @@ found c = found_at c.args.id.origin c.args.self.now.first c.args.self.now.places
 
 -- what is left
 left : (c : After-take) → standing c.take.new.self.items ≡ without c.args.id (messages c.args.self.now)
-left c =
-    ap (λ (row : Row). standing row.items) c.take.ensures.left
-    ∙ without_at c.args.id.origin c.args.self.now.first c.args.self.now.places.items c.requires.are_places c.args.id refl c.in_ok-place.place (at c)
+left c = left_in_queue c.args.id c.args.self.now c.requires c.in_ok-place.place (at c) c.take.new.self c.take.ensures.left
 
 pub returns-in_err-message-clause-taken : goal.returns-in_err-message-clause-taken
 returns-in_err-message-clause-taken c =
@@ -63,19 +58,10 @@ returns-clause-others c = left (goal.at.returns-clause-others c).After-take
 
 pub returns-clause-fewer : goal.returns-clause-fewer
 returns-clause-fewer c =
-    let items = c.args.self.now.places.items in
-    let k = c.in_ok-place.place in
-    omega (arith, length-taken items k c.in_ok-message.message (sym c.take.ensures.taken ∙ c.in_ok-message.was), ap (λ (row : Row). length (standing row.items)) c.take.ensures.left)
+    let is = sym c.take.ensures.taken ∙ c.in_ok-message.was in
+    one_fewer c.args.id c.args.self.now c.requires c.in_ok-place.place (at (goal.at.returns-clause-fewer c).After-take) c.take.new.self c.take.ensures.left c.in_ok-message.message is
 
 pub returns-clause-kept : goal.returns-clause-kept
 returns-clause-kept c =
-    let q = c.args.self.now in
-    let k = c.in_ok-place.place in
     let is = sym c.take.ensures.taken ∙ c.in_ok-message.was in
-    let row = c.take.ensures.left in
-    record {
-      are_places = subst (λ (r : Row). ArePlaces c.args.id.origin q.first r.items) (sym row) (places_set c.args.id.origin q.first q.places.items c.requires.are_places k None (λ m e. absurd (cc)));
-      within = omega (arith, ap (λ (r : Row). length r.items) row, length-set q.places.items k None, ap (λ (r : Row). r.room) row, c.requires.within);
-      counted = omega (arith, length-taken q.places.items k c.in_ok-message.message is, c.requires.counted, ap (λ (r : Row). length (standing r.items)) row);
-      small = subst (All (λ m. number m < 2 ^ 32)) (sym (returns-clause-others c)) (All-filter (λ m. not (has_id c.args.id m)) (λ m. number m < 2 ^ 32) (messages q) c.requires.small);
-    }
+    taken_queue c.args.id c.args.self.now c.requires c.in_ok-place.place (at (goal.at.returns-clause-kept c).After-take) c.take.new.self c.take.ensures.left c.in_ok-message.message is
