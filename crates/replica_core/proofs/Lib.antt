@@ -1,6 +1,6 @@
-pub mod Alone
 pub mod AllSettled
 pub mod Bounds
+pub mod Comes
 pub mod Insertions
 pub mod MovesStable
 pub mod ObjectParts

@@ -6,50 +6,46 @@ use Rattle.causal_model.specs.Receiving.{next_of, state_with, steps}
 use Rattle.causal_model.specs.State.{State}
 use Rattle.causal_model.proofs.States.Steps.{steps_of_none, steps_of_one_more}
 use Rattle.replica_core.specs.Rules.{StandsFor, SameSettings}
-use Rattle.replica_core.specs.Steps.{HasStepped, IsStepOf}
+use Rattle.replica_core.specs.Steps.{HasStepped, behind, HasMade, HasAdded, IsStepOf}
 use Rattle.replica_core.specs.declared.replica.Replica.{Replica}
 
--- the steps of a state are those that were made, and then those of a state that the fields stand for now
-pub record HasMade (w : ℕ) (s : State) (made : List Step) (now : Replica) : Type 0 where
-  pub after : State
-  pub stands : StandsFor now after
-  pub is : steps w s ≡ (made ++ (steps w after).0, (steps w after).1)
+-- the steps of a state are one that is made, and those of the state after it
+one_and_more : (w : ℕ) (s : State) (step : Step) (new : Replica) (is : IsStepOf w s step new) → steps w s ≡ behind (step ∷ []) (steps w (state_with w s is.message))
+one_and_more w s step new is = steps_of_one_more w s is.message is.next ∙ ap (λ (made : Step). behind (made ∷ []) (steps w (state_with w s is.message))) (sym is.is)
+
+-- after the first
+pub first_is_made : (w : ℕ) (s : State) (step : Step) (new : Replica) → IsStepOf w s step new → HasMade w s [] (step ∷ []) new
+first_is_made w s step new is = record { after = state_with w s is.message; stands = is.stands; is = one_and_more w s step new is }
 
 -- after one more
-pub one_more_is_made : (w : ℕ) (s : State) (made : List Step) (now new : Replica) (step : Step) (has : HasMade w s made now) → IsStepOf w has.after step new → HasMade w s (made ++ step ∷ []) new
-one_more_is_made w s made now new step has next =
-    let later_state = state_with w has.after next.message in
-    let later : steps w has.after ≡ (step ∷ (steps w later_state).0, (steps w later_state).1)
-    = steps_of_one_more w has.after next.message next.next ∙ ap (λ (made : Step). (made ∷ (steps w later_state).0, (steps w later_state).1)) (sym next.is) in
+pub one_more_is_made : (w : ℕ) (s : State) (before made : List Step) (now new : Replica) (step : Step) (has : HasMade w s before made now) → IsStepOf w has.after step new → HasMade w s before (made ++ step ∷ []) new
+one_more_is_made w s before made now new step has next =
+    let later = steps w (state_with w has.after next.message) in
     record {
-      after = later_state;
+      after = state_with w has.after next.message;
       stands = next.stands;
-      is = has.is ∙ ap (λ (some : List Step × State). (made ++ some.0, some.1)) later ∙ ap (λ (all : List Step). (all, (steps w later_state).1)) (sym (append_assoc made (step ∷ []) (steps w later_state).0));
+      is = has.is ∙ ap (behind made) (one_and_more w has.after step new next) ∙ ap (λ (all : List Step). (all, later.1)) (sym (append_assoc made (step ∷ []) later.0));
     }
 
 -- where no early message can be delivered, all are made
-pub all_are_made : (w : ℕ) (s : State) (made : List Step) (now : Replica) (has : HasMade w s made now) (new : Replica) → next_of has.after ≡ None → StandsFor new has.after → HasStepped w s made new
-all_are_made w s made now has new none stands =
-    let all : steps w s ≡ (made, has.after)
-    = has.is ∙ ap (λ (some : List Step × State). (made ++ some.0, some.1)) (steps_of_none w has.after none) ∙ ap (λ (all : List Step). (all, has.after)) (append-nil made) in
+pub all_are_made : (w : ℕ) (s : State) (before made : List Step) (now : Replica) (has : HasMade w s before made now) (new : Replica) → next_of has.after ≡ None → StandsFor new has.after → HasAdded w s before made new
+all_are_made w s before made now has new none stands =
+    let all : behind before (steps w s) ≡ (made, has.after)
+    = has.is ∙ ap (behind made) (steps_of_none w has.after none) ∙ ap (λ (all : List Step). (all, has.after)) (append-nil made) in
     record {
       are = sym (ap (λ (some : List Step × State). some.0) all);
       stands = subst (StandsFor new) (sym (ap (λ (some : List Step × State). some.1) all)) stands;
     }
 
--- where none can be made after one, that one is all
-pub one_is_all : (w : ℕ) (s : State) (step : Step) (new : Replica) (is : IsStepOf w s step new) → next_of (state_with w s is.message) ≡ None → HasStepped w s (step ∷ []) new
-one_is_all w s step new is none =
-    let later = state_with w s is.message in
-    let all : steps w s ≡ (step ∷ [], later)
-    = steps_of_one_more w s is.message is.next ∙ ap (λ (made : Step). (made ∷ (steps w later).0, (steps w later).1)) (sym is.is) ∙ ap (λ (some : List Step × State). (step ∷ some.0, some.1)) (steps_of_none w later none) in
-    record {
-      are = sym (ap (λ (some : List Step × State). some.0) all);
-      stands = subst (StandsFor new) (sym (ap (λ (some : List Step × State). some.1) all)) is.stands;
-    }
+-- so they are where those after the ones that were made are added to these
+pub rest_is_added : (w : ℕ) (s : State) (made all : List Step) (now new : Replica) (has : HasMade w s [] made now) → HasAdded w has.after made all new → HasStepped w s all new
+rest_is_added w s made all now new has added = record {
+  are = added.are ∙ sym (ap (λ (some : List Step × State). some.0) has.is);
+  stands = subst (StandsFor new) (sym (ap (λ (some : List Step × State). some.1) has.is)) added.stands;
+}
 
 -- a replica makes the steps that can be made from what it was, and there is room for those of the early messages
-pub record IsMaking (old now : Replica) (made : List Step) (capacity : ℕ) : Type 0 where
+pub record IsMaking (old now : Replica) (before made : List Step) (capacity : ℕ) : Type 0 where
   pub settings : SameSettings old now
   pub room : length made + length now.buffer.early ≤ capacity
-  pub are_made : (s : State) → StandsFor old s → HasMade old.w s made now
+  pub are_made : (s : State) → StandsFor old s → HasMade old.w s before made now

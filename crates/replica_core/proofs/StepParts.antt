@@ -26,14 +26,15 @@ use Rattle.tag_window.proofs.Nexts.{next_has_room}
 use Rattle.polog.specs.Value.{Log}
 use Rattle.polog.specs.Standing.{IsLogOf}
 use Rattle.stable_state.specs.Shelf.{Shelved}
-use Rattle.outbox.specs.Sent.{Sent, ComesAfter, room_of, unstable_in}
-use Rattle.outbox.specs.Standing.{IsBeforeDrop, DropsAfter}
+use Rattle.outbox.specs.Sent.{Sent, ComesAfter, room_of}
+use Rattle.outbox.specs.Standing.{IsBeforeDrop}
+use Rattle.outbox.proofs.Drops.{drops_after}
 use Rattle.outbox.proofs.Nexts.{next_is_pushed}
 use Rattle.list_type.specs.Listed.{Listed, AreWithin}
 use Rattle.replica_core.specs.Insertions.{insertions, element_room}
 use Rattle.replica_core.specs.Settling.{AreOf, AreReady}
 use Rattle.replica_core.specs.Standing.{Fields, Standing}
-use Rattle.replica_core.specs.Steps.{KeepsMatrix, is_due_after, with_own_sent}
+use Rattle.replica_core.specs.Steps.{KeepsMatrix, is_due_after, with_own_sent, with_own_in, left_unstable}
 use Rattle.replica_core.proofs.KeptLists.{lists_of, depths_of}
 use Rattle.replica_core.proofs.Stands.{member_of, within_more}
 use Rattle.replica_core.proofs.Steps.{last_fits}
@@ -116,15 +117,14 @@ module _ (f : Fields) (s : State) (m : Message) (stands : Standing f s) (is : Is
       (λ own. pushed true (eq-eqb m.origin f.me own), λ other. pushed false (ne_eqb m.origin f.me other))
 
   outbox_with : (pushed new : Sent) (stable : List ℕ) → stable ≡ stable_vector f.n f.me (s.history.present.messages ++ m ∷ [])
-      → pushed ≡ record { n = f.outbox.n; w = f.outbox.w; messages = with_own_sent f.matrix.me m f.outbox.messages }
-      → new ≡ record { n = pushed.n; w = pushed.w; messages = unstable_in stable pushed.messages } → DropsAfter stable pushed new
+      → left_unstable stable pushed ≡ left_unstable stable (with_own_in f.matrix.me m f.outbox) → new ≡ left_unstable stable pushed
       → new ≡ record { n = f.n; w = f.w; messages = outbox_of f.n f.me (s.history.present.messages ++ m ∷ []) }
-  outbox_with pushed new stable counts is_pushed is_new drops =
+  outbox_with pushed new stable counts is_pushed is_new =
       let held : Sent = record { n = f.n; w = f.w; messages = with_own_sent f.me m f.outbox.messages } in
-      let is_held : pushed ≡ held = is_pushed ∙ ap₂ (λ (o : Sent) me. record { n = o.n; w = o.w; messages = with_own_sent me m f.outbox.messages }) stands.outbox stands.matrix.of_me in
-      let dropped : new ≡ record { n = f.n; w = f.w; messages = unstable_in stable held.messages } = is_new ∙ ap (λ (o : Sent). record { n = o.n; w = o.w; messages = unstable_in stable o.messages }) is_held in
+      let is_held : with_own_in f.matrix.me m f.outbox ≡ held = ap₂ (λ (o : Sent) me. record { n = o.n; w = o.w; messages = with_own_sent me m f.outbox.messages }) stands.outbox stands.matrix.of_me in
+      let dropped : new ≡ left_unstable stable held = is_new ∙ is_pushed ∙ ap (left_unstable stable) is_held in
       let left : new.messages ≡ outbox_of f.n f.me (s.history.present.messages ++ m ∷ [])
-      = subst (λ o. DropsAfter stable o new) is_held drops f.w f.me s.history.present.messages m (member_of f s stands) chapter_with outbox_before_drop counts in
+      = drops_after stable held new (ap (λ (o : Sent). o.messages) dropped) f.w f.me s.history.present.messages m (member_of f s stands) chapter_with outbox_before_drop counts in
       dropped ∙ ap (λ messages. record { n = f.n; w = f.w; messages = messages }) (sym (ap (λ (o : Sent). o.messages) dropped) ∙ left)
 
   -- log, items and lists
@@ -183,8 +183,7 @@ module _ (f : Fields) (m : Message) (wide : 1 ≤ f.w) (few : f.limit ≤ 100000
     (is_counts : counts ≡ slice_set f.counts m.origin (entry m.tag m.origin))
     (keeps : KeepsMatrix m f.matrix matrix) (told : TellsStable f.matrix before) (tells : TellsStable matrix stable)
     (pushes : (messages : List Message) → IsWindowOf f.n f.w f.me messages f.window → IsWindowWith f.n f.w f.me messages m pushed) (drops : DropsHeld stable pushed window)
-    (is_held : held ≡ record { n = f.outbox.n; w = f.outbox.w; messages = with_own_sent f.matrix.me m f.outbox.messages })
-    (is_outbox : outbox ≡ record { n = held.n; w = held.w; messages = unstable_in stable held.messages }) (forgets : DropsAfter stable held outbox)
+    (is_held : left_unstable stable held ≡ left_unstable stable (with_own_in f.matrix.me m f.outbox)) (is_outbox : outbox ≡ left_unstable stable held)
     (settles : (h : History) → AreReady f.w f.limit h f.log f.items f.lists f.epoch m before stable → AreOf (with_message h m) log items lists) (room : log.room ≡ f.log.room)
     (had_room : length f.log.entries + length f.buffer.early + 1 ≤ f.items.spare) (spare : f.items.spare + length log.entries ≤ items.spare + (length f.log.entries + 1))
     (had_elements : insertions f.buffer.early + element_room m.op ≤ f.lists.spare) (elements : f.lists.spare ≤ lists.spare + element_room m.op) (deep : (most : ℕ) → AreWithin most f.lists → AreWithin (most + 1) lists)
@@ -197,7 +196,7 @@ module _ (f : Fields) (m : Message) (wide : 1 ≤ f.w) (few : f.limit ≤ 100000
       standing_with f s m stands is counts matrix window log items lists outbox due is_counts (matrix_with f s m stands is matrix keeps)
       (window_with f s m stands is pushed window stable after (pushes messages) drops) (settles s.history (ready_with f s m stands is wide few before stable told after)) room (omega (arith, had_room, spare)) (omega (arith, had_elements, elements))
       (deep (f.epoch * 2 ^ 24 + length messages) (depths_of f s stands))
-      (outbox_with f s m stands is held outbox stable after is_held is_outbox forgets) is_due
+      (outbox_with f s m stands is held outbox stable after is_held is_outbox) is_due
 
 -- what is true of the next message of fields that stand for some state, where it is a proposition
 module _ (f : Fields) (m : Message) (next : ∥ ((s : State) × Standing f s × IsState f.w f.limit (with_own s m)) ∥₁) where

@@ -1,5 +1,5 @@
 -- The next early message of a state: how it is taken out of the buffer of fields that stand for the state, and what becomes of it.
-use Rattle.std.proofs.Common.{◌≡◌, ◌≢◌, ℕ, ◌+◌, ◌<◌, ◌≤◌, false, not, ◌&&◌, ◌==◌, nat_lt, IsTrue, List, [], ◌∷◌, ◌++◌, length, refl, sym, ap, ap₂, subst, ◌∙◌, Option, Some, None, Result, Ok, Err, if◌then◌else◌, arith}
+use Rattle.std.proofs.Common.{◌≡◌, ◌≢◌, ℕ, ◌+◌, ◌<◌, ◌≤◌, Bool, true, false, not, ◌&&◌, ◌==◌, nat_lt, IsTrue, List, [], ◌∷◌, ◌++◌, length, refl, sym, ap, ap₂, subst, ◌∙◌, Option, Some, None, Result, Ok, Err, if◌then◌else◌, arith}
 use Rattle.std.proofs.lemmas.Bool.{and_parts, eqb-true, ne_eqb}
 use Rattle.std.specs.List.{Contains}
 use Rattle.std.proofs.lemmas.List.FromFn.{length-map-range_with_len}
@@ -7,7 +7,7 @@ use Rattle.std.proofs.lemmas.List.Elements.{All-contains, All-filter}
 use Rattle.std.proofs.lemmas.List.Filters.{length-filter_both}
 use Rattle.std.proofs.lemmas.List.Kept.{AllPairs-filter}
 use denote.Struct.Props.{props}
-use Rattle.std.proofs.Math.Logic.{∥∥₁_elim}
+use Rattle.std.proofs.Math.Logic.{∥∥₁_elim, ∥∥₁_map}
 use Rattle.op_base.specs.Message.{number, fits, id_of}
 use Rattle.op_base.specs.declared.message.Message.{Message}
 use Rattle.op_base.specs.declared.outcome.Crook.{Crook}
@@ -18,7 +18,7 @@ use Rattle.causal_model.specs.Counts.{counts, is_deliverable, is_carried}
 use Rattle.causal_model.specs.Crook.{crook_of}
 use Rattle.causal_model.specs.History.{with_messages}
 use Rattle.causal_model.specs.State.{with_own, State, counted}
-use Rattle.causal_model.specs.Receiving.{next_of, is_old, is_far, crook_after, step_of, messages_with, state_with}
+use Rattle.causal_model.specs.Receiving.{next_of, next_early, is_old, is_far, crook_after, step_of, messages_with, state_with}
 use Rattle.causal_model.specs.Early.{has_id, without}
 use Rattle.causal_model.specs.Stability.{last_tag, known_vector, stable_count, stable_vector}
 use Rattle.causal_model.specs.States.{IsState}
@@ -30,8 +30,6 @@ use Rattle.stability_matrix.specs.Standing.{IsMatrixOf, StableAfter}
 use Rattle.tag_window.specs.Check.{verdict}
 use Rattle.tag_window.specs.History.{IsWindowOf}
 use Rattle.causal_buffer.specs.Buffer.{Buffer, with_messages as with_early_messages}
-use Rattle.causal_buffer.specs.Standing.{IsNextInState, TakesNext}
-use Rattle.causal_buffer.proofs.Standing.{next_id_is_of_message}
 use Rattle.replica_core.specs.Rules.{StandsFor, fields_of}
 use Rattle.replica_core.specs.Insertions.{insertions, element_room}
 use Rattle.replica_core.specs.Standing.{Fields, Standing, StandsForSome}
@@ -71,20 +69,12 @@ pub is_crooked : (o : Option Crook) (crook : Crook) → Err crook ≡ verdict o 
 is_crooked None crook e = cc
 is_crooked (Some other) crook e = cc
 
--- ---- the next early message is taken out by its id
+-- ---- the next early message is taken out
 
--- a message of an id is the one that is taken next
-record IsTaken (s : State) (id : MessageId) (m : Message) : Type 0 where
-  pub next : next_of s ≡ Some m
-  pub of_id : id ≡ id_of m
-
-absurd_is_alone : (a b : ⊥) → a ≡ b
-absurd_is_alone a b = absurd a
-
-module _ (f : Fields) (s : State) (stands : Standing f s) (id : MessageId) where
+module _ (f : Fields) (s : State) (stands : Standing f s) where
   -- without the early message of an id the fields stand for the state without it
-  pub without_stands : (buffer : Buffer) → buffer ≡ with_early_messages f.buffer (without id f.buffer.early) → Standing (record f { buffer = buffer }) (state_without id s)
-  without_stands buffer is =
+  pub without_stands : (id : MessageId) (buffer : Buffer) → buffer ≡ with_early_messages f.buffer (without id f.buffer.early) → Standing (record f { buffer = buffer }) (state_without id s)
+  without_stands id buffer is =
       with_buffer f s stands (without id s.early) buffer (without_is_state f.w f.limit id s stands.is_state) (record {
         members = ap (λ (b : Buffer). b.n) is ∙ stands.buffer.members;
         window = ap (λ (b : Buffer). b.w) is ∙ stands.buffer.window;
@@ -93,52 +83,30 @@ module _ (f : Fields) (s : State) (stands : Standing f s) (id : MessageId) where
       (omega (arith, stands.items_room, ap (λ (b : Buffer). length b.early) is, length-filter_both (λ m. not (has_id id m)) (λ m. not (not (has_id id m))) (λ m. refl) f.buffer.early))
       (omega (arith, stands.lists_room, ap (λ (b : Buffer). insertions b.early) is, insertions_without id f.buffer.early))
 
-  -- by the id of what is next the next message is found
-  next_is_found : (taken : Option Message) → IsNextInState f.counts f.buffer (Some id) → TakesNext id f.buffer taken → (m : Message) × (taken ≡ Some m) × IsTaken s id m
-  next_is_found taken next takes =
-      let named = next_id_is_of_message s id (sym (next f.w s stands.buffer stands.counts)) in
-      (named.0, takes f.w f.limit s named.0 stands.is_state stands.buffer named.1 named.2, record { next = named.1; of_id = named.2 })
+  -- what is taken next is the next of the state
+  pub taken_is_next : (m : Message) → Some m ≡ next_of s → (new : Replica) (buffer : Buffer) → buffer ≡ with_early_messages f.buffer (without (id_of m) f.buffer.early) → fields_of new ≡ record f { buffer = buffer } → IsNextOf new m s
+  taken_is_next m next new buffer left is = record {
+    is_state = subst (λ (g : Fields). IsState g.w g.limit s) (sym is) stands.is_state;
+    next = sym next;
+    left = subst (λ g. Standing g (state_without (id_of m) s)) (sym is) (without_stands (id_of m) buffer left);
+  }
 
-  is_taken : (m : Message) → IsNextInState f.counts f.buffer (Some id) → TakesNext id f.buffer (Some m) → IsTaken s id m
-  is_taken m next takes =
-      let there = next_is_found (Some m) next takes in
-      let same : there.0 ≡ m = cc there.1 in
-      subst (IsTaken s id) same there.2
+-- so they stand for some state whether one was taken or not
+pub taken_or_not_in : (f : Fields) (some : ∥ StandsForSome f ∥₁) (taken : Bool) (id : MessageId) (buffer : Buffer) → buffer ≡ (if taken then with_early_messages f.buffer (without id f.buffer.early) else f.buffer)
+    → ∥ StandsForSome (record f { buffer = buffer }) ∥₁
+taken_or_not_in f some true id buffer left = ∥∥₁_map some (λ x. (state_without id x.0, without_stands f x.0 x.1 id buffer left))
+taken_or_not_in f some false id buffer same = subst (λ b. ∥ StandsForSome (record f { buffer = b }) ∥₁) (sym same) some
 
-  -- it is the next of the state
-  pub taken_is_next : (m : Message) → IsNextInState f.counts f.buffer (Some id) → TakesNext id f.buffer (Some m) → (new : Replica) → (buffer : Buffer) → buffer ≡ with_early_messages f.buffer (without id f.buffer.early)
-      → fields_of new ≡ record f { buffer = buffer } → IsNextOf new m s
-  taken_is_next m next takes new buffer left is =
-      let taken = is_taken m next takes in
-      record {
-        is_state = subst (λ (g : Fields). IsState g.w g.limit s) (sym is) stands.is_state;
-        next = taken.next;
-        left = subst (λ g. Standing g (state_without (id_of m) s)) (sym is) (subst (λ i. Standing (record f { buffer = buffer }) (state_without i s)) taken.of_id (without_stands buffer left));
-      }
+-- there are fewer then, and it puts in no more than one element, of those that there is room for
+module _ (n : ℕ) (counted : List ℕ) (early : List Message) (m : Message) (next : Some m ≡ next_early n counted early) where
+  pub fewer_are_left : length (without (id_of m) early) < length early
+  fewer_are_left = fewer_pass (λ (y : Message). not (has_id (id_of m) y)) early m (found (is_deliverable n counted) early m (sym next)).0 (ap not (has_own_id m))
 
-  fewer_are_left : (m : Message) → IsTaken s id m → length (without id f.buffer.early) < length f.buffer.early
-  fewer_are_left m taken =
-      let there = found (is_deliverable s.history.present.n (counted s.history)) s.early m taken.next in
-      subst (λ early. length (without id early) < length early) (sym stands.buffer.early)
-      (fewer_pass (λ (y : Message). not (has_id id y)) s.early m there.0 (ap not (ap (λ i. has_id i m) taken.of_id ∙ has_own_id m)))
+  pub elements_are_left : insertions (without (id_of m) early) + element_room m.op ≤ insertions early
+  elements_are_left = taken_insertion (id_of m) early m (found (is_deliverable n counted) early m (sym next)).0 (has_own_id m)
 
-  -- and it puts in no more than one element, of those that there is room for
-  elements_are_left : (m : Message) → IsTaken s id m → insertions (without id f.buffer.early) + element_room m.op ≤ insertions f.buffer.early
-  elements_are_left m taken =
-      let there = found (is_deliverable s.history.present.n (counted s.history)) s.early m taken.next in
-      subst (λ early. insertions (without id early) + element_room m.op ≤ insertions early) (sym stands.buffer.early)
-      (taken_insertion id s.early m there.0 (ap (λ i. has_id i m) taken.of_id ∙ has_own_id m))
-
--- what is true of it for some state, where it is a proposition
-module _ (f : Fields) (some : ∥ StandsForSome f ∥₁) (id : MessageId) (next : IsNextInState f.counts f.buffer (Some id)) where
-  pub next_is_found_in : (taken : Option Message) → TakesNext id f.buffer taken → ((m : Message) → taken ≡ Some m → ⊥) → ⊥
-  next_is_found_in taken takes missing = ∥∥₁_elim {P = ⊥} some absurd_is_alone (λ (x : StandsForSome f). missing (next_is_found f x.0 x.1 id taken next takes).0 (next_is_found f x.0 x.1 id taken next takes).1)
-
-  pub fewer_are_left_in : (m : Message) → TakesNext id f.buffer (Some m) → length (without id f.buffer.early) < length f.buffer.early
-  fewer_are_left_in m takes = ∥∥₁_elim some (search props) (λ x. fewer_are_left f x.0 x.1 id m (is_taken f x.0 x.1 id m next takes))
-
-  pub elements_are_left_in : (m : Message) → TakesNext id f.buffer (Some m) → insertions (without id f.buffer.early) + element_room m.op ≤ insertions f.buffer.early
-  elements_are_left_in m takes = ∥∥₁_elim some (search props) (λ x. elements_are_left f x.0 x.1 id m (is_taken f x.0 x.1 id m next takes))
+absurd_is_alone : (a b : ⊥) → a ≡ b
+absurd_is_alone a b = absurd a
 
 -- ---- the next message of a state, which is early no more
 

@@ -11,6 +11,7 @@ use Rattle.causal_model.specs.Receiving.{next_of, crook_after, step_of, state_wi
 use Rattle.causal_model.specs.State.{State}
 use Rattle.causal_model.specs.Stability.{carries_operation}
 use Rattle.causal_model.specs.States.{IsState}
+use Rattle.outbox.specs.Sent.{Sent, unstable_in}
 use Rattle.stability_matrix.specs.Rows.{Known, stable_of, noted}
 use Rattle.stability_matrix.specs.Standing.{IsMatrixOf}
 use Rattle.replica_core.specs.Rules.{StandsFor}
@@ -22,7 +23,7 @@ use Rattle.replica_core.specs.declared.step.Sender.TheVariants as sender
 -- least of each column once it is noted
 abbrev pub IsSender : ℕ → Known → Message → Sender → Type 0
 IsSender me matrix m (sender.Own room) = (m.origin ≡ me) × IsCopyRoomFor room m.op
-IsSender me matrix m (sender.Other stable) = (m.origin ≢ me) × (stable ≡ stable_of (noted matrix.me m.origin m.tag matrix.rows))
+IsSender me matrix m (sender.Other stable) = (m.origin ≢ me) × (stable.now ≡ stable_of (noted matrix.me m.origin m.tag matrix.rows))
 
 -- where the matrix was that of messages of which this is the next, it is that of those with it
 abbrev pub KeepsMatrix : Message → Known → Known → Type 0
@@ -31,6 +32,14 @@ KeepsMatrix m old new = (n w me : ℕ) (messages : List Message) → IsTrue (is_
 -- messages of member me with one more where it is an own one
 abbrev pub with_own_sent : ℕ → Message → List Message → List Message
 with_own_sent me m messages = if m.origin == me then messages ++ m ∷ [] else messages
+
+-- an outbox of member me with one message more where it is an own one
+abbrev pub with_own_in : ℕ → Message → Sent → Sent
+with_own_in me m sent = record { n = sent.n; w = sent.w; messages = with_own_sent me m sent.messages }
+
+-- an outbox without what is stable where these are the stable counts
+abbrev pub left_unstable : List ℕ → Sent → Sent
+left_unstable stable sent = record { n = sent.n; w = sent.w; messages = unstable_in stable sent.messages }
 
 -- whether a no-op is due at a member after a message
 abbrev pub is_due_after : ℕ → Bool → Message → Bool
@@ -57,3 +66,19 @@ pub record IsStepOf (w : ℕ) (s : State) (step : Step) (new : Replica) : Type 0
   pub next : next_of s ≡ Some message
   pub is : step ≡ step_of message (crook_after w s.history message)
   pub stands : StandsFor new (state_with w s message)
+
+-- steps of a state, and the state after them, behind other steps
+abbrev pub behind : List Step → List Step × State → List Step × State
+behind before made = (before ++ made.0, made.1)
+
+-- behind steps that there were, those of a state are the ones that were made, and then those of a state that the fields stand for
+-- now
+pub record HasMade (w : ℕ) (s : State) (before made : List Step) (now : Replica) : Type 0 where
+  pub after : State
+  pub stands : StandsFor now after
+  pub is : behind before (steps w s) ≡ behind made (steps w after)
+
+-- all steps of a state were made and put behind those that there were, and the fields stand for the state after them
+pub record HasAdded (w : ℕ) (s : State) (before made : List Step) (new : Replica) : Type 0 where
+  pub are : made ≡ before ++ (steps w s).0
+  pub stands : StandsFor new (steps w s).1

@@ -1,13 +1,13 @@
 //! Receiving messages of others, and delivering them in causal order.
 
-ghost use Rattle.std.specs.Prelude.{◌≡◌, ◌+◌, ◌<◌, ◌≤◌, false, [], length, vec_capacity, IsTrue, IfOk, OnErr, OnOk, None};
+ghost use Rattle.std.specs.Prelude.{◌≡◌, ◌↔◌, ◌+◌, ◌<◌, ◌≤◌, false, [], length, vec_capacity, IsTrue, IfOk, OnErr, OnOk, Some, None};
 ghost use Rattle.std.specs.Option.{IfSome, IfNone};
 ghost use Rattle.op_base.specs.Message.{fits, id_of};
 ghost use Rattle.op_base.specs.declared.message.Message.{Message as AMessage};
 ghost use Rattle.causal_model.specs.Counts.{is_carried, is_deliverable};
-ghost use Rattle.causal_model.specs.Early.{is_again};
+ghost use Rattle.causal_model.specs.Early.{is_again, put_early};
 ghost use Rattle.causal_model.specs.Follows.{Follows};
-ghost use Rattle.causal_model.specs.Receiving.{is_old, is_far, next_of, with_early, refusal_by_id, refusal_of, is_accepted, receive_rule};
+ghost use Rattle.causal_model.specs.Receiving.{is_old, is_far, next_of, next_early, with_early, refusal_by_id, refusal_of, is_accepted, receive_rule};
 ghost use Rattle.causal_model.specs.State.{State};
 ghost use Rattle.list_type.specs.Shown.{shown as lists_shown};
 ghost use Rattle.stable_state.specs.Shown.{shown};
@@ -16,15 +16,15 @@ ghost use Rattle.replica_core.specs.Insertions.{insertions, element_room};
 use crate::replica::Replica;
 use crate::settling::is_insertion;
 use crate::step::Sender;
-use causal_buffer::is_deliverable;
+use causal_buffer::{CausalBuffer, is_deliverable};
 use causal_model::{Receive, Refusal};
-use op_base::{Message, MessageId, NoMemory, Step, StepList};
+use op_base::{Message, MessageId, NoMemory, Op, Step, StepList, Tag};
 use std::alloc::Global;
 
 impl Replica {
     ghost use Rattle.replica_core.specs.Ready.{IsReadyToAccept};
     ghost use Rattle.replica_core.specs.Rules.{StandsFor, SameSettings, Unchanged, IsBounded};
-    ghost use Rattle.replica_core.specs.Steps.{HasStepped, IsNextOf, IsStepOf};
+    ghost use Rattle.replica_core.specs.Steps.{HasStepped, HasMade, HasAdded, IsNextOf, IsStepOf};
 
     /// Receives a message of the store, none of whose entries is above the limit and whose operation is valid. One that is
     /// old, early already or too far ahead is let go, and changes nothing. Each other becomes early; then early messages are
@@ -108,20 +108,35 @@ impl Replica {
         Ok(steps)
     }
 
-    /// Takes in a message for which `reserve_accept` took memory, and makes the steps that follow. Where none is early and it can
-    /// be delivered, it never becomes early.
-    pub fn accept_reserved(&mut self, mut message: Message, mut steps: Vec<Step>) -> StepList
+    /// Takes in a message for which `reserve_accept` took memory, and makes the steps that follow. Where it is next at once, it
+    /// never becomes early.
+    pub fn accept_reserved(&mut self, message: Message, mut steps: Vec<Step>) -> StepList
         requires ready { IsReadyToAccept self.old message steps }
         ensures steps { (s : State) → StandsFor self.old s → HasStepped self.old.w (with_early s message) result self.new }
         ensures settings { SameSettings self.old self.new }
     {
-        if self.comes_alone(&message) {
-            steps.push_reserved(self.take(&mut message));
+        self.take_in(message, &mut steps);
+        if self.buffer.is_empty() {
             return StepList::from_vec(steps);
         }
-        self.buffer.keep(message, self.me, &self.counts);
         self.make_steps(&mut steps);
         StepList::from_vec(steps)
+    }
+
+    /// Takes in a message for which `reserve_accept` took memory. Where it is next at once, its step is made; else it is early
+    /// then.
+    #[inline(always)]
+    fn take_in(&mut self, mut message: Message, steps: &mut Vec<Step>)
+        requires ready { IsReadyToAccept self.old message steps.old }
+        ensures made { (s : State) → StandsFor self.old s → HasMade self.old.w (with_early s message) [] steps.new.items self.new }
+        ensures room { length steps.new.items + length self.new.buffer.early ≤ vec_capacity steps.new }
+        ensures settings { SameSettings self.old self.new }
+    {
+        if comes_next(&mut self.buffer, &message, &self.counts) {
+            steps.push_reserved(self.take(&mut message));
+        } else {
+            self.buffer.keep(message, self.me, &self.counts);
+        }
     }
 
     /// Takes room for the element that a message puts in, beside those of the early messages. `NoMemory` leaves the lists, and
@@ -137,38 +152,21 @@ impl Replica {
         Ok(())
     }
 
-    /// Whether no message is early, and this one can be delivered.
-    fn comes_alone(&self, message: &Message) -> bool
-        requires { IsTrue (fits self.now.n message.now) }
-        ensures { IsTrue result → (self.now.buffer.early ≡ []) × IsTrue (is_deliverable self.now.n self.now.counts message.now) }
-    {
-        self.buffer.is_empty() && is_deliverable(message, &self.counts)
-    }
-
-    /// Makes the steps that can be made, one after the other. There is room for a step of each early message.
+    /// Makes the steps that can be made, one after the other, and puts them behind those that there are. There is room for a step
+    /// of each early message.
     fn make_steps(&mut self, steps: &mut Vec<Step>)
-        requires none { steps.old.items ≡ [] }
-        requires room { length self.old.buffer.early ≤ vec_capacity steps.old }
-        ensures steps { (s : State) → StandsFor self.old s → HasStepped self.old.w s steps.new.items self.new }
+        requires room { length steps.old.items + length self.old.buffer.early ≤ vec_capacity steps.old }
+        ensures steps { (s : State) → StandsFor self.old s → HasAdded self.old.w s steps.old.items steps.new.items self.new }
         ensures settings { SameSettings self.old self.new }
     {
-        while let Some(step) = self.next_step() {
-            steps.push_reserved(step);
-        }
-    }
-
-    /// Takes the next early message, where one can be delivered: it is delivered, or dropped where it is crooked.
-    fn next_step(&mut self) -> Option<Step>
-        ensures step { IfSome result (λ step. (s : State) → StandsFor self.old s → IsStepOf self.old.w s step self.new) }
-        ensures end { IfNone result ((s : State) → StandsFor self.old s → (next_of s ≡ None) × StandsFor self.new s) }
-        ensures settings { SameSettings self.old self.new }
-        ensures fewer { IfSome result (λ step. length self.new.buffer.early < length self.old.buffer.early) }
-    {
-        let id = self.buffer.next(&self.counts)?;
-        let Some(mut message) = self.buffer.remove(id) else {
-            unreachable!()
+        let mut message = Message {
+            origin: 0,
+            tag: Tag::zero(1),
+            op: Op::NoOp,
         };
-        Some(self.take(&mut message))
+        while self.buffer.take_next(&self.counts, &mut message) {
+            steps.push_reserved(self.take(&mut message));
+        }
     }
 
     /// Takes the next message of a state, whose other early messages are still early: it is delivered, or dropped where it is
@@ -184,13 +182,25 @@ impl Replica {
     {
         let id = message.id();
         let last = self.matrix.row(message.origin);
-        let stable = self.matrix.stable_after(message.origin, message.tag);
+        let stable = self.matrix.stable_with(message.origin, &message.tag);
         match self.window.check(message, &last, &stable) {
             Ok(()) => {
-                self.step(message, Sender::Other(stable));
+                self.step(message, Sender::Other(&stable));
                 Step::Took(id)
             }
             Err(crook) => Step::Crook(id, crook),
         }
     }
+}
+
+/// Whether a message that isn't early can be delivered, and is taken next where it is put among the early ones.
+#[tactic(auto, using(crate::proofs::Comes::next_can_be_delivered))]
+fn comes_next(buffer: &mut CausalBuffer, message: &Message, counts: &Tag) -> bool
+    requires fits { IsTrue (fits buffer.old.n message.now) }
+    requires counts { length counts.now ≡ buffer.old.n }
+    requires apart { is_again buffer.old.early message.now ≡ false }
+    ensures next { IsTrue result ↔ (next_early buffer.old.n counts.now (put_early message.now buffer.old.early) ≡ Some message.now) }
+    ensures unchanged { buffer.new ≡ buffer.old }
+{
+    is_deliverable(message, counts) && buffer.comes_next(message, counts)
 }

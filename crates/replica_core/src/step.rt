@@ -9,7 +9,8 @@ ghost use Rattle.outbox.specs.Sent.{ComesAfter, room_of};
 ghost use Rattle.list_type.specs.Shown.{shown as lists_shown};
 ghost use Rattle.stable_state.specs.Shown.{shown};
 ghost use Rattle.replica_core.specs.Insertions.{insertions, element_room};
-ghost use Rattle.replica_core.specs.Steps.{IsSender, KeepsMatrix, is_due_after, with_own_sent};
+ghost use Rattle.stability_matrix.specs.Rows.{stable_of};
+ghost use Rattle.replica_core.specs.Steps.{IsSender, KeepsMatrix, is_due_after, with_own_in, left_unstable};
 
 use crate::replica::Replica;
 use crate::settling::settle;
@@ -19,11 +20,11 @@ use stability_matrix::Matrix;
 
 /// Who sent a message that is delivered, and what a step needs for it.
 #[derive(Drop)]
-pub(crate) enum Sender {
+pub(crate) enum Sender<'a> {
     /// The replica itself: memory for a copy of the message, which is sent again until it is stable.
     Own(CopyRoom),
     /// Another member: what is stable once the message is delivered.
-    Other(Tag),
+    Other(&'a Tag),
 }
 
 impl Replica {
@@ -31,7 +32,7 @@ impl Replica {
 
     /// Makes a message the next of the history. There is room for what it and each early message can make of items and lists.
     /// The operation is taken out of the message where it is kept.
-    pub(crate) fn step(&mut self, message: &mut Message, sender: Sender)
+    pub(crate) fn step(&mut self, message: &mut Message, sender: Sender<'_>)
         requires next { ∥ ((s : State) × StandsFor self.old s × IsState self.old.w self.old.limit (with_own s message.old)) ∥₁ }
         requires sender { IsSender self.old.me self.old.matrix message.old sender }
         requires room { length self.old.log.entries + length self.old.buffer.early + 1 ≤ (shown self.old.items).spare }
@@ -45,10 +46,10 @@ impl Replica {
         note(&mut self.matrix, &mut self.outbox, message, sender);
         self.counts.set(origin, message.tag.at(origin));
         self.due = is_due(self.due, self.me, message);
-        let stable = self.matrix.stable();
+        let stable = self.matrix.stable_counts();
         self.window.push(origin, message.tag, is_noop(&message.op));
-        self.window.drop_stable(&stable);
-        self.outbox.drop_stable(&stable);
+        self.window.drop_stable(stable);
+        self.outbox.drop_stable(stable);
         let epoch = self.epoch;
         settle(
             &mut self.log,
@@ -57,13 +58,14 @@ impl Replica {
             epoch,
             message,
             &before,
-            &stable,
+            stable,
         );
     }
 }
 
-/// Notes a member's next message in its matrix, and puts a copy of an own one behind those that are sent again.
-fn note(matrix: &mut Matrix, outbox: &mut Outbox, message: &Message, sender: Sender)
+/// Notes a member's next message in its matrix, and puts a copy of an own one behind those that are sent again, unless it is
+/// stable at once, as in a store of one member. What isn't stable is then what it is with the message among them.
+fn note(matrix: &mut Matrix, outbox: &mut Outbox, message: &Message, sender: Sender<'_>)
     requires origin { message.now.origin < length matrix.old.rows }
     requires entries { length message.now.tag ≡ length matrix.old.rows }
     requires sender { IsSender matrix.old.me matrix.old message.now sender }
@@ -72,14 +74,16 @@ fn note(matrix: &mut Matrix, outbox: &mut Outbox, message: &Message, sender: Sen
     requires next { message.now.origin ≡ matrix.old.me → All (λ e. ComesAfter e message.now) outbox.old.messages }
     ensures members { length matrix.new.rows ≡ length matrix.old.rows }
     ensures known { KeepsMatrix message.now matrix.old matrix.new }
-    ensures outbox { outbox.new ≡ record { n = outbox.old.n; w = outbox.old.w; messages = with_own_sent matrix.old.me message.now outbox.old.messages } }
+    ensures outbox { left_unstable (stable_of matrix.new.rows) outbox.new ≡ left_unstable (stable_of matrix.new.rows) (with_own_in matrix.old.me message.now outbox.old) }
 {
     match sender {
         Sender::Own(room) => {
             matrix.note_own(message.tag);
-            outbox.push(message.copied(room));
+            if !matrix.is_stable(message.id()) {
+                outbox.push(message.copied(room));
+            }
         }
-        Sender::Other(stable) => matrix.note_with(message.origin, message.tag, stable),
+        Sender::Other(stable) => matrix.note_with(message.origin, &message.tag, stable),
     }
 }
 

@@ -1,4 +1,4 @@
-use Rattle.std.proofs.Common.{List, length, slice_set, refl, sym, ap, subst, ◌∙◌, arith}
+use Rattle.std.proofs.Common.{◌≡◌, List, length, slice_set, refl, sym, ap, subst, ◌∙◌, arith}
 use Rattle.std.proofs.Math.Logic.{∥∥₁_map}
 use Rattle.std.proofs.lemmas.List.{length-set}
 use Rattle.std.proofs.lemmas.List.FromFn.{length-map-range_with_len}
@@ -13,7 +13,7 @@ use Rattle.tag_window.specs.Window.{Window}
 use Rattle.tag_window.specs.declared.held.Held.{Held}
 use Rattle.replica_core.specs.Rules.{fields_of}
 use Rattle.replica_core.specs.Standing.{Standing}
-use Rattle.replica_core.specs.Steps.{IsSender}
+use Rattle.replica_core.specs.Steps.{IsSender, with_own_in, left_unstable}
 use Rattle.replica_core.proofs.Ranges.{AreNumbers-from_test}
 use Rattle.replica_core.proofs.Stands.{length-counts_in, length-rows_in, length-held_in, of_me_in, within_in}
 use Rattle.replica_core.proofs.StepParts.{origin_in, length-tag_in, window_room_in, window_next_in, outbox_room_in, outbox_fits_in, outbox_next_in, outbox_n_in, stable_with, ready_with, all_stand}
@@ -83,7 +83,7 @@ drop_stable-requires c =
     let r = c.args.self.now in
     omega (
       arith,
-      ap length c.stable-stable.ensures.least,
+      ap length c.stable_counts-stable.ensures.least,
       length-map-range_with_len (λ member. minimum (column_of c.note.new.matrix.rows member)) 0 (length c.note.new.matrix.rows),
       c.note.ensures.members,
       length-rows_in (fields_of r) r.stands,
@@ -97,7 +97,7 @@ drop_stable-requires-2 c =
     let r = c.args.self.now in
     omega (
       arith,
-      ap length c.stable-stable.ensures.least,
+      ap length c.stable_counts-stable.ensures.least,
       length-map-range_with_len (λ member. minimum (column_of c.note.new.matrix.rows member)) 0 (length c.note.new.matrix.rows),
       c.note.ensures.members,
       length-rows_in (fields_of r) r.stands,
@@ -113,8 +113,8 @@ settle-requires-clause-ready c =
       r.w,
       r.limit,
       x.0.history,
-      ready_with (fields_of r) x.0 c.args.message.now x.1 x.2 numbers.wide numbers.most c.stable-before.result c.stable-stable.result c.stable-before.ensures.known
-          (stable_with (fields_of r) x.0 c.args.message.now x.1 x.2 c.note.new.matrix c.stable-stable.result c.note.ensures.known c.stable-stable.ensures.known),
+      ready_with (fields_of r) x.0 c.args.message.now x.1 x.2 numbers.wide numbers.most c.stable-before.result c.stable_counts-stable.result.now c.stable-before.ensures.known
+          (stable_with (fields_of r) x.0 c.args.message.now x.1 x.2 c.note.new.matrix c.stable_counts-stable.result.now c.note.ensures.known c.stable_counts-stable.ensures.known),
     ))
 
 pub settle-requires-clause-lists_spare : goal.settle-requires-clause-lists_spare
@@ -125,6 +125,13 @@ settle-requires-clause-deep c =
     let r = c.args.self.now in
     within_in (fields_of r) r.stands (AreNumbers-from_test r.me r.n r.w r.limit r.numbers).most
 
+-- what isn't stable is in the outbox, and the message where it is an own one and isn't
+outbox_is : (c : After-settle) → left_unstable c.stable_counts-stable.result.now c.note.new.outbox
+    ≡ left_unstable c.stable_counts-stable.result.now (with_own_in c.args.self.now.matrix.me c.args.message.now c.args.self.now.outbox)
+outbox_is c =
+    subst (λ stable. left_unstable stable c.note.new.outbox ≡ left_unstable stable (with_own_in c.args.self.now.matrix.me c.args.message.now c.args.self.now.outbox))
+    (sym c.stable_counts-stable.ensures.least) c.note.ensures.outbox
+
 -- once all parts have the message, the fields stand for the state with it
 after : (c : After-settle) (s : State) → Standing (fields_of c.args.self.now) s → IsState c.args.self.now.w c.args.self.now.limit (with_own s c.args.message.now)
     → Standing (record (fields_of c.args.self.now) { counts = c.set.new.self; matrix = c.note.new.matrix; window = c.drop_stable.new.self; log = c.settle.new.log; items = shown c.settle.new.items; lists = lists_shown c.settle.new.lists; outbox = c.drop_stable-2.new.self; due = c.is_due-self.result }) (with_own s c.args.message.now)
@@ -132,8 +139,8 @@ after c =
     let r = c.args.self.now in
     let m = c.args.message.now in
     let numbers = AreNumbers-from_test r.me r.n r.w r.limit r.numbers in
-    all_stand (fields_of r) m numbers.wide numbers.most _ _ _ _ _ _ _ _ _ _ _ _ (c.set.ensures ∙ ap (slice_set r.counts m.origin) c.at.ensures) c.note.ensures.known c.stable-before.ensures.known c.stable-stable.ensures.known
-    (λ messages. c.push.ensures.with r.n r.w r.me messages m refl refl (sym c.is_noop.ensures)) c.drop_stable.ensures.of c.note.ensures.outbox c.drop_stable-2.ensures.dropped c.drop_stable-2.ensures.sent
+    all_stand (fields_of r) m numbers.wide numbers.most _ _ _ _ _ _ _ _ _ _ _ _ (c.set.ensures ∙ ap (slice_set r.counts m.origin) c.at.ensures) c.note.ensures.known c.stable-before.ensures.known c.stable_counts-stable.ensures.known
+    (λ messages. c.push.ensures.with r.n r.w r.me messages m refl refl (sym c.is_noop.ensures)) c.drop_stable.ensures.of (outbox_is c) c.drop_stable-2.ensures.dropped
     (c.settle.ensures.are_of r.w r.limit) c.settle.ensures.room c.requires.room c.settle.ensures.spare
     c.requires.lists_room c.settle.ensures.lists_spare c.settle.ensures.deep c.is_due-self.ensures
 

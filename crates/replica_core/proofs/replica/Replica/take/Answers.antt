@@ -17,13 +17,18 @@ row-last-requires c =
     let r = c.args.self.now in
     omega (arith, next_member_in r c.args.message.now c.requires.next, length-rows_in (fields_of r) r.stands)
 
-pub stable_after-stable-requires-clause-other : goal.stable_after-stable-requires-clause-other
-stable_after-stable-requires-clause-other c =
+pub stable_with-stable-requires-clause-origin : goal.stable_with-stable-requires-clause-origin
+stable_with-stable-requires-clause-origin c =
+    let r = c.args.self.now in
+    omega (arith, next_member_in r c.args.message.now c.requires.next, length-rows_in (fields_of r) r.stands)
+
+pub stable_with-stable-requires-clause-other : goal.stable_with-stable-requires-clause-other
+stable_with-stable-requires-clause-other c =
     let r = c.args.self.now in
     λ own. next_is_of_other_in r c.args.message.now c.requires.next (own ∙ of_me_in (fields_of r) r.stands)
 
-pub stable_after-stable-requires-clause-entries : goal.stable_after-stable-requires-clause-entries
-stable_after-stable-requires-clause-entries c =
+pub stable_with-stable-requires-clause-entries : goal.stable_with-stable-requires-clause-entries
+stable_with-stable-requires-clause-entries c =
     let r = c.args.self.now in
     omega (arith, next_entries_in r c.args.message.now c.requires.next, length-rows_in (fields_of r) r.stands)
 
@@ -40,7 +45,7 @@ check-requires-clause-last c =
 pub check-requires-clause-stable : goal.check-requires-clause-stable
 check-requires-clause-stable c =
     let r = c.args.self.now in
-    let long = length-stable_in r c.args.message.now c.requires.next c.stable_after-stable.result c.stable_after-stable.ensures.known in
+    let long = length-stable_in r c.args.message.now c.requires.next c.stable_with-stable.result c.stable_with-stable.ensures.known in
     omega (arith, long, length-held_in (fields_of r) r.stands)
 
 pub step-requires-clause-next : goal.step-requires-clause-next
@@ -48,18 +53,18 @@ step-requires-clause-next c =
     let r = c.args.self.now in
     let m = c.args.message.now in
     ∥∥₁_map c.requires.next (λ x.
-    let told = check_tells r m x.0 x.1 _ c.row-last.result c.stable_after-stable.result c.row-last.ensures.known c.stable_after-stable.ensures.known c.in-Ok.ensures.told in
+    let told = check_tells r m x.0 x.1 _ c.row-last.result c.stable_with-stable.result c.row-last.ensures.known c.stable_with-stable.ensures.known c.in-Ok.ensures.told in
     let right = not_crooked (crook_after r.w x.0.history m) _ told in
     (state_without (id_of m) x.0, x.1.left, delivered_is_state r m x.0 x.1 right))
 
 pub step-requires-clause-sender : goal.step-requires-clause-sender
-step-requires-clause-sender c = (next_is_of_other_in c.args.self.now c.args.message.now c.requires.next, c.stable_after-stable.ensures.least)
+step-requires-clause-sender c = (next_is_of_other_in c.args.self.now c.args.message.now c.requires.next, c.stable_with-stable.ensures.least)
 
 pub returns-in-Ok-clause-step : goal.returns-in-Ok-clause-step
 returns-in-Ok-clause-step c = λ s is.
     let r = c.args.self.now in
     let m = c.args.message.now in
-    let told = check_tells r m s is _ c.row-last.result c.stable_after-stable.result c.row-last.ensures.known c.stable_after-stable.ensures.known c.in-Ok.ensures.told in
+    let told = check_tells r m s is _ c.row-last.result c.stable_with-stable.result c.row-last.ensures.known c.stable_with-stable.ensures.known c.in-Ok.ensures.told in
     let right = not_crooked (crook_after r.w s.history m) _ told in
     subst (λ i. IsStepOf r.w s (step.Took i) c.step.new.self) (sym c.id-id.ensures)
     (is_step_of_delivered r m s is right c.step.new.self (c.step.ensures.stands (state_without (id_of m) s) is.left (delivered_is_state r m s is right)))
@@ -68,6 +73,6 @@ pub returns-in-Err-clause-step : goal.returns-in-Err-clause-step
 returns-in-Err-clause-step c = λ s is.
     let r = c.args.self.now in
     let m = c.args.message.now in
-    let told = check_tells r m s is _ c.row-last.result c.stable_after-stable.result c.row-last.ensures.known c.stable_after-stable.ensures.known c.in-Err.ensures.told in
+    let told = check_tells r m s is _ c.row-last.result c.stable_with-stable.result c.row-last.ensures.known c.stable_with-stable.ensures.known c.in-Err.ensures.told in
     subst (λ i. IsStepOf r.w s (step.Crook i c.in-Err.crook) r) (sym c.id-id.ensures)
     (is_step_of_dropped r m s is c.in-Err.crook (is_crooked (crook_after r.w s.history m) c.in-Err.crook told))
