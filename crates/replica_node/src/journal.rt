@@ -1,6 +1,6 @@
 //! A journal: a recorder that keeps its list.
 
-ghost use Rattle.std.specs.Prelude.{◌≡◌, [], IfOk};
+ghost use Rattle.std.specs.Prelude.{◌≡◌, ◌+◌, ◌<◌, [], ◌∷◌, ◌++◌, IfOk, OnOk, vec_len, vec_capacity};
 
 use crate::count::AskCount;
 use crate::recorder::Recorder;
@@ -49,28 +49,39 @@ impl Journal {
     {
         let mut notes = Vec::with_capacity(alloc, self.notes.len())?;
         for note in &self.notes {
-            notes.push(copy_note(note, alloc)?)?;
+            put_copy(&mut notes, note, alloc)?;
         }
         let asked = AskCount::none();
         Ok(Journal { notes, asked })
     }
 }
 
-/// An equal note.
-fn copy_note(note: &Note, alloc: Global) -> Result<Note, NoMemory>
-    ensures { IfOk result (λ copy. copy ≡ note.now) }
+/// Puts an equal note behind notes that have room for it. The memory for a message's copy is taken first, so that the copy is
+/// made where it will stand.
+fn put_copy(notes: &mut Vec<Note>, note: &Note, alloc: Global) -> Result<(), NoMemory>
+    requires room { vec_len notes.old < vec_capacity notes.old }
+    ensures copied { OnOk result (notes.new.items ≡ notes.old.items ++ note.now ∷ []) }
+    ensures len { OnOk result (vec_len notes.new ≡ vec_len notes.old + 1) }
+    ensures capacity { vec_capacity notes.new ≡ vec_capacity notes.old }
 {
-    Ok(match note {
-        Note::Sent(message) => Note::Sent(message.copy(alloc)?),
-        Note::Kept(message) => Note::Kept(message.copy(alloc)?),
-        Note::Took(id) => Note::Took(*id),
-        Note::Crook(id) => Note::Crook(*id),
-        Note::Regroup { epoch, n, me } => Note::Regroup {
+    match note {
+        Note::Sent(message) => {
+            let room = message.op.room(alloc)?;
+            notes.push_reserved(Note::Sent(message.copied(room)));
+        }
+        Note::Kept(message) => {
+            let room = message.op.room(alloc)?;
+            notes.push_reserved(Note::Kept(message.copied(room)));
+        }
+        Note::Took(id) => notes.push_reserved(Note::Took(*id)),
+        Note::Crook(id) => notes.push_reserved(Note::Crook(*id)),
+        Note::Regroup { epoch, n, me } => notes.push_reserved(Note::Regroup {
             epoch: *epoch,
             n: *n,
             me: *me,
-        },
-    })
+        }),
+    }
+    Ok(())
 }
 
 impl Recorder for Journal {

@@ -290,7 +290,7 @@ pub fn put<R: Recorder>(journal: &mut R, length: &mut u64, note: Note)
 /// Puts the notes of steps at the end, in order.
 fn put_steps<R: Recorder>(journal: &mut R, length: &mut u64, steps: &[Step])
     requires room { length_of steps.now ≤ R.spare journal.old }
-    requires few { length.old + length_of steps.now < 2 ^ 63 + 1 }
+    requires few { length.old + length_of steps.now ≤ 2 ^ 63 }
     requires counted { IsCount length.old (R.notes journal.old) }
     ensures noted { R.notes journal.new ≡ R.notes journal.old ++ map step_note steps.now }
     ensures asked { R.asked journal.new ≡ R.asked journal.old }
