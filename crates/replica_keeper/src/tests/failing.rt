@@ -10,9 +10,9 @@ use store_io::{Keeper, MemoryKeeper};
 
 /// Receives a message of the other member, and tells whether it was done.
 fn hears(alloc: Global, replica: &mut Durable<MemoryKeeper>) -> Result<bool, Fail> {
-    let message = decode(alloc, &HEARD[5..], 2, 0, 10000)
-        .ok()
-        .ok_or("no frame")?;
+    let Ok(message) = decode(alloc, &HEARD[5..], 2, 0, 10000) else {
+        return Err("no frame".into());
+    };
     if replica.n != 2 || replica.limit != 10000 {
         return Err("another store".into());
     }
