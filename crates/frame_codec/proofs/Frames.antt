@@ -1,7 +1,6 @@
 -- What the bytes say is the message that they spell, and no other.
 use Rattle.std.proofs.Common.{◌≡◌, ◌≢◌, ℕ, zero, suc, ◌+◌, ◌*◌, ◌^◌, ◌<◌, ◌≤◌, Bool, true, false, not, ◌||◌, ◌&&◌, List, [], ◌∷◌, ◌++◌, length, drop, refl, sym, ap, subst, ◌∙◌, append_assoc, arith, inl, inr}
 use Rattle.std.proofs.Math.Bool.{Bool-set}
-use mathlib.Core.HLevel.{is_prop→PathP}
 use Rattle.std.specs.Prelude.{Some, None, Result, Ok, Err, MatchResult, IfOk, IfErr, IsOk, IsTrue, All, nat_lt, nat_le, ◌==◌, slice_index, if◌then◌else◌}
 use Rattle.std.specs.List.{flat_map, list_any, AllByRecursion}
 use Rattle.std.proofs.lemmas.Bool.{and_parts, or_parts, and_from, or_from, eqb-true, eqb-false, ltb-true, ltb-false, leb-false, lt-ltb, le-ltb, lt-leb, eq-eqb, cases_lt, not-false, ne_eqb, cases_eq}
@@ -11,6 +10,7 @@ use Rattle.op_base.specs.Verb.{operation_of}
 use Rattle.op_base.specs.Code.{op_code}
 use Rattle.op_base.specs.Message.{fits}
 use Rattle.op_base.specs.Name.{is_key}
+use Rattle.op_base.proofs.Updates.{same_update}
 use Rattle.op_base.specs.Operation.{has_act, verb_of}
 use Rattle.op_base.specs.declared.message.Message.{Message}
 use Rattle.op_base.specs.declared.operation.Op.{Op}
@@ -34,10 +34,6 @@ use Rattle.frame_codec.proofs.Spelled.{IsBytes, IsBytes-drop, IsBytes-behind, ep
 use Rattle.frame_codec.proofs.Faults.{six_pass, HasNoFault, no_fault, without_fault, head_code, head_most}
 
 -- ---- operations
-
--- two updates of one object and act are one
-same_update : (u v : Update) → u.object ≡ v.object → u.act ≡ v.act → u ≡ v
-same_update u v object act = λ i. record { object = object i; act = act i; of_kind = is_prop→PathP (λ j. IsTrue (has_act (object j).kind (act j))) (λ j. hlevel Bool-set) u.of_kind v.of_kind i }
 
 -- the bytes say one operation
 says_one : (version : Version) (code : ℕ) (bytes : List ℕ) (a b : Op) → SaysOperation version code bytes a → SaysOperation version code bytes b → a ≡ b

@@ -1,5 +1,5 @@
 pub mod Names
-pub mod Keys
+pub mod Padded
 pub mod Timestamps
 pub mod Updates
 pub mod Orders

@@ -2,7 +2,7 @@
 //!
 //! Their texts are this project's own profile. UTF-8 is tested by `simdutf8`.
 
-ghost use Rattle.std.specs.Prelude.{◌≡◌, ◌≢◌, ◌≤◌, ◌+◌, ◌-◌, ◌++◌, length, take, drop, replicate, IfOk, IfErr, OnOk, IsOk, IsTrue, position, not, Some, Ok};
+ghost use Rattle.std.specs.Prelude.{◌≡◌, ◌≢◌, ◌≤◌, ◌+◌, ◌-◌, ◌*◌, ◌++◌, length, take, drop, replicate, IfOk, IfErr, OnOk, IsOk, IsTrue, position, not, Some, Ok};
 ghost use Rattle.op_base.specs.declared.name.TheConstants.{VALUE_BYTES_IN_PLACE};
 ghost use Rattle.std.specs.List.{list_all};
 ghost use Rattle.std.specs.Prelude.{nat_eq, refl};
@@ -15,6 +15,7 @@ ghost use Rattle.std.specs.Ordering.{nat_cmp, as_partial_cmp};
 ghost use Rattle.std.specs.Cmp.{partial_equiv_from_equiv};
 ghost use Rattle.std.specs.Cmp.Lexicographic.{pointwise, slice_cmp, nat_list_eq_equiv, nat_list_cmp_total, texts_ties, texts_po};
 ghost use Rattle.op_base.specs.CopyRooms.{IsCopyRoomForValue};
+ghost use Rattle.op_base.specs.Padded.{IsPadded};
 ghost use Rattle.op_base.specs.ValueFields.{text_of, bytes_of, IsKept};
 ghost use Rattle.op_base.specs.Name.{is_key, is_value, is_object, is_key_byte, is_value_byte, is_plain_byte, key_fault, value_fault, fault_of_bytes, object_fault, kind_word, kind_of, kind_part, key_part, is_colon, Refuses};
 
@@ -151,7 +152,8 @@ enum Stored {
     Long(Vec<u8>),
 }
 
-/// A short text: so many bytes of an array, the first.
+/// A short text: so many bytes of an array, the first, with zeros behind them, so that short texts are compared as three
+/// numbers.
 #[derive(Clone, Copy)]
 struct Short {
     len: u8,
@@ -357,10 +359,10 @@ fn parts(bytes: &[u8]) -> (&[u8], &[u8])
     }
 }
 
-/// The number that eight bytes make, the first of them the highest.
+/// The number that eight bytes from a place on make, the first of them the highest.
 #[inline(always)]
-fn number_at(bytes: &[u8; MOST_KEY_BYTES], at: usize) -> u64
-    requires { at + 8 ≤ 32 }
+fn number_at(bytes: &[u8], at: usize) -> u64
+    requires { at + 8 ≤ length bytes.now }
     ensures { result ≡ from_be_bytes w64 (take 8 (drop at bytes.now)) }
 {
     u64::from_be_bytes([
@@ -375,24 +377,21 @@ fn number_at(bytes: &[u8; MOST_KEY_BYTES], at: usize) -> u64
     ])
 }
 
-/// The order of two keys' bytes with the zeros behind them: that of the first of four numbers in which they differ.
+/// The order of the bytes of two arrays, each as long as so many numbers of eight bytes: that of the first of these in which
+/// they differ.
 #[inline(always)]
-fn order_of(bytes: &[u8; MOST_KEY_BYTES], others: &[u8; MOST_KEY_BYTES]) -> Ordering
+fn order_of(bytes: &[u8], others: &[u8], numbers: usize) -> Ordering
+    requires bytes { length bytes.now ≡ 8 * numbers }
+    requires others { length others.now ≡ 8 * numbers }
     ensures { result ≡ slice_cmp nat_cmp bytes.now others.now }
 {
-    let first = number_at(bytes, 0).cmp(&number_at(others, 0));
-    if first.is_ne() {
-        return first;
+    for i in 0..numbers {
+        let order = number_at(bytes, 8 * i).cmp(&number_at(others, 8 * i));
+        if order.is_ne() {
+            return order;
+        }
     }
-    let second = number_at(bytes, 8).cmp(&number_at(others, 8));
-    if second.is_ne() {
-        return second;
-    }
-    let third = number_at(bytes, 16).cmp(&number_at(others, 16));
-    if third.is_ne() {
-        return third;
-    }
-    number_at(bytes, 24).cmp(&number_at(others, 24))
+    Ordering::Equal
 }
 
 impl Key {
@@ -547,7 +546,7 @@ impl Short {
     fn of(text: &[u8]) -> Short
         requires { length text.now ≤ VALUE_BYTES_IN_PLACE }
         ensures bytes { text_of result ≡ text.now }
-        ensures within { result.len ≤ VALUE_BYTES_IN_PLACE }
+        ensures padded { IsPadded VALUE_BYTES_IN_PLACE result.len result.bytes }
     {
         let mut bytes = [0; VALUE_BYTES_IN_PLACE];
         bytes[..text.len()].copy_from_slice(text);
@@ -563,6 +562,16 @@ impl Short {
         ensures { result.now ≡ text_of self.now }
     {
         &self.bytes[..self.len as usize]
+    }
+
+    /// How a text that a value may have stands to another.
+    #[inline(always)]
+    fn order_to(&self, other: &Short) -> Ordering
+        requires kept { IsKept (Stored.Short self.now) }
+        requires other { IsKept (Stored.Short other.now) }
+        ensures { result ≡ slice_cmp nat_cmp (text_of self.now) (text_of other.now) }
+    {
+        order_of(&self.bytes, &other.bytes, VALUE_BYTES_IN_PLACE / 8)
     }
 }
 
@@ -635,7 +644,7 @@ impl PartialEq for Key {
     ghost laws = { partial_equiv_from_equiv nat_list_eq_equiv };
 
     fn eq(&self, other: &Key) -> bool {
-        order_of(&self.bytes, &other.bytes).is_eq()
+        order_of(&self.bytes, &other.bytes, MOST_KEY_BYTES / 8).is_eq()
     }
 }
 
@@ -663,7 +672,7 @@ impl Ord for Key {
     ghost matches_eq = { texts_ties };
 
     fn cmp(&self, other: &Key) -> Ordering {
-        order_of(&self.bytes, &other.bytes)
+        order_of(&self.bytes, &other.bytes, MOST_KEY_BYTES / 8)
     }
 }
 
@@ -683,7 +692,10 @@ impl PartialEq for Value {
     ghost laws = { partial_equiv_from_equiv nat_list_eq_equiv };
 
     fn eq(&self, other: &Value) -> bool {
-        self.as_str() == other.as_str()
+        match (&self.stored, &other.stored) {
+            (Stored::Short(short), Stored::Short(other)) => short.order_to(other).is_eq(),
+            _ => self.as_str() == other.as_str(),
+        }
     }
 }
 
@@ -711,6 +723,9 @@ impl Ord for Value {
     ghost matches_eq = { texts_ties };
 
     fn cmp(&self, other: &Value) -> Ordering {
-        self.as_str().cmp(other.as_str())
+        match (&self.stored, &other.stored) {
+            (Stored::Short(short), Stored::Short(other)) => short.order_to(other),
+            _ => self.as_str().cmp(other.as_str()),
+        }
     }
 }

@@ -1,5 +1,5 @@
 use Rattle.std.proofs.Common.{◌++◌, drop, length, replicate, ap}
-use Rattle.op_base.proofs.Keys.{text_stored}
+use Rattle.op_base.proofs.Padded.{text_stored}
 use Rattle.op_base.proofs.name.Key.stored.Goals as goal
 
 pub invariant_of-result : goal.invariant_of-result

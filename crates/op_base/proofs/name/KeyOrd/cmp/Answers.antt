@@ -1,6 +1,6 @@
 use Rattle.std.proofs.Common.{nat_cmp, ◌∙◌}
 use Rattle.std.specs.Cmp.Lexicographic.{slice_cmp}
-use Rattle.op_base.proofs.Keys.{keys_order}
+use Rattle.op_base.proofs.Padded.{keys_order}
 use Rattle.op_base.proofs.name.KeyOrd.cmp.Goals as goal
 
 pub returns : goal.returns

@@ -1,7 +1,7 @@
 use Rattle.std.proofs.Common.{nat_eq, ap, ◌∙◌}
 use Rattle.std.specs.Ordering.{is_eq}
 use Rattle.std.specs.Cmp.Lexicographic.{pointwise}
-use Rattle.op_base.proofs.Keys.{keys_equal}
+use Rattle.op_base.proofs.Padded.{keys_equal}
 use Rattle.op_base.proofs.name.KeyPartialEq.eq.Goals as goal
 
 pub returns : goal.returns

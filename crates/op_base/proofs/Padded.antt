@@ -1,5 +1,5 @@
--- Keys with zeros behind them are in the order of the four numbers that they make.
-use Rattle.std.proofs.Common.{Ordering, Less, Equal, Greater, ◌≡◌, ap, ℕ, zero, suc, ◌+◌, ◌*◌, ◌-◌, ◌<◌, ◌≤◌, true, false, List, [], ◌∷◌, ◌++◌, length, take, drop, get_or, replicate, IsTrue, nat_eq, refl, subst, sym, ◌∙◌, arith}
+-- Arrays of bytes are in the order of the numbers that they make, and with zeros behind texts in the order of these.
+use Rattle.std.proofs.Common.{Ordering, Less, Equal, Greater, ◌≡◌, ap, ℕ, Bool, zero, suc, ◌+◌, ◌*◌, ◌-◌, ◌<◌, ◌≤◌, true, false, List, [], ◌∷◌, ◌++◌, length, take, drop, get_or, replicate, IsTrue, nat_eq, refl, subst, sym, ◌∙◌, arith}
 use Rattle.std.specs.List.{list_all}
 use Rattle.std.specs.Int.{from_be_bytes, w64}
 use Rattle.std.specs.Ordering.{nat_cmp, ordering_then, is_eq, is_ne}
@@ -9,8 +9,13 @@ use Rattle.std.proofs.lemmas.Bool.{and_parts, false≢true}
 use Rattle.std.proofs.lemmas.List.{length-take-le, length-drop, drop-drop, take-append-drop, drop_all, drop-replicate, length-append, length-replicate}
 use Rattle.std.proofs.Math.Seq.{take-append_seam, drop-append_seam}
 use Rattle.std.proofs.lemmas.Bool.Decides.{nat_tests}
-use Rattle.op_base.specs.KeyFields.{text_of, IsStored}
-use Rattle.op_base.specs.Name.{is_short, is_key, is_key_byte}
+use Rattle.op_base.specs.KeyFields.{text_of as key_of, IsStored}
+use Rattle.op_base.specs.ValueFields.{text_of, IsKept}
+use Rattle.op_base.specs.Padded.{IsPadded}
+use Rattle.op_base.specs.Name.{is_short, is_key, is_key_byte, is_value, is_value_byte}
+use Rattle.op_base.specs.declared.name.Short.{Short}
+use Rattle.op_base.specs.declared.name.Stored.TheVariants as stored
+use Rattle.op_base.specs.declared.name.TheConstants.{VALUE_BYTES_IN_PLACE}
 use Rattle.op_base.specs.declared.name.Key.TheInside.{Inside}
 
 abbrev AreBytes : List ℕ → Type 0
@@ -118,79 +123,96 @@ goes_on Less rest whole e n = absurd (false≢true (sym n))
 goes_on Equal rest whole e n = e
 goes_on Greater rest whole e n = absurd (false≢true (sym n))
 
-module _ (bs cs : List ℕ) (h : length bs ≡ 32) (g : length cs ≡ 32) (a : AreBytes bs) (d : AreBytes cs) (o : Ordering) where
-  abbrev At : ℕ → Type 0
-  At at = o ≡ nat_cmp (from_be_bytes w64 (take 8 (drop at bs))) (from_be_bytes w64 (take 8 (drop at cs)))
+-- from a place on two arrays stand to one another as they do whole
+abbrev pub IsOrderFrom : ℕ → List ℕ → List ℕ → Type 0
+IsOrderFrom at bs cs = slice_cmp nat_cmp bs cs ≡ slice_cmp nat_cmp (drop at bs) (drop at cs)
 
-  abbrev Whole : ℕ → Type 0
-  Whole at = slice_cmp nat_cmp bs cs ≡ slice_cmp nat_cmp (drop at bs) (drop at cs)
+module _ (bs cs : List ℕ) (a : AreBytes bs) (d : AreBytes cs) (o : Ordering) (at : ℕ) (h : at + 8 ≤ length bs) (g : at + 8 ≤ length cs) (w : IsOrderFrom at bs cs)
+    (e : o ≡ nat_cmp (from_be_bytes w64 (take 8 (drop at bs))) (from_be_bytes w64 (take 8 (drop at cs)))) where
+  -- there they part
+  pub parts_at : is_ne o ≡ true → o ≡ slice_cmp nat_cmp bs cs
+  parts_at n = ends o _ _ (w ∙ from_place at bs cs h g a d o e) n
 
-  -- up to a place two arrays are equal: there they part
-  pub parts_at : (at : ℕ) → at + 8 ≤ 32 → Whole at → At at → is_ne o ≡ true → o ≡ slice_cmp nat_cmp bs cs
-  parts_at at le w e n = ends o _ _ (w ∙ from_place at bs cs (omega (arith, le, h)) (omega (arith, le, g)) a d o e) n
+  -- or they are equal for eight bytes more
+  pub equal_beyond : is_ne o ≡ false → IsOrderFrom (at + 8) bs cs
+  equal_beyond n = goes_on o _ _ (w ∙ from_place at bs cs h g a d o e) n
 
-  -- or they are equal up to eight places further
-  pub equal_beyond : (at : ℕ) → at + 8 ≤ 32 → Whole at → At at → is_ne o ≡ false → Whole (at + 8)
-  equal_beyond at le w e n = goes_on o _ _ (w ∙ from_place at bs cs (omega (arith, le, h)) (omega (arith, le, g)) a d o e) n
-
-  -- the last eight decide
-  pub last_decide : Whole 24 → At 24 → o ≡ slice_cmp nat_cmp bs cs
-  last_decide w e = last o (w ∙ from_place 24 bs cs (omega (arith, h)) (omega (arith, g)) a d o e)
-    where
-      nothing : (xs : List ℕ) → length xs ≡ 32 → drop 32 xs ≡ []
-      nothing xs l = drop_all 32 xs (omega (arith, l))
-
-      last : (o : Ordering) → slice_cmp nat_cmp bs cs ≡ ordering_then o (slice_cmp nat_cmp (drop 32 bs) (drop 32 cs)) → o ≡ slice_cmp nat_cmp bs cs
-      last Less e = sym e
-      last Equal e = sym (e ∙ (λ i. slice_cmp nat_cmp (nothing bs h i) (nothing cs g i)))
-      last Greater e = sym e
-
-key_byte_is_some : (b : ℕ) → is_key_byte b ≡ true → 0 < b
-key_byte_is_some b t = grind (arith, nat_tests)
+-- behind both there is nothing left that could tell them apart
+pub equal_whole : (at : ℕ) (bs cs : List ℕ) → length bs ≡ at → length cs ≡ at → IsOrderFrom at bs cs → Equal ≡ slice_cmp nat_cmp bs cs
+equal_whole at bs cs h g w = sym (w ∙ (λ i. slice_cmp nat_cmp (drop_all at bs (omega (arith, h)) i) (drop_all at cs (omega (arith, g)) i)))
 
 same_zeros : (n : ℕ) → slice_cmp nat_cmp (replicate n 0) (replicate n 0) ≡ Equal
 same_zeros zero = refl
 same_zeros (suc n) = same_zeros n
 
--- zeros behind texts without zeros, as many as make them equally long, leave their order as it is
-padded : (bs cs : List ℕ) (m n : ℕ) → list_all is_key_byte bs ≡ true → list_all is_key_byte cs ≡ true → length bs + m ≡ length cs + n
-    → slice_cmp nat_cmp (bs ++ replicate m 0) (cs ++ replicate n 0) ≡ slice_cmp nat_cmp bs cs
-padded [] [] m n a d e =
-    let same : m ≡ n = omega (arith, e) in
-    ap (λ k. slice_cmp nat_cmp (replicate m 0) (replicate k 0)) (sym same) ∙ same_zeros m
-padded [] (c ∷ cs) zero n a d e = absurd (omega (arith, e))
-padded [] (c ∷ cs) (suc m) n a d e = ap (λ o. ordering_then o (slice_cmp nat_cmp (replicate m 0) (cs ++ replicate n 0))) (sym (nat_cmp_is 0 c Less (key_byte_is_some c (and_parts _ _ d).0)))
-padded (b ∷ bs) [] m zero a d e = absurd (omega (arith, e))
-padded (b ∷ bs) [] m (suc n) a d e = ap (λ o. ordering_then o (slice_cmp nat_cmp (bs ++ replicate m 0) (replicate n 0))) (sym (nat_cmp_is b 0 Greater (key_byte_is_some b (and_parts _ _ a).0)))
-padded (b ∷ bs) (c ∷ cs) m n a d e = ap (ordering_then (nat_cmp b c)) (padded bs cs m n (and_parts _ _ a).1 (and_parts _ _ d).1 (omega (arith, e)))
+-- an array is its text, and zeros
+with_zeros : (size len : ℕ) (bytes : List ℕ) → IsPadded size len bytes → bytes ≡ take len bytes ++ replicate (size - len) 0
+with_zeros size len bytes p = sym (take-append-drop len bytes) ∙ ap (λ l. take len bytes ++ l) p.2
 
--- a key's array is its text, and zeros
-with_zeros : (k : Inside) → IsStored k → k.bytes ≡ text_of k ++ replicate (32 - k.len) 0
-with_zeros k s = sym (take-append-drop k.len k.bytes) ∙ ap (λ l. text_of k ++ l) s.3
+as_long : (size len : ℕ) (bytes : List ℕ) → IsPadded size len bytes → length (take len bytes) + (size - len) ≡ size
+as_long size len bytes p =
+    let at_most = p.0 in
+    let whole = p.1 in
+    let len' = length-take-le len bytes (omega (arith, at_most, whole)) in
+    omega (arith, len', at_most)
 
-as_long : (k : Inside) → IsStored k → length (text_of k) + (32 - k.len) ≡ 32
-as_long k s =
-    let at_most = s.0 in
-    let whole = s.1 in
-    let len = length-take-le k.len k.bytes (omega (arith, at_most, whole)) in
-    omega (arith, len, at_most)
+module _ (passes : ℕ → Bool) (some : (b : ℕ) → passes b ≡ true → 0 < b) where
+  -- zeros behind texts without zeros, as many as make them equally long, leave their order as it is
+  zeros_keep : (bs cs : List ℕ) (m n : ℕ) → list_all passes bs ≡ true → list_all passes cs ≡ true → length bs + m ≡ length cs + n
+      → slice_cmp nat_cmp (bs ++ replicate m 0) (cs ++ replicate n 0) ≡ slice_cmp nat_cmp bs cs
+  zeros_keep [] [] m n a d e =
+      let same : m ≡ n = omega (arith, e) in
+      ap (λ k. slice_cmp nat_cmp (replicate m 0) (replicate k 0)) (sym same) ∙ same_zeros m
+  zeros_keep [] (c ∷ cs) zero n a d e = absurd (omega (arith, e))
+  zeros_keep [] (c ∷ cs) (suc m) n a d e = ap (λ o. ordering_then o (slice_cmp nat_cmp (replicate m 0) (cs ++ replicate n 0))) (sym (nat_cmp_is 0 c Less (some c (and_parts _ _ d).0)))
+  zeros_keep (b ∷ bs) [] m zero a d e = absurd (omega (arith, e))
+  zeros_keep (b ∷ bs) [] m (suc n) a d e = ap (λ o. ordering_then o (slice_cmp nat_cmp (bs ++ replicate m 0) (replicate n 0))) (sym (nat_cmp_is b 0 Greater (some b (and_parts _ _ a).0)))
+  zeros_keep (b ∷ bs) (c ∷ cs) m n a d e = ap (ordering_then (nat_cmp b c)) (zeros_keep bs cs m n (and_parts _ _ a).1 (and_parts _ _ d).1 (omega (arith, e)))
+
+  -- arrays of one size are in the order of the texts in front of their zeros
+  padded_order : (size len more : ℕ) (bytes others : List ℕ) → IsPadded size len bytes → IsPadded size more others
+      → list_all passes (take len bytes) ≡ true → list_all passes (take more others) ≡ true
+      → slice_cmp nat_cmp bytes others ≡ slice_cmp nat_cmp (take len bytes) (take more others)
+  padded_order size len more bytes others p q a d =
+      (λ i. slice_cmp nat_cmp (with_zeros size len bytes p i) (with_zeros size more others q i))
+      ∙ zeros_keep (take len bytes) (take more others) (size - len) (size - more) a d (as_long size len bytes p ∙ sym (as_long size more others q))
+
+key_byte_is_some : (b : ℕ) → is_key_byte b ≡ true → 0 < b
+key_byte_is_some b t = grind (arith, nat_tests)
+
+value_byte_is_some : (b : ℕ) → is_value_byte b ≡ true → 0 < b
+value_byte_is_some b t = grind (arith, nat_tests)
 
 -- the arrays of two keys are in the order of their texts
-pub keys_order : (k j : Inside) → IsStored k → IsStored j → slice_cmp nat_cmp k.bytes j.bytes ≡ slice_cmp nat_cmp (text_of k) (text_of j)
-keys_order k j s t =
-    (λ i. slice_cmp nat_cmp (with_zeros k s i) (with_zeros j t i)) ∙ padded (text_of k) (text_of j) (32 - k.len) (32 - j.len) (and_parts _ _ s.2).1 (and_parts _ _ t.2).1 (as_long k s ∙ sym (as_long j t))
+pub keys_order : (k j : Inside) → IsStored k → IsStored j → slice_cmp nat_cmp k.bytes j.bytes ≡ slice_cmp nat_cmp (key_of k) (key_of j)
+keys_order k j s t = padded_order is_key_byte key_byte_is_some 32 k.len j.len k.bytes j.bytes s.1 t.1 (and_parts _ _ s.0).1 (and_parts _ _ t.0).1
 
--- a text put in front of zeros is a key that is stored
+value_bytes_pass : (text : List ℕ) → IsTrue (is_value text) → list_all is_value_byte text ≡ true
+value_bytes_pass text v = (and_parts _ _ (and_parts _ _ v).0).1
+
+-- and those of two short values
+pub shorts_order : (a b : Short) → IsKept (stored.Short a) → IsKept (stored.Short b) → slice_cmp nat_cmp a.bytes b.bytes ≡ slice_cmp nat_cmp (text_of a) (text_of b)
+shorts_order a b s t =
+    padded_order is_value_byte value_byte_is_some VALUE_BYTES_IN_PLACE a.len b.len a.bytes b.bytes s.1 t.1 (value_bytes_pass (text_of a) s.0) (value_bytes_pass (text_of b) t.0)
+
+-- a text put in front of zeros has zeros behind it
+pub text_padded : (size : ℕ) (text whole : List ℕ) → length text ≤ size → whole ≡ text ++ drop (length text) (replicate size 0)
+    → IsPadded size (length text) whole × (take (length text) whole ≡ text)
+text_padded size text whole at_most e =
+    let w : whole ≡ text ++ replicate (size - length text) 0 = e ∙ ap (λ l. text ++ l) (drop-replicate (length text) size 0) in
+    let sum : length text + (size - length text) ≡ size = omega (arith, at_most) in
+    let long : length whole ≡ size = ap length w ∙ length-append text (replicate (size - length text) 0) ∙ ap (λ n. length text + n) (length-replicate (size - length text) 0) ∙ sum in
+    let front : take (length text) whole ≡ text = ap (take (length text)) w ∙ take-append_seam text (replicate (size - length text) 0) in
+    ((at_most, long, ap (drop (length text)) w ∙ drop-append_seam text (replicate (size - length text) 0)), front)
+
+-- so it is a key that is stored, where it is a key
 pub text_stored : (text whole : List ℕ) → IsTrue (is_key text) → whole ≡ text ++ drop (length text) (replicate 32 0) → IsStored (record { len = length text; bytes = whole })
 text_stored text whole key e =
     let short : is_short 32 text ≡ true = (and_parts _ _ key).0 in
     let at_most : length text ≤ 32 = grind (arith, nat_tests, short) in
-    let w : whole ≡ text ++ replicate (32 - length text) 0 = e ∙ ap (λ l. text ++ l) (drop-replicate (length text) 32 0) in
-    let sum : length text + (32 - length text) ≡ 32 = omega (arith, at_most) in
-    let long : length whole ≡ 32 = ap length w ∙ length-append text (replicate (32 - length text) 0) ∙ ap (λ n. length text + n) (length-replicate (32 - length text) 0) ∙ sum in
-    let front : take (length text) whole ≡ text = ap (take (length text)) w ∙ take-append_seam text (replicate (32 - length text) 0) in
-    (at_most, long, subst (λ l. IsTrue (is_key l)) (sym front) key, ap (drop (length text)) w ∙ drop-append_seam text (replicate (32 - length text) 0))
+    let padded = text_padded 32 text whole at_most e in
+    (subst (λ l. IsTrue (is_key l)) (sym padded.1) key, padded.0)
 
--- so keys are equal where the order of their arrays is
-pub keys_equal : (k j : Inside) → IsStored k → IsStored j → is_eq (slice_cmp nat_cmp k.bytes j.bytes) ≡ pointwise nat_eq (text_of k) (text_of j)
-keys_equal k j s t = ap is_eq (keys_order k j s t) ∙ sym (texts_ties (text_of k) (text_of j))
+-- and keys are equal where the order of their arrays is
+pub keys_equal : (k j : Inside) → IsStored k → IsStored j → is_eq (slice_cmp nat_cmp k.bytes j.bytes) ≡ pointwise nat_eq (key_of k) (key_of j)
+keys_equal k j s t = ap is_eq (keys_order k j s t) ∙ sym (texts_ties (key_of k) (key_of j))
