@@ -11,7 +11,7 @@ use Rattle.std.proofs.Math.Seq.{take-append_seam, drop-append_seam}
 use Rattle.std.proofs.lemmas.Bool.Decides.{nat_tests}
 use Rattle.op_base.specs.KeyFields.{text_of as key_of, IsStored}
 use Rattle.op_base.specs.ValueFields.{text_of, IsKept}
-use Rattle.op_base.specs.Padded.{IsPadded}
+use Rattle.op_base.specs.Zeros.{HasZerosBehind}
 use Rattle.op_base.specs.Name.{is_short, is_key, is_key_byte, is_value, is_value_byte}
 use Rattle.op_base.specs.declared.name.Short.{Short}
 use Rattle.op_base.specs.declared.name.Stored.TheVariants as stored
@@ -146,10 +146,10 @@ same_zeros zero = refl
 same_zeros (suc n) = same_zeros n
 
 -- an array is its text, and zeros
-with_zeros : (size len : ℕ) (bytes : List ℕ) → IsPadded size len bytes → bytes ≡ take len bytes ++ replicate (size - len) 0
+with_zeros : (size len : ℕ) (bytes : List ℕ) → HasZerosBehind size len bytes → bytes ≡ take len bytes ++ replicate (size - len) 0
 with_zeros size len bytes p = sym (take-append-drop len bytes) ∙ ap (λ l. take len bytes ++ l) p.2
 
-as_long : (size len : ℕ) (bytes : List ℕ) → IsPadded size len bytes → length (take len bytes) + (size - len) ≡ size
+as_long : (size len : ℕ) (bytes : List ℕ) → HasZerosBehind size len bytes → length (take len bytes) + (size - len) ≡ size
 as_long size len bytes p =
     let at_most = p.0 in
     let whole = p.1 in
@@ -170,7 +170,7 @@ module _ (passes : ℕ → Bool) (some : (b : ℕ) → passes b ≡ true → 0 <
   zeros_keep (b ∷ bs) (c ∷ cs) m n a d e = ap (ordering_then (nat_cmp b c)) (zeros_keep bs cs m n (and_parts _ _ a).1 (and_parts _ _ d).1 (omega (arith, e)))
 
   -- arrays of one size are in the order of the texts in front of their zeros
-  padded_order : (size len more : ℕ) (bytes others : List ℕ) → IsPadded size len bytes → IsPadded size more others
+  padded_order : (size len more : ℕ) (bytes others : List ℕ) → HasZerosBehind size len bytes → HasZerosBehind size more others
       → list_all passes (take len bytes) ≡ true → list_all passes (take more others) ≡ true
       → slice_cmp nat_cmp bytes others ≡ slice_cmp nat_cmp (take len bytes) (take more others)
   padded_order size len more bytes others p q a d =
@@ -197,7 +197,7 @@ shorts_order a b s t =
 
 -- a text put in front of zeros has zeros behind it
 pub text_padded : (size : ℕ) (text whole : List ℕ) → length text ≤ size → whole ≡ text ++ drop (length text) (replicate size 0)
-    → IsPadded size (length text) whole × (take (length text) whole ≡ text)
+    → HasZerosBehind size (length text) whole × (take (length text) whole ≡ text)
 text_padded size text whole at_most e =
     let w : whole ≡ text ++ replicate (size - length text) 0 = e ∙ ap (λ l. text ++ l) (drop-replicate (length text) size 0) in
     let sum : length text + (size - length text) ≡ size = omega (arith, at_most) in

@@ -3,7 +3,7 @@ use Rattle.std.specs.Prelude.{◌≡◌, ℕ, ◌-◌, ◌++◌, List, length, t
 use Rattle.std.proofs.Common.{arith}
 use Rattle.std.proofs.lemmas.List.{length-take, take-append-drop}
 use Rattle.op_base.specs.Name.{is_key}
-use Rattle.op_base.specs.Padded.{IsPadded}
+use Rattle.op_base.specs.Zeros.{HasZerosBehind}
 use Rattle.op_base.specs.declared.name.Key.TheInside.{Inside}
 
 -- the bytes of the key
@@ -12,7 +12,7 @@ text_of k = take k.len k.bytes
 
 -- they are a key, with zeros behind them up to 32 bytes
 abbrev pub IsStored : Inside → Type 0
-IsStored k = IsTrue (is_key (text_of k)) × IsPadded 32 k.len k.bytes
+IsStored k = IsTrue (is_key (text_of k)) × HasZerosBehind 32 k.len k.bytes
 
 abbrev pub stored : List ℕ → Inside
 stored text = record { len = length text; bytes = text ++ replicate (32 - length text) 0 }

@@ -7,7 +7,7 @@ pub mod CopyRooms
 pub mod Code
 pub mod Valid
 pub mod TagFields
-pub mod Padded
+pub mod Zeros
 pub mod KeyFields
 pub mod ValueFields
 pub mod Timestamp

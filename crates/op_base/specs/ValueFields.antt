@@ -1,7 +1,7 @@
 -- A value's fields: its bytes in place, or in an allocation.
 use Rattle.std.specs.Prelude.{ℕ, ◌<◌, List, length, take, IsTrue}
 use Rattle.op_base.specs.Name.{is_value}
-use Rattle.op_base.specs.Padded.{IsPadded}
+use Rattle.op_base.specs.Zeros.{HasZerosBehind}
 use Rattle.op_base.specs.declared.name.Short.{Short}
 use Rattle.op_base.specs.declared.name.Stored.{Stored}
 use Rattle.op_base.specs.declared.name.Stored.TheVariants as stored
@@ -18,5 +18,5 @@ bytes_of (stored.Long bytes) = bytes.items
 
 -- they are a value. In place there are zeros behind them, and they stand in an allocation only where they have no room in place
 abbrev pub IsKept : Stored → Type 0
-IsKept (stored.Short short) = IsTrue (is_value (text_of short)) × IsPadded VALUE_BYTES_IN_PLACE short.len short.bytes
+IsKept (stored.Short short) = IsTrue (is_value (text_of short)) × HasZerosBehind VALUE_BYTES_IN_PLACE short.len short.bytes
 IsKept (stored.Long bytes) = IsTrue (is_value bytes.items) × (VALUE_BYTES_IN_PLACE < length bytes.items)

@@ -15,7 +15,7 @@ ghost use Rattle.std.specs.Ordering.{nat_cmp, as_partial_cmp};
 ghost use Rattle.std.specs.Cmp.{partial_equiv_from_equiv};
 ghost use Rattle.std.specs.Cmp.Lexicographic.{pointwise, slice_cmp, nat_list_eq_equiv, nat_list_cmp_total, texts_ties, texts_po};
 ghost use Rattle.op_base.specs.CopyRooms.{IsCopyRoomForValue};
-ghost use Rattle.op_base.specs.Padded.{IsPadded};
+ghost use Rattle.op_base.specs.Zeros.{HasZerosBehind};
 ghost use Rattle.op_base.specs.ValueFields.{text_of, bytes_of, IsKept};
 ghost use Rattle.op_base.specs.Name.{is_key, is_value, is_object, is_key_byte, is_value_byte, is_plain_byte, key_fault, value_fault, fault_of_bytes, object_fault, kind_word, kind_of, kind_part, key_part, is_colon, Refuses};
 
@@ -546,7 +546,7 @@ impl Short {
     fn of(text: &[u8]) -> Short
         requires { length text.now ≤ VALUE_BYTES_IN_PLACE }
         ensures bytes { text_of result ≡ text.now }
-        ensures padded { IsPadded VALUE_BYTES_IN_PLACE result.len result.bytes }
+        ensures padded { HasZerosBehind VALUE_BYTES_IN_PLACE result.len result.bytes }
     {
         let mut bytes = [0; VALUE_BYTES_IN_PLACE];
         bytes[..text.len()].copy_from_slice(text);

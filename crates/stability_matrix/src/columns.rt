@@ -73,5 +73,5 @@ fn least_in(rows: &[Tag], x: u8) -> u32
 pub(crate) fn least_stays(least: u32, was: u32, now: u32) -> bool
     ensures { IsTrue result → LeastStays least was now }
 {
-    was == now || least < was && least < now
+    (was == now) | (least < was) & (least < now)
 }

@@ -152,10 +152,7 @@ impl Matrix {
         if self.keeps_least(origin, tag) {
             return self.stable;
         }
-        let mut rows = self.rows;
-        let rows = &mut rows[..self.n as usize];
-        note_in(rows, self.me, origin, tag);
-        least_of(rows)
+        self.least_with(origin, tag)
     }
 
     /// Whether every member is known to have a message.
@@ -167,19 +164,37 @@ impl Matrix {
         self.stable.covers_id(id)
     }
 
-    /// Whether no entry that a message of `origin` moves was or becomes its column's least: each least stays then.
+    /// The least entry of each column once a message of `origin` is noted.
+    fn least_with(&self, origin: u8, tag: &Tag) -> Tag
+        requires origin { origin < length self.now.rows }
+        requires other { origin ≢ self.now.me }
+        requires entries { length tag.now ≡ length self.now.rows }
+        ensures { result ≡ stable_of (noted self.now.me origin tag.now self.now.rows) }
+    {
+        let mut own = self.rows[self.me as usize];
+        own.set(origin, tag.at(origin));
+        let mut least = own.meet(tag);
+        for y in 0..self.n {
+            if y != origin && y != self.me {
+                least = least.meet(&self.rows[y as usize]);
+            }
+        }
+        least
+    }
+
+    /// Whether no entry that a message of `origin` moves was or becomes its column's least: each least stays then. There is no
+    /// early end, so that several columns are told at once.
     fn keeps_least(&self, origin: u8, tag: &Tag) -> bool
         requires origin { origin < length self.now.rows }
         requires entries { length tag.now ≡ length self.now.rows }
         ensures { IsTrue result → stable_of (noted self.now.me origin tag.now self.now.rows) ≡ stable_of self.now.rows }
     {
         let row = &self.rows[origin as usize];
+        let mut stay = true;
         for x in 0..self.n {
-            if !least_stays(self.stable.at(x), row.at(x), tag.at(x)) {
-                return false;
-            }
+            stay &= least_stays(self.stable.at(x), row.at(x), tag.at(x));
         }
         let own = self.rows[self.me as usize].at(origin);
-        least_stays(self.stable.at(origin), own, tag.at(origin))
+        stay & least_stays(self.stable.at(origin), own, tag.at(origin))
     }
 }

@@ -76,6 +76,15 @@ fn regress(message: &Message, last: &Tag) -> Option<Crook>
     })
 }
 
+/// Whether a message's sender has seen no message of another member since its last one.
+fn has_seen_no_more(message: &Message, last: &Tag) -> bool
+    requires origin { message.now.origin < length message.now.tag }
+    requires last { length last.now ≡ length message.now.tag }
+    ensures { IsTrue result → (x : ℕ) → x ≢ message.now.origin → entry message.now.tag x ≤ entry last.now x }
+{
+    message.tag.at(message.origin) > last.at(message.origin) && message.tag.count_above(last) == 1
+}
+
 /// Whether a message isn't stable where these are the stable counts.
 fn is_unstable(message: &Message, stable: &Tag) -> bool
     requires tag { message.now.origin < length message.now.tag }
@@ -232,10 +241,14 @@ impl TagWindow {
 
     /// Why a message is unclosed, at the least member where it is.
     fn unclosed(&self, message: &Message, last: &Tag) -> Option<Crook>
+        requires origin { message.now.origin < length self.now.held }
         requires tag { length message.now.tag ≡ length self.now.held }
         requires last { length last.now ≡ length self.now.held }
         ensures { result ≡ first_some (map (unclosed_in (length self.now.held) self.now message.now last.now) (members (length self.now.held))) }
     {
+        if has_seen_no_more(message, last) {
+            return None;
+        }
         for x in 0..self.members() {
             let crook = self.unclosed_at(message, last, x);
             if crook.is_some() {
