@@ -1,5 +1,5 @@
 -- The least of a list of numbers.
-use Rattle.std.proofs.Common.{◌≡◌, ℕ, zero, suc, ◌+◌, ◌<◌, ◌≤◌, ◌≢◌, min, List, [], ◌∷◌, length, get_or, set, length-set, get_or-set_other, refl, sym, ap, ◌∙◌, inl, inr, below_more, arith}
+use Rattle.std.proofs.Common.{◌≡◌, ℕ, zero, suc, ◌+◌, ◌<◌, ◌≤◌, ◌≢◌, ◌⊎◌, min, List, [], ◌∷◌, length, get_or, set, length-set, get_or-set_other, refl, sym, ap, ◌∙◌, inl, inr, below_more, arith}
 use Rattle.std.proofs.lemmas.Bool.{cases_lt, cases_eq}
 use Rattle.std.proofs.lemmas.Grind.{get_or-set_at}
 use Rattle.std.proofs.lemmas.List.{set-get_or}
@@ -65,3 +65,42 @@ least-more xs least i v next so_far l at is = record {
 
 pub least-done : (xs : List ℕ) (least i : ℕ) → IsLeastSoFar xs least i → length xs ≤ i → minimum xs ≡ least
 least-done xs least i so_far done = minimum_is xs least (λ k l. so_far.below k (omega (arith, l, done))) so_far.there.0 so_far.there.1 so_far.there.2
+
+-- the same where two of the numbers were looked at before all others
+pub record IsLeastBeside (xs : List ℕ) (a b least i : ℕ) : Type 0 where
+  pub so_far : IsLeastSoFar xs least i
+  pub first : least ≤ get_or xs a 0
+  pub second : least ≤ get_or xs b 0
+
+pub beside_start : (xs : List ℕ) (a b va vb least : ℕ) → a < length xs → b < length xs → va ≡ get_or xs a 0 → vb ≡ get_or xs b 0 → least ≡ min va vb → IsLeastBeside xs a b least 0
+beside_start xs a b va vb least in_a in_b at_a at_b is = record {
+  so_far = record {
+    below = λ k l. absurd (omega (arith, l));
+    there = elim (cases_lt va vb) [
+      | inl less ↦ (a, in_a, omega (arith, at_a, is, less))
+      | inr past ↦ (b, in_b, omega (arith, at_b, is, past))
+    ];
+  };
+  first = omega (arith, at_a, is);
+  second = omega (arith, at_b, is);
+}
+
+pub beside_skip : (xs : List ℕ) (a b least i : ℕ) → IsLeastBeside xs a b least i → (i ≡ a) ⊎ (i ≡ b) → IsLeastBeside xs a b least (i + 1)
+beside_skip xs a b least i beside here = record {
+  so_far = record {
+    below = below_more (λ k. least ≤ get_or xs k 0) i beside.so_far.below (elim here [
+      | inl e ↦ omega (arith, beside.first, ap (λ k. get_or xs k 0) e)
+      | inr e ↦ omega (arith, beside.second, ap (λ k. get_or xs k 0) e)
+    ]);
+    there = beside.so_far.there;
+  };
+  first = beside.first;
+  second = beside.second;
+}
+
+pub beside_more : (xs : List ℕ) (a b least i v next : ℕ) → IsLeastBeside xs a b least i → i < length xs → v ≡ get_or xs i 0 → next ≡ min least v → IsLeastBeside xs a b next (i + 1)
+beside_more xs a b least i v next beside l at is = record {
+  so_far = least-more xs least i v next beside.so_far l at is;
+  first = omega (arith, beside.first, is);
+  second = omega (arith, beside.second, is);
+}

@@ -1,5 +1,5 @@
 -- A message noted: the columns whose least stays, and those whose least is computed anew.
-use Rattle.std.proofs.Common.{◌≡◌, ℕ, ◌+◌, ◌<◌, ◌≤◌, All, List, [], length, get_or, set, length-set, get_or-set_other, refl, sym, ap, ◌∙◌, inl, inr, below_more, arith}
+use Rattle.std.proofs.Common.{◌≡◌, ℕ, ◌+◌, ◌<◌, ◌≤◌, ◌≢◌, All, List, [], length, get_or, set, length-set, get_or-set_same, get_or-set_other, refl, sym, ap, ◌∙◌, inl, inr, below_more, arith}
 use Rattle.std.proofs.lemmas.Bool.{cases_eq}
 use Rattle.std.proofs.lemmas.Grind.{get_or-set_at}
 use Rattle.std.proofs.lemmas.List.{map-set}
@@ -24,7 +24,7 @@ module _ (me origin : ℕ) (tag : List ℕ) (rows : List (List ℕ)) where
   abbrev own_row : List ℕ
   own_row = set (row_of replaced me) origin (entry tag origin)
 
-  length-noted : length (noted me origin tag rows) ≡ length rows
+  pub length-noted : length (noted me origin tag rows) ≡ length rows
   length-noted = length-set replaced me own_row ∙ length-set rows origin tag
 
   column-replaced : (x : ℕ) → column_of replaced x ≡ set (column_of rows x) origin (entry tag x)
@@ -49,6 +49,19 @@ module _ (me origin : ℕ) (tag : List ℕ) (rows : List (List ℕ)) where
         ap minimum (map-set (λ row. entry row x) replaced me own_row)
         ∙ minimum-set column me (entry own_row x) (omega (arith, l, length-column replaced x))
         (stays-is (minimum column) (entry (row_of replaced me) x) (entry own_row x) (minimum column) (get_or column me 0) (entry own_row x) refl (get_or-column replaced x me l) refl stays)
+
+    -- each row once the message is noted
+    module _ (other : origin ≢ me) where
+      pub noted-origin : row_of (noted me origin tag rows) origin ≡ tag
+      noted-origin = get_or-set_other replaced me origin own_row [] other ∙ get_or-set_same rows origin tag [] there
+
+      pub noted-own : row_of (noted me origin tag rows) me ≡ set (row_of rows me) origin (entry tag origin)
+      noted-own =
+          get_or-set_same replaced me own_row [] (omega (arith, own, length-set rows origin tag))
+          ∙ ap (λ row. set row origin (entry tag origin)) (get_or-set_other rows origin me tag [] (λ e. other (sym e)))
+
+      pub noted-others : (y : ℕ) → y ≢ origin → y ≢ me → row_of (noted me origin tag rows) y ≡ row_of rows y
+      noted-others y ne apart = get_or-set_other replaced me y own_row [] apart ∙ get_or-set_other rows origin y tag [] ne
 
     module _ (square : All (λ row. length row ≡ length rows) rows) (len : length tag ≡ length rows) where
       -- in the origin's column the own entry becomes the message's number, in the others it is what it was

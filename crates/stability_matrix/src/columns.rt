@@ -1,6 +1,6 @@
 //! The rows of a matrix, as a message is noted in them, and the least of each of their columns.
 
-ghost use Rattle.std.specs.Prelude.{◌≡◌, ◌<◌, ◌≤◌, ℕ, min, length, slice_set, All, IsTrue};
+ghost use Rattle.std.specs.Prelude.{◌≡◌, ◌≢◌, ◌<◌, ◌≤◌, ℕ, min, length, slice_set, All, IsTrue};
 ghost use Rattle.op_base.specs.Timestamp.{entry};
 ghost use Rattle.causal_model.specs.Stability.{minimum};
 ghost use Rattle.stability_matrix.specs.Rows.{column_of, stable_of, noted, LeastStays};
@@ -16,20 +16,37 @@ pub(crate) fn note_in(rows: &mut [Tag], me: u8, origin: u8, tag: &Tag)
     ensures { rows.new ≡ noted me origin tag.now rows.old }
 {
     rows[origin as usize] = *tag;
-    let mut own = rows[me as usize];
-    own.set(origin, tag.at(origin));
+    let own = raised(&rows[me as usize], origin, tag);
     rows[me as usize] = own;
 }
 
-/// The least entry of each column.
-pub(crate) fn least_of(rows: &[Tag]) -> Tag
-    requires some { 1 ≤ length rows.now }
-    requires square { All (λ row. length row ≡ length rows.now) rows.now }
-    ensures { result ≡ stable_of rows.now }
+/// A row with the number of a message of `origin` in it.
+fn raised(row: &Tag, origin: u8, tag: &Tag) -> Tag
+    requires row { origin < length row.now }
+    requires tag { origin < length tag.now }
+    ensures { result ≡ slice_set row.now origin (entry tag.now origin) }
 {
-    let mut least = rows[0];
-    for row in rows {
-        least = least.meet(row);
+    let mut raised = *row;
+    raised.set(origin, tag.at(origin));
+    raised
+}
+
+/// The least entry of each column, once a message of `origin` were noted in the rows, of which one is member `me`'s.
+pub(crate) fn least_with(rows: &[Tag], me: u8, origin: u8, tag: &Tag) -> Tag
+    requires own { me < length rows.now }
+    requires origin { origin < length rows.now }
+    requires other { origin ≢ me }
+    requires entries { length tag.now ≡ length rows.now }
+    requires square { All (λ row. length row ≡ length rows.now) rows.now }
+    ensures { result ≡ stable_of (noted me origin tag.now rows.now) }
+{
+    let own = raised(&rows[me as usize], origin, tag);
+    let mut least = own.meet(tag);
+    for y in 0..rows.len() {
+        if y == origin as usize || y == me as usize {
+            continue;
+        }
+        least = least.meet(&rows[y]);
     }
     least
 }

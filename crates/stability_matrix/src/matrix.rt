@@ -6,7 +6,7 @@ ghost use Rattle.op_base.specs.Timestamp.{zero_tag, covers};
 ghost use Rattle.op_base.specs.declared.message.Message.{Message};
 ghost use Rattle.causal_model.specs.Stability.{known_vector, stable_vector, is_stable};
 
-use crate::columns::{least_of, least_stays, note_in, set_row};
+use crate::columns::{least_stays, least_with, note_in, set_row};
 use op_base::{MOST_MEMBERS, MessageId, Tag};
 use std::marker::Model;
 
@@ -152,7 +152,7 @@ impl Matrix {
         if self.keeps_least(origin, tag) {
             return self.stable;
         }
-        self.least_with(origin, tag)
+        least_with(&self.rows[..self.n as usize], self.me, origin, tag)
     }
 
     /// Whether every member is known to have a message.
@@ -162,24 +162,6 @@ impl Matrix {
         ensures known { (n me : ℕ) (messages : List Message) (m : Message) → IsMatrixOf n me messages self.now → id_of m ≡ id → result ≡ is_stable (stable_vector n me messages) m }
     {
         self.stable.covers_id(id)
-    }
-
-    /// The least entry of each column once a message of `origin` is noted.
-    fn least_with(&self, origin: u8, tag: &Tag) -> Tag
-        requires origin { origin < length self.now.rows }
-        requires other { origin ≢ self.now.me }
-        requires entries { length tag.now ≡ length self.now.rows }
-        ensures { result ≡ stable_of (noted self.now.me origin tag.now self.now.rows) }
-    {
-        let mut own = self.rows[self.me as usize];
-        own.set(origin, tag.at(origin));
-        let mut least = own.meet(tag);
-        for y in 0..self.n {
-            if y != origin && y != self.me {
-                least = least.meet(&self.rows[y as usize]);
-            }
-        }
-        least
     }
 
     /// Whether no entry that a message of `origin` moves was or becomes its column's least: each least stays then. There is no

@@ -30,7 +30,7 @@ at-requires-2 c =
 pub loop-x-preserved : goal.loop-x-preserved
 loop-x-preserved c = λ true.
     below_more (λ k. LeastStays (entry c.self.inside.stable k) (entry (get_or c.self.inside.rows c.args.origin c.index-self-origin.result) k) (entry c.args.tag.now k)) c.loop-x.x (c.loop-x.invariant (and_parts _ _ true).0)
-        (stays-is c.at.result c.at-in-loop-x.result c.at-in-loop-x-2.result _ _ _ (sym c.at.ensures) (sym c.at-in-loop-x.ensures) (sym c.at-in-loop-x-2.ensures) (c.least_stays-stay.ensures (and_parts _ _ true).1))
+    (stays-is c.at.result c.at-in-loop-x.result c.at-in-loop-x-2.result _ _ _ (sym c.at.ensures) (sym c.at-in-loop-x.ensures) (sym c.at-in-loop-x-2.ensures) (c.least_stays-stay.ensures (and_parts _ _ true).1))
 
 pub returns : goal.returns
 returns c = λ true.

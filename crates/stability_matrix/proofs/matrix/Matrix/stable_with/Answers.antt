@@ -6,7 +6,7 @@ use Rattle.stability_matrix.proofs.matrix.Matrix.stable_with.Goals as goal
 pub returns-clause-known : goal.returns-clause-known
 returns-clause-known c =
     stable_noted c.args.origin c.args.tag.now c.args.self.now _ c.requires.origin c.requires.other
-    (c.least_of.ensures ∙ ap stable_of c.note_in.ensures ∙ ap (λ known. stable_of (noted known.me c.args.origin c.args.tag.now known.rows)) c.self.view_is)
+    (c.least_with.ensures ∙ ap (λ known. stable_of (noted known.me c.args.origin c.args.tag.now known.rows)) c.self.view_is)
 
 pub returns-then-keeps_least-clause-known : goal.returns-then-keeps_least-clause-known
 returns-then-keeps_least-clause-known c =
