@@ -169,5 +169,9 @@ module _ {Q : Type 0} (f : Q → List Message) where
   set_alike (y ∷ qs) zero q d l same = ap (λ part. part ++ flat_map f qs) same
   set_alike (y ∷ qs) (suc x) q d l same = ap (λ rest. f y ++ rest) (set_alike qs x q d (omega (arith, l)) same)
 
+  pub none_of_all : (qs : List Q) → ((k : ℕ) (d : Q) → k < length qs → f (get_or qs k d) ≡ []) → flat_map f qs ≡ []
+  none_of_all [] each = refl
+  none_of_all (q ∷ qs) each = ap₂ (λ l r. l ++ r) (each 0 q (omega arith)) (none_of_all qs (λ k d l. each (suc k) d (omega (arith, l))))
+
   pub none_more : (qs : List Q) (q : Q) → flat_map f qs ≡ [] → f q ≡ [] → flat_map f (qs ++ q ∷ []) ≡ []
   none_more qs q e none = flat_map-append f qs (q ∷ []) ∙ ap₂ (λ l r. l ++ (r ++ [])) e none

@@ -1,5 +1,5 @@
 -- The early messages of one member, as a buffer keeps them: a place for each number.
-use Rattle.std.specs.Prelude.{◌≡◌, ◌≢◌, ℕ, ◌+◌, ◌^◌, ◌<◌, ◌≤◌, Bool, true, false, not, ◌&&◌, ◌==◌, nat_lt, List, length, slice_index_or, All, IsTrue, Option, Some, None}
+use Rattle.std.specs.Prelude.{◌≡◌, ◌≢◌, ℕ, ◌+◌, ◌^◌, ◌<◌, ◌≤◌, Bool, true, false, not, ◌&&◌, ◌==◌, nat_lt, List, [], length, slice_index_or, All, IsTrue, Option, Some, None}
 use Rattle.std.specs.List.{find, flat_map}
 use Rattle.std.specs.Option.{option_map, option_to_list}
 use Rattle.op_base.specs.Timestamp.{entry}
@@ -105,3 +105,10 @@ pub record IsLowest (end n : ℕ) (counted : List ℕ) (early : List Message) (i
   pub next : IsNextId n counted id
   pub ready : Some id ≡ option_map id_of (find (is_ready n counted id.origin) early)
   pub lowest : AreUnready id.origin n counted early
+
+-- a queue of any member that lost all messages, with the room that it had
+pub record IsEmptied (old new : Queue) : Type 0 where
+  pub kept : (member : ℕ) → IsQueue member new
+  pub none : messages new ≡ []
+  pub room : new.places.room ≡ old.places.room
+  pub wait : new.wait.member ≡ 0

@@ -1,6 +1,6 @@
 //! The buffer of early messages.
 
-ghost use Rattle.std.specs.Prelude.{◌≡◌, ◌↔◌, ℕ, ◌+◌, ◌<◌, ◌≤◌, true, false, List, [], length, slice_set, IsTrue, IfOk, Some, None, if◌then◌else◌};
+ghost use Rattle.std.specs.Prelude.{◌≡◌, ◌↔◌, ℕ, ◌+◌, ◌<◌, ◌≤◌, true, false, List, [], length, slice_index_or, slice_set, IsTrue, IfOk, Some, None, if◌then◌else◌};
 ghost use Rattle.std.specs.List.{find, list_any, flat_map};
 ghost use Rattle.std.specs.Option.{is_some, option_map, IfSome, IfNone};
 ghost use Rattle.op_base.specs.Timestamp.{entry};
@@ -11,7 +11,8 @@ ghost use Rattle.causal_model.specs.Receiving.{is_old, is_far, next_early};
 ghost use Rattle.causal_model.specs.State.{start};
 ghost use Rattle.causal_model.specs.Early.{has_id, is_again, put_early, without};
 ghost use Rattle.causal_buffer.specs.Buffer.{with_messages, offer_of, after_offer, AreAhead, AreNear, IsNextId, KeepsAhead, KeepsNear};
-ghost use Rattle.causal_buffer.specs.Queue.{is_ready, AreUnready, IsLowest};
+ghost use Rattle.causal_buffer.specs.Queue.{is_ready, AreUnready, IsLowest, IsEmptied};
+ghost use Rattle.causal_buffer.specs.declared.queue.Queue.{Queue};
 
 use crate::queue::{Queue, number};
 use causal_model::{MOST_WINDOW, most_unstable};
@@ -302,6 +303,15 @@ impl CausalBuffer {
         taken
     }
 
+    /// Lets all messages go: it is as `create` makes it. It takes no memory.
+    pub fn clear(&mut self)
+        ensures empty { self.new ≡ record { n = self.old.n; w = self.old.w; early = [] } }
+        ensures stands { (me : ℕ) → IsBufferOf self.old.w (start self.old.n me) self.new }
+    {
+        clear_each(&mut self.queues);
+        self.held = 0;
+    }
+
     /// Whether a message of an id is early.
     pub fn holds(&self, id: MessageId) -> bool
         requires { id.origin < self.now.n }
@@ -322,5 +332,15 @@ impl CausalBuffer {
         ensures { IsTrue result ↔ (self.now.early ≡ []) }
     {
         self.held == 0
+    }
+}
+
+/// Lets all messages of all members go.
+fn clear_each(queues: &mut Vec<Queue>)
+    ensures same { length queues.new.items ≡ length queues.old.items }
+    ensures empty { (member : ℕ) (q : Queue) → member < length queues.old.items → IsEmptied (slice_index_or queues.old.items member q) (slice_index_or queues.new.items member q) }
+{
+    for member in 0..queues.len() {
+        queues[member].clear();
     }
 }

@@ -7,7 +7,7 @@ ghost use Rattle.op_base.specs.Timestamp.{entry};
 ghost use Rattle.op_base.specs.Message.{number, id_of, fits};
 ghost use Rattle.causal_model.specs.Early.{has_id, without, put_early};
 ghost use Rattle.causal_buffer.specs.Buffer.{IsNextId};
-ghost use Rattle.causal_buffer.specs.Queue.{IsQueue, AreWithin, IsFirstMissing, AreSeen, can_be_taken, is_ready, messages};
+ghost use Rattle.causal_buffer.specs.Queue.{IsQueue, IsEmptied, AreWithin, IsFirstMissing, AreSeen, can_be_taken, is_ready, messages};
 ghost use Rattle.causal_buffer.specs.declared.queue.TheConstants.{NO_WAIT};
 
 use crate::buffer::is_deliverable;
@@ -155,6 +155,16 @@ impl Queue {
         self.places.fill(place, message);
         self.filled += 1;
         forget(&mut self.wait, seq);
+    }
+
+    /// Lets all messages go.
+    pub fn clear(&mut self)
+        ensures { IsEmptied self.old self.new }
+    {
+        self.first = 1;
+        self.places.clear();
+        self.filled = 0;
+        self.wait = NO_WAIT;
     }
 
     /// Moves the message of an id of the queue's member, which is there, into a place.

@@ -93,6 +93,14 @@ impl Places {
         fill(&mut self.block[self.start + place], message);
     }
 
+    /// Lets go of all places, and of what stands there.
+    pub fn clear(&mut self)
+        ensures { self.new ≡ record self.old { items = [] } }
+    {
+        self.block.clear();
+        self.start = 0;
+    }
+
     /// Lets go of so many places in front, in which there is no message.
     pub fn pop_front(&mut self, count: usize)
         ensures { self.new ≡ record self.old { items = drop count self.old.items } }

@@ -93,6 +93,14 @@ impl Outbox {
         }
     }
 
+    /// Lets all messages go: it is as `create` makes it. It takes no memory.
+    pub fn clear(&mut self)
+        ensures { self.new ≡ record { n = self.old.n; w = self.old.w; messages = [] } }
+    {
+        self.kept.clear();
+        self.gone = 0;
+    }
+
     /// The messages, oldest first.
     pub fn messages(&self) -> &[Message]
         ensures { result.now ≡ self.now.messages }

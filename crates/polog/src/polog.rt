@@ -73,6 +73,17 @@ impl Polog {
         })
     }
 
+    /// Lets all entries go, those that were stripped too: it is as `create` makes it. It takes no memory.
+    pub fn clear(&mut self)
+        ensures empty { self.new ≡ record { n = self.old.n; room = self.old.room; pushed = 0; entries = []; stripped = [] } }
+        ensures nothing { (keeps : Update → Bool) (covers : Update → Update → Bool) (me : ℕ) → IsLogOf keeps covers self.old.n me [] self.new }
+    {
+        self.rows.cut(0, self.rows.len());
+        self.leaving.clear();
+        self.next = 0;
+        self.last = (0, 0);
+    }
+
     /// How many entries there are.
     pub fn len(&self) -> usize
         ensures { result ≡ length self.now.entries }

@@ -81,6 +81,14 @@ impl Block {
         self.places.push_reserved(held);
     }
 
+    /// Lets go of all that it holds.
+    pub fn clear(&mut self)
+        ensures { self.new ≡ record self.old { items = [] } }
+    {
+        self.places.clear();
+        self.start = 0;
+    }
+
     /// Lets go of the first.
     pub fn pop_front(&mut self)
         requires { 0 < length self.old.items }

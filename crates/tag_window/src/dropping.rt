@@ -1,6 +1,6 @@
 //! Letting go of what is stable, of the members of which something is.
 
-ghost use Rattle.std.specs.Prelude.{◌≡◌, ℕ, ◌<◌, length, slice_index_or, slice_set, IsTrue};
+ghost use Rattle.std.specs.Prelude.{◌≡◌, ℕ, ◌<◌, [], length, slice_index_or, slice_set, IsTrue};
 ghost use Rattle.op_base.specs.Timestamp.{entry};
 ghost use Rattle.tag_window.specs.Queue.{Line, left_of};
 ghost use Rattle.tag_window.specs.Queues.{AreOfMembers, AreFirsts};
@@ -46,4 +46,14 @@ fn drop_of(queues: &mut Vec<Queue>, firsts: &mut Tag, stable: &Tag, x: u8)
     }
     let first = queues[x as usize].drop_stable(stable);
     firsts.set(x, first);
+}
+
+/// Lets go of all timestamps of all members.
+pub fn clear_each(queues: &mut Vec<Queue>)
+    ensures same { length queues.new.items ≡ length queues.old.items }
+    ensures empty { (x : ℕ) (q : Line) → x < length queues.old.items → slice_index_or queues.new.items x q ≡ record (slice_index_or queues.old.items x q) { held = [] } }
+{
+    for x in 0..queues.len() {
+        queues[x].clear();
+    }
 }

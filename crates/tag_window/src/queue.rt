@@ -80,6 +80,14 @@ impl Queue {
         u32::MAX
     }
 
+    /// Lets go of all.
+    pub fn clear(&mut self)
+        ensures { self.new ≡ record self.old { held = [] } }
+    {
+        self.held.clear();
+        self.noops = 0;
+    }
+
     /// The timestamp with a number, where it is held.
     pub fn find(&self, seq: u32) -> Option<&Tag>
         ensures found { IfSome result (λ tag. tag.now ≡ tag_held self.now.n self.now.origin self.now.held seq) }

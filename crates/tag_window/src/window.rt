@@ -12,7 +12,7 @@ ghost use Rattle.tag_window.specs.Window.{held_of, held_count, IsNextNumber};
 ghost use Rattle.tag_window.specs.Check.{verdict, regress_in, unclosed_in, overrun_in, noop_overrun_in, added, crook_in};
 ghost use Rattle.tag_window.specs.History.{IsWindowOf, IsWindowWith};
 
-use crate::dropping::{drop_of_each, is_everywhere_below};
+use crate::dropping::{clear_each, drop_of_each, is_everywhere_below};
 use crate::held::Held;
 use crate::queue::Queue;
 use causal_model::{MOST_WINDOW, most_noops, most_unstable};
@@ -191,6 +191,16 @@ impl TagWindow {
             return;
         }
         drop_of_each(&mut self.queues, &mut self.firsts, stable);
+    }
+
+    /// Lets go of all timestamps: it is as `create` makes it of as many members. It takes no memory.
+    pub fn clear(&mut self)
+        ensures empty { self.new ≡ record { w = self.old.w; held = replicate (length self.old.held) [] } }
+        // it is of what any member delivered before there was a message
+        ensures nothing { (me : ℕ) → IsWindowOf (length self.old.held) self.old.w me [] self.new }
+    {
+        self.firsts = Tag::zero(self.members());
+        clear_each(&mut self.queues);
     }
 
     /// How many no-ops, or how many operations, of a member are held.
