@@ -26,6 +26,16 @@ pub trait ItemView {
         requires { place < length (items self.now) }
         ensures { IsItem (slice_get (items self.now) place) result.0.now (option_copied result.1) result.2 };
 
+    /// The same, and where the next item is to be looked for. What the call before gave is a good place to look at first, and
+    /// any number would do.
+    fn item_near(&self, place: usize, near: usize) -> (&ObjectId, Option<&Value>, Cell, usize)
+        requires { place < length (items self.now) }
+        ensures { IsItem (slice_get (items self.now) place) result.0.now (option_copied result.1) result.2 }
+    {
+        let (object, value, cell) = self.item_at(place);
+        (object, value, cell, near)
+    }
+
     /// The items stand in their one order, so no two are of one object and value.
     ghost rise: { (v : Self) → Rise (items v) };
 

@@ -12,5 +12,6 @@ pub mod Covers
 pub mod Touched
 pub mod Marks
 pub mod Waiting
+pub mod Pending
 pub mod Moves
 pub mod Views

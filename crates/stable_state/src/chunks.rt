@@ -207,7 +207,30 @@ impl Chunks {
         }
     }
 
+    /// The slot at a spot's place, and the chunk that has it. The spot's is looked at first.
+    #[inline(always)]
+    pub fn slot_from(&self, spot: Spot) -> (usize, usize)
+        requires { spot.place < length (concat self.now.parts) }
+        ensures { result.0 ≡ slice_index_or (concat self.now.parts) spot.place result.0 }
+    {
+        match self.slot_at(spot) {
+            Some(slot) => (slot, spot.chunk),
+            None => self.slot_afar(spot.place),
+        }
+    }
+
+    /// The slot at a place, and the chunk that has it, where another was looked at first: seldom, and so it stands apart.
+    #[inline(never)]
+    fn slot_afar(&self, place: usize) -> (usize, usize)
+        requires { place < length (concat self.now.parts) }
+        ensures { result.0 ≡ slice_index_or (concat self.now.parts) place result.0 }
+    {
+        prove!(place < self.len());
+        (self.slot(place), self.chunk_to(place + 1))
+    }
+
     /// The slot at a spot's place, where its chunk has it.
+    #[inline(always)]
     fn slot_at(&self, spot: Spot) -> Option<usize>
         ensures { IfSome result (λ slot. slot ≡ slice_index_or (concat self.now.parts) spot.place slot) }
     {

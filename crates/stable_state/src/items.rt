@@ -3,7 +3,7 @@
 //! That a message first covers what is settled, and that stable entries of the log are then absorbed without their
 //! timestamps, is the idea of Baquero, Almeida and Shoker (arXiv 1710.04469); the cells are this project's own profile.
 
-ghost use Rattle.std.specs.Prelude.{◌≡◌, ◌↔◌, ℕ, ◌+◌, ◌^◌, ◌<◌, ◌≤◌, true, false, [], List, length, map, filter, if◌then◌else◌, Option, Some, None, IsTrue, IfOk, OnOk, IsOk, IfSome, HoldsAt, slice_get, option_copied};
+ghost use Rattle.std.specs.Prelude.{◌≡◌, ◌↔◌, ℕ, ◌+◌, ◌^◌, ◌<◌, ◌≤◌, true, false, [], List, length, map, filter, if◌then◌else◌, Option, Some, None, IsTrue, IfOk, OnOk, IsOk, IfSome, HoldsAt, slice_get, option_copied, is_some};
 ghost use Rattle.std.specs.List.{between, list_any};
 ghost use Rattle.op_base.specs.Object.{same_object};
 ghost use Rattle.op_base.specs.declared.message.Message.{Message};
@@ -273,37 +273,46 @@ impl Items {
         ensures touched { (shown self.new).touched ≡ [] }
         ensures spare { (shown self.old).spare ≤ (shown self.new).spare }
     {
+        let mut near = entries.len();
         for _left in (0..self.shelf.touched_len()).rev() {
-            self.settle_last(entries);
+            near = self.settle_last(entries, near);
         }
     }
 
-    /// Settles the marks of the item that was touched last. It is touched no more by that.
-    fn settle_last(&mut self, entries: &[Entry])
+    /// Settles the marks of the item that was touched last. It is touched no more by that. Entries ahead of a place are
+    /// looked at first, and it tells the place of one that it found: what was touched in turn was often logged in turn.
+    fn settle_last(&mut self, entries: &[Entry], near: usize) -> usize
         requires some { 0 < length (shown self.old).touched }
+        requires near { near ≤ length entries.now }
+        ensures near { result ≤ length entries.now }
         ensures count { length (shown self.new).touched + 1 ≡ length (shown self.old).touched }
         ensures settled { AreSettled (put_in_by entries.now) (shown self.old) (shown self.new) }
         ensures spare { (shown self.old).spare ≤ (shown self.new).spare }
     {
-        if let Some(place) = self.shelf.take_touched() {
-            self.settle_at(place, entries);
+        match self.shelf.take_touched() {
+            Some(place) => self.settle_at(place, entries, near),
+            None => near,
         }
     }
 
     /// Settles the marks of the item at a place.
-    fn settle_at(&mut self, place: usize, entries: &[Entry])
+    fn settle_at(&mut self, place: usize, entries: &[Entry], near: usize) -> usize
         requires within { place < length (shown self.old).items }
         requires few { length (shown self.old).items < 2 ^ 64 }
+        requires near { near ≤ length entries.now }
+        ensures near { result ≤ length entries.now }
         ensures cells { IsSettledAt (put_in_by entries.now) place (shown self.old).items (shown self.new).items }
         ensures touched { KeepTouched (shown self.old) (shown self.new) }
         ensures spare { (shown self.old).spare ≤ (shown self.new).spare }
     {
         let spot = self.shelf.spot_at(place);
         let item = self.shelf.at_near(spot);
-        if !does_wait(item, entries) {
+        let (waits, found) = does_wait(item, entries, near);
+        if !waits {
             let cell = without_pending(item.cell);
             self.replace(spot, cell);
         }
+        found
     }
 }
 
@@ -352,18 +361,61 @@ fn can_lose_mark(item: &Item) -> bool
     item.cell.off && remove_wins(item.object.kind)
 }
 
-/// Whether an item's marks stay: it can't lose its off mark, or an add is pending.
-fn does_wait(item: &Item, entries: &[Entry]) -> bool
-    ensures { result ≡ waits (put_in_by entries.now) item.now }
+/// Whether an item's marks stay: it can't lose its off mark, or an add is pending. Entries ahead of a place are looked at
+/// first, and the place of the add is told, or this one again.
+fn does_wait(item: &Item, entries: &[Entry], near: usize) -> (bool, usize)
+    requires { near ≤ length entries.now }
+    ensures waits { result.0 ≡ waits (put_in_by entries.now) item.now }
+    ensures near { result.1 ≤ length entries.now }
 {
-    !can_lose_mark(item) || is_put_in(&item.object, item.value.as_ref(), entries)
+    if !can_lose_mark(item) {
+        return (true, near);
+    }
+    match put_in_near(&item.object, item.value.as_ref(), entries, near) {
+        Some(found) => (true, found),
+        None => (false, near),
+    }
+}
+
+/// The place of an entry that puts in what an object's value says, or turns the object on: the last one ahead of a place, or
+/// the last.
+fn put_in_near(
+    object: &ObjectId,
+    value: Option<&Value>,
+    entries: &[Entry],
+    near: usize,
+) -> Option<usize>
+    requires { near ≤ length entries.now }
+    ensures some { is_some result
+        ≡ list_any (λ e. acts_on object.now (puts_in (option_copied value.entry)) (message_of e).op) entries.now }
+    ensures within { IfSome result (λ place. place < length entries.now) }
+{
+    match put_in_last(object, value, &entries[..near]) {
+        Some(place) => Some(place),
+        None => match put_in_last(object, value, &entries[near..]) {
+            Some(place) => Some(near + place),
+            None => None,
+        },
+    }
+}
+
+/// The place of the last entry that puts in what an object's value says, or turns the object on.
+fn put_in_last(object: &ObjectId, value: Option<&Value>, entries: &[Entry]) -> Option<usize>
+    ensures some { is_some result
+        ≡ list_any (λ e. acts_on object.now (puts_in (option_copied value.entry)) (message_of e).op) entries.now }
+    ensures within { IfSome result (λ place. place < length entries.now) }
+{
+    for place in (0..entries.len()).rev() {
+        if does_put_in(object, value, &entries[place]) {
+            return Some(place);
+        }
+    }
+    None
 }
 
 /// Whether an entry puts in what an object's value says, or turns the object on.
-fn is_put_in(object: &ObjectId, value: Option<&Value>, entries: &[Entry]) -> bool
-    ensures { result
-        ≡ list_any (λ e. acts_on object.now (puts_in (option_copied value.entry)) (message_of e).op) entries.now }
+fn does_put_in(object: &ObjectId, value: Option<&Value>, entry: &Entry) -> bool
+    ensures { result ≡ acts_on object.now (puts_in (option_copied value.entry)) (message_of entry.now).op }
 {
-    entries.iter().any(|entry| puts_in(value, &entry.update.act)
-        && entry.update.object.is_same(object))
+    puts_in(value, &entry.update.act) && entry.update.object.is_same(object)
 }

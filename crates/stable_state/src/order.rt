@@ -111,6 +111,15 @@ impl Order {
         self.chunks.slot_near(spot)
     }
 
+    /// The slot at a spot's place, and the chunk of the place.
+    #[inline(always)]
+    pub fn at_from(&self, spot: Spot) -> (usize, usize)
+        requires { spot.place < length self.now.items }
+        ensures { result.0 ≡ slice_index_or self.now.items spot.place result.0 }
+    {
+        self.chunks.slot_from(spot)
+    }
+
     /// How many of the slots pass a test, where those that pass stand before the others.
     pub fn partition_point<P: Fn(&usize) -> bool>(&self, test: P) -> Spot
         requires { P.IsAlwaysCallable test }

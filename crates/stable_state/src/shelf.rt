@@ -145,6 +145,16 @@ impl Shelf {
         self.ranked_near(spot).item()
     }
 
+    /// The item at a spot's place, and the chunk of the place.
+    #[inline(always)]
+    pub fn at_from(&self, spot: Spot) -> (&Item, usize)
+        requires { spot.place < length self.now.items }
+        ensures { slice_get self.now.items spot.place ≡ Some result.0.now }
+    {
+        let (slot, chunk) = self.order.at_from(spot);
+        (self.slots[slot].item(), chunk)
+    }
+
     /// The item at a spot's place with its rank.
     fn ranked_near(&self, spot: Spot) -> &Ranked
         requires { spot.place < length self.now.items }

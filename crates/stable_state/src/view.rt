@@ -7,6 +7,7 @@ ghost use Rattle.std.specs.List.{between};
 ghost use Rattle.causal_model.specs.Items.{Rise, AreFilled};
 
 use crate::cell::NO_CELL;
+use crate::chunks::Spot;
 use crate::shelf::Shelf;
 use causal_model::ItemView;
 use op_base::{Cell, ObjectId, Value};
@@ -61,6 +62,15 @@ impl ItemView for ItemSpan<'_> {
     fn item_at(&self, place: usize) -> (&ObjectId, Option<&Value>, Cell) {
         let item = self.shelf.at(self.from + place);
         (&item.object, item.value.as_ref(), item.cell)
+    }
+
+    #[inline(always)]
+    fn item_near(&self, place: usize, near: usize) -> (&ObjectId, Option<&Value>, Cell, usize) {
+        let (item, chunk) = self.shelf.at_from(Spot {
+            place: self.from + place,
+            chunk: near,
+        });
+        (&item.object, item.value.as_ref(), item.cell, chunk)
     }
 
     ghost rise = { λ span. rise_between span.shelf.now.items span.from span.to span.ordered span.within span.rise };

@@ -10,19 +10,21 @@ loop-left-init c = record {
   count = sym c.touched_len-left.ensures;
   settled = none_is_settled (put_in_by c.args.entries.now) c.args.self.now.shelf;
   spare = omega arith;
+  near = omega arith;
 }
 
-pub settle_last-requires : goal.settle_last-requires
-settle_last-requires c = record { some = let count = c.loop-left.invariant.count in omega arith }
+pub settle_last-near-requires : goal.settle_last-near-requires
+settle_last-near-requires c = record { some = let count = c.loop-left.invariant.count in omega arith; near = c.loop-left.invariant.near }
 
 pub loop-left-preserved : goal.loop-left-preserved
 loop-left-preserved c =
     let before = c.loop-left.invariant in
-    let after = c.settle_last.ensures in
+    let after = c.settle_last-near.ensures in
     record {
       count = omega (arith, before.count, after.count);
-      settled = settled_further (put_in_by c.args.entries.now) c.args.self.now.shelf c.loop-left.self.shelf c.settle_last.new.self.shelf before.settled after.settled;
+      settled = settled_further (put_in_by c.args.entries.now) c.args.self.now.shelf c.loop-left.self.shelf c.settle_last-near.new.self.shelf before.settled after.settled;
       spare = omega (arith, before.spare, after.spare);
+      near = after.near;
     }
 
 nothing_is_left : (c : goal.After-loop-left) → c.loop-left.self.shelf.touched ≡ []

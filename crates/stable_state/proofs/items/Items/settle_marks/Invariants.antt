@@ -7,4 +7,5 @@ invariant-loop-left l = record {
   count : length l.self.shelf.touched ≡ l._left;
   settled : AreSettled (put_in_by l.entries) l.initial.self.shelf l.self.shelf;
   spare : l.initial.self.shelf.spare ≤ l.self.shelf.spare;
+  near : l.near ≤ length l.entries;
 }
