@@ -1,6 +1,6 @@
 //! The values of a set or a register. The queries of the kinds are this project's own profile.
 
-ghost use Rattle.std.specs.Prelude.{◌≡◌, ◌↔◌, ◌≤◌, ℕ, Bool, List, length, drop, All, [], ◌∷◌, ◌++◌, map, Contains, IfOk, OnOk, IsTrue, Some, if◌then◌else◌};
+ghost use Rattle.std.specs.Prelude.{◌≡◌, ◌↔◌, ◌≤◌, ℕ, Bool, List, length, drop, All, [], ◌∷◌, ◌++◌, map, Contains, IfOk, OnOk, IsTrue, Some, if◌then◌else◌, ◌<◌, ◌+◌, vec_len, vec_capacity};
 ghost use Rattle.std.specs.List.{list_any};
 ghost use Rattle.causal_model.specs.History.{History, events, is_history};
 ghost use Rattle.causal_model.specs.Items.{cell_in};
@@ -16,7 +16,7 @@ use crate::found::{Found, logged};
 use crate::grouping::grouped;
 use crate::marks::Marks;
 use causal_model::ItemView;
-use op_base::{Entry, Kind, NoMemory, ObjectId, ValueList};
+use op_base::{Entry, Kind, NoMemory, ObjectId, Value, ValueList};
 use std::alloc::Global;
 use std::cmp::Ordering;
 
@@ -60,8 +60,10 @@ fn listed<V: ItemView>(
     }
     let mut values = ValueList::with_capacity(alloc, items.len().saturating_add(finds.len()))?;
     let mut done = 0;
+    let mut near = 0;
     for place in 0..items.len() {
-        let (owner, value, cell) = items.item_at(place);
+        let (owner, value, cell, next) = items.item_near(place, near);
+        near = next;
         if let Some(value) = value {
             if is_of(owner, object, all) {
                 let marks = Marks {
@@ -85,18 +87,21 @@ fn settled<V: ItemView>(alloc: Global, items: &V, object: &ObjectId) -> Result<V
     ensures exact { IfOk result (λ values. (v : List ℕ) → list_any (λ value. same_text value v) values
         ≡ is_in object.now.kind (is_put object.now (V.items items.now) [] v) (is_taken object.now (V.items items.now) [] v)) }
 {
-    let mut values = ValueList::with_capacity(alloc, items.len())?;
+    let kind = object.kind;
+    let mut values = Vec::with_capacity(alloc, items.len())?;
+    let mut near = 0;
     for place in 0..items.len() {
-        let (_, value, cell) = items.item_at(place);
+        let (_, value, cell, next) = items.item_near(place, near);
+        near = next;
         if let Some(value) = value {
             let marks = Marks {
                 put: cell.on,
                 taken: cell.off,
             };
-            put_in(alloc, object.kind, &mut values, Found { value, marks })?;
+            add(alloc, kind, &mut values, Found { value, marks })?;
         }
     }
-    Ok(values)
+    Ok(ValueList::from_vec(values))
 }
 
 /// Whether all items are of an object, as the first and the last tell. No answer but `false` where there are none.
@@ -189,6 +194,29 @@ fn put_finds(
         put_in(alloc, kind, values, *found)?;
     }
     Ok(())
+}
+
+/// Puts the value of a find at the end of a list that has room for it, where it is in.
+#[inline(always)]
+fn add(alloc: Global, kind: Kind, values: &mut Vec<Value>, found: Found<'_>) -> Result<(), NoMemory>
+    requires { vec_len values.old < vec_capacity values.old }
+    ensures items { OnOk result (values.new.items ≡ (if is_in kind found.entry.marks.put found.entry.marks.taken then values.old.items ++ found.entry.value.now ∷ [] else values.old.items)) }
+    ensures len { vec_len values.new ≤ vec_len values.old + 1 }
+    ensures capacity { vec_capacity values.new ≡ vec_capacity values.old }
+{
+    if !found.marks.is_in(kind) {
+        return Ok(());
+    }
+    values.push_reserved(copy_of(alloc, found.value)?);
+    Ok(())
+}
+
+/// An equal value. It stands apart, so that a loop that copies values keeps none of one in its registers.
+#[inline(never)]
+fn copy_of(alloc: Global, value: &Value) -> Result<Value, NoMemory>
+    ensures { IfOk result (λ copy. copy ≡ value.now) }
+{
+    value.copy(alloc)
 }
 
 /// Puts the value of a find at the end, where it is in.

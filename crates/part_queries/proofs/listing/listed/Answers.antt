@@ -28,7 +28,7 @@ loop-place-preserved g c =
     let rest = drop (place + 1) items in
     let left = drop done finds in
     let old = c.loop-place.values in
-    let it = item_before items place _ _ _ c.item_at.ensures in
+    let it = item_before items place _ _ _ c.item_near-next.ensures in
     let x = it.0 in
     let so_far : AreListed kind (is_put object (x ∷ rest) left) (is_taken object (x ∷ rest) left) whole old = subst (λ r. AreListed kind (is_put object r left) (is_taken object r left) whole old) it.1 c.loop-place.invariant.listed in
     let rising : Rise (x ∷ rest) = subst Rise it.1 (rise_of_rest place items (g.met.V.ItemView.rise c.args.items.now)) in
@@ -38,14 +38,14 @@ loop-place-preserved g c =
           let n = w.in_ok-done.field-0 in
           let on : List ℕ → Bool = λ v. (cell_in rest object (Some v)).on in
           let off : List ℕ → Bool = λ v. (cell_in rest object (Some v)).off in
-          let own : x.object ≡ object = it.2 ∙ object_from_same c.item_at.result.0.now object (sym w.is_of.ensures ∙ w.if-is_of.true) in
+          let own : x.object ≡ object = it.2 ∙ object_from_same c.item_near-next.result.0.now object (sym w.is_of.ensures ∙ w.if-is_of.true) in
           let valued : x.value ≡ Some value = it.3 ∙ ap option_copied w.in-Some.is in
-          let start : AreListed kind (or_put (with_mark value c.item_at.result.2.on on) left) (or_taken (with_mark value c.item_at.result.2.off off) left) whole old =
+          let start : AreListed kind (or_put (with_mark value c.item_near-next.result.2.on on) left) (or_taken (with_mark value c.item_near-next.result.2.off off) left) whole old =
           subst (λ (cell : Cell). AreListed kind (or_put (with_mark value cell.on on) left) (or_taken (with_mark value cell.off off) left) whole old) it.4
           (listed_but_item object x rest kind left whole old so_far value own valued rising) in
           let later = w.in_ok-done.ensures.listed on off whole
           (later_behind object x rest value own valued rising (λ (cell : Cell). cell.on) refl) (later_behind object x rest value own valued rising (λ (cell : Cell). cell.off) refl)
-          (subst (λ fs. AreListed kind (or_put (with_mark value c.item_at.result.2.on on) fs) (or_taken (with_mark value c.item_at.result.2.off off) fs) whole old) (sym (slice_from finds done)) start) in
+          (subst (λ fs. AreListed kind (or_put (with_mark value c.item_near-next.result.2.on on) fs) (or_taken (with_mark value c.item_near-next.result.2.off off) fs) whole old) (sym (slice_from finds done)) start) in
           record {
             done = subst (λ m. m ≤ length finds) (sym w.done-is) (omega (arith, w.in_ok-done.ensures.count, ap length (slice_from finds done), length-drop done finds, c.loop-place.invariant.done));
             listed = subst (λ m. AreListed kind (is_put object rest (drop m finds)) (is_taken object rest (drop m finds)) whole c.match-value.values) (sym w.done-is)
@@ -57,7 +57,7 @@ loop-place-preserved g c =
             done = subst (λ n. n ≤ length finds) (sym w.done-is) c.loop-place.invariant.done;
             listed = subst (λ n. AreListed kind (is_put object rest (drop n finds)) (is_taken object rest (drop n finds)) whole c.match-value.values) (sym w.done-is)
                 (subst (AreListed kind (is_put object rest left) (is_taken object rest left) whole) (sym w.values-is) (listed_past_item object x rest kind left whole old so_far (λ v own valued.
-                both_ways (same_object c.item_at.result.0.now object) (sym w.is_of.ensures ∙ w.if-is_of.false) (ap (λ o. same_object o object) (sym it.2 ∙ own) ∙ same_itself object))));
+                both_ways (same_object c.item_near-next.result.0.now object) (sym w.is_of.ensures ∙ w.if-is_of.false) (ap (λ o. same_object o object) (sym it.2 ∙ own) ∙ same_itself object))));
           }
       | in_default w ↦
           record {
@@ -73,8 +73,8 @@ pub is_of-requires : goal.is_of-requires
 is_of-requires g c = λ known.
     let items = g.V.ItemView.items c.args.items.now in
     let place = c.loop-place.place in
-    let x = (item_before items place _ _ _ c.item_at.ensures).0 in
-    sym (item_is items place _ _ _ c.item_at.ensures x) ∙ c.are_all_of-all.ensures known place x (omega (arith, c.len-place-end.ensures, c.loop-place-test.true))
+    let x = (item_before items place _ _ _ c.item_near-next.ensures).0 in
+    sym (item_is items place _ _ _ c.item_near-next.ensures x) ∙ c.are_all_of-all.ensures known place x (omega (arith, c.len-place-end.ensures, c.loop-place-test.true))
 
 pub put_finds-requires : goal.put_finds-requires
 put_finds-requires g c = subst AreRising (sym (slice_from c.args.finds.now c.loop-place.done)) (rising_from c.args.finds.now c.loop-place.done c.requires)
