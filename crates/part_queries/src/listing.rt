@@ -207,16 +207,11 @@ fn add(alloc: Global, kind: Kind, values: &mut Vec<Value>, found: Found<'_>) -> 
     if !found.marks.is_in(kind) {
         return Ok(());
     }
-    values.push_reserved(copy_of(alloc, found.value)?);
+    match found.value.copy(alloc) {
+        Ok(value) => values.push_reserved(value),
+        Err(error) => return Err(error),
+    }
     Ok(())
-}
-
-/// An equal value. It stands apart, so that a loop that copies values keeps none of one in its registers.
-#[inline(never)]
-fn copy_of(alloc: Global, value: &Value) -> Result<Value, NoMemory>
-    ensures { IfOk result (λ copy. copy ≡ value.now) }
-{
-    value.copy(alloc)
 }
 
 /// Puts the value of a find at the end, where it is in.

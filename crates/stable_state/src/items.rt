@@ -3,7 +3,7 @@
 //! That a message first covers what is settled, and that stable entries of the log are then absorbed without their
 //! timestamps, is the idea of Baquero, Almeida and Shoker (arXiv 1710.04469); the cells are this project's own profile.
 
-ghost use Rattle.std.specs.Prelude.{◌≡◌, ◌↔◌, ℕ, ◌+◌, ◌^◌, ◌<◌, ◌≤◌, true, false, [], List, length, map, filter, if◌then◌else◌, Option, Some, None, IsTrue, IfOk, OnOk, IsOk, IfSome, HoldsAt, slice_get, option_copied, is_some};
+ghost use Rattle.std.specs.Prelude.{◌≡◌, ◌↔◌, ℕ, ◌+◌, ◌^◌, ◌<◌, ◌≤◌, true, false, [], List, length, map, filter, if◌then◌else◌, Option, Some, None, IsTrue, IfOk, OnOk, IsOk, IfSome, HoldsAt, slice_get, option_copied, is_some, MatchOption};
 ghost use Rattle.std.specs.List.{between, list_any};
 ghost use Rattle.op_base.specs.Object.{same_object};
 ghost use Rattle.op_base.specs.declared.message.Message.{Message};
@@ -27,7 +27,7 @@ use crate::cell::{
     NO_CELL, into_value, is_filled, is_in_range, puts_in, value_of, with_act, without_pending,
 };
 use crate::chunks::Spot;
-use crate::shelf::{FIRST, Gap, Shelf};
+use crate::shelf::{Gap, Shelf};
 use crate::view::ItemSpan;
 use causal_model::ItemView;
 use op_base::{Act, Cell, Entry, Item, Kind, NoMemory, ObjectId, Update, Value};
@@ -91,19 +91,23 @@ impl Items {
         ensures touched { StayTouched (shown self.old) (shown self.new) }
         ensures spare { (shown self.old).spare ≤ (shown self.new).spare }
     {
-        let (from, to) = self.covered_span(update);
-        self.shelf.remove_span(from, to);
+        if let Some((from, to)) = self.covered_span(update) {
+            self.shelf.remove_span(from, to);
+        }
     }
 
-    /// The places of the items that an update covers.
-    fn covered_span(&self, update: &Update) -> (Spot, usize)
-        ensures { ArePicked (covers_place (op.Update update.now)) (shown self.now).items result.0.place result.1 }
+    /// The places of the items that an update covers. `None` if it covers none, whatever items there are.
+    fn covered_span(&self, update: &Update) -> Option<(Spot, usize)>
+        ensures { MatchOption result (ArePicked (covers_place (op.Update update.now)) (shown self.now).items 0 0)
+            (λ span. ArePicked (covers_place (op.Update update.now)) (shown self.now).items span.0.place span.1) }
     {
         match (update.object.kind, value_of(&update.act)) {
-            (kind, Some(value)) if is_set(kind) => self.place_span(&update.object, Some(value)),
-            (Kind::Counter | Kind::List, _) => (FIRST, 0),
-            (Kind::RCounter, _) if !matches!(update.act, Act::Clear) => (FIRST, 0),
-            _ => self.object_span(&update.object),
+            (kind, Some(value)) if is_set(kind) => {
+                Some(self.place_span(&update.object, Some(value)))
+            }
+            (Kind::Counter | Kind::List, _) => None,
+            (Kind::RCounter, _) if !matches!(update.act, Act::Clear) => None,
+            _ => Some(self.object_span(&update.object)),
         }
     }
 

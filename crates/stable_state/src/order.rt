@@ -176,8 +176,8 @@ impl Order {
         self.excess += slots.len().saturating_sub(HALF);
     }
 
-    /// Takes out the slots that stand at places from the first up to, and not with, the second.
-    pub fn remove_range(&mut self, from: usize, to: usize)
+    /// Takes out the slots that stand at places from the first up to, and not with, the second. A chunk is looked at first.
+    pub fn remove_range(&mut self, from: usize, to: usize, near: usize)
         requires ordered { from ≤ to }
         requires within { to ≤ length self.old.items }
         ensures items { self.new.items ≡ remove_range self.old.items from to }
@@ -185,13 +185,13 @@ impl Order {
     {
         let mut end = to;
         while from < end {
-            end -= self.remove_some(from, end);
+            end -= self.remove_some(from, end, near);
         }
     }
 
     /// Takes out the first of the slots that stand at places from the first up to, and not with, the second, as many as
     /// are in one chunk, and says how many these are.
-    fn remove_some(&mut self, from: usize, to: usize) -> usize
+    fn remove_some(&mut self, from: usize, to: usize, near: usize) -> usize
         requires ordered { from < to }
         requires within { to ≤ length self.old.items }
         ensures some { 0 < result }
@@ -199,7 +199,10 @@ impl Order {
         ensures items { self.new.items ≡ remove_range self.old.items from (from + result) }
         ensures spare { self.old.spare ≤ self.new.spare }
     {
-        let chunk = self.chunks.chunk_to(from + 1);
+        let chunk = self.chunks.chunk_of(Spot {
+            place: from + 1,
+            chunk: near,
+        });
         let first = from - self.chunks.start(chunk);
         let len = self.chunks.part(chunk).len();
         let removed = (to - from).min(len - first);

@@ -33,7 +33,7 @@ pub struct Gap {
 }
 
 /// The first place.
-pub const FIRST: Spot = Spot { place: 0, chunk: 0 };
+const FIRST: Spot = Spot { place: 0, chunk: 0 };
 
 /// Settled items in their one order. Each stands in a slot that doesn't move, and a list of slots has the order.
 /// Contracts see the items, which of them were touched, and how many more can be put among them without memory. `reserve`
@@ -332,20 +332,20 @@ impl Shelf {
     {
         self.hint = from;
         if from.place < to {
-            self.take_out(from.place, to);
+            self.take_out(from.place, to, from.chunk);
         }
     }
 
-    /// Takes out the items that stand at places from the first up to, and not with, the second.
-    fn take_out(&mut self, from: usize, to: usize)
+    /// Takes out the items that stand at places from the first up to, and not with, the second. A chunk is looked at first.
+    fn take_out(&mut self, from: usize, to: usize, near: usize)
         requires ordered { from ≤ to }
         requires within { to ≤ length self.old.items }
         ensures items { self.new.items ≡ without_span from to self.old.items }
         ensures touched { KeepTouched self.old self.new }
         ensures spare { self.old.spare ≤ self.new.spare }
     {
-        empty_slots(&mut self.slots, &self.order, from, to);
-        self.order.remove_range(from, to);
+        empty_slots(&mut self.slots, &self.order, from, to, near);
+        self.order.remove_range(from, to, near);
     }
 
     /// Gives the item at a spot's place another cell. With an off mark it is touched. It takes no memory.
@@ -509,8 +509,9 @@ fn add(list: &mut Vec<usize>, slot: usize)
     };
 }
 
-/// Lets the items go in the slots of an order that stand at places from the first up to, and not with, the second.
-fn empty_slots(slots: &mut Slab<Ranked>, order: &Order, from: usize, to: usize)
+/// Lets the items go in the slots of an order that stand at places from the first up to, and not with, the second. A
+/// chunk is looked at first.
+fn empty_slots(slots: &mut Slab<Ranked>, order: &Order, from: usize, to: usize, near: usize)
     requires ordered { from ≤ to }
     requires within { to ≤ length order.now.items }
     requires held { All (ContainsKey slots.old) order.now.items }
@@ -520,7 +521,7 @@ fn empty_slots(slots: &mut Slab<Ranked>, order: &Order, from: usize, to: usize)
     ensures capacity { slots.new.capacity ≡ slots.old.capacity }
 {
     for place in from..to {
-        slots.remove(order.at(place));
+        slots.remove(order.at_near(Spot { place, chunk: near }));
     }
 }
 

@@ -11,16 +11,25 @@ invariant_of-self c =
     let old = c.args.self.now in
     let is = sym c.remove_span.ensures.items in
     record {
-      rise = subst Rise is (rise_without (covers_place (op.Update c.args.update.now)) old.shelf.items _ _ c.covered_span-to.ensures old.rise);
-      filled = subst AreFilled is (filled_without (covers_place (op.Update c.args.update.now)) old.shelf.items _ _ c.covered_span-to.ensures old.filled);
+      rise = subst Rise is (rise_without (covers_place (op.Update c.args.update.now)) old.shelf.items _ _ c.in-Some.ensures old.rise);
+      filled = subst AreFilled is (filled_without (covers_place (op.Update c.args.update.now)) old.shelf.items _ _ c.in-Some.ensures old.filled);
     }
 
-pub returns-clause-cells : goal.returns-clause-cells
-returns-clause-cells c = λ object value.
+pub returns-in-Some-clause-cells : goal.returns-in-Some-clause-cells
+returns-in-Some-clause-cells c = λ object value.
     ap (λ items. cell_in items object value) c.remove_span.ensures.items
-    ∙ cell_without (covers_place (op.Update c.args.update.now)) c.args.self.now.shelf.items _ _ c.covered_span-to.ensures object value
+    ∙ cell_without (covers_place (op.Update c.args.update.now)) c.args.self.now.shelf.items _ _ c.in-Some.ensures object value
 
-pub returns-clause-of : goal.returns-clause-of
-returns-clause-of c = λ h m is of.
+pub returns-in-Some-clause-of : goal.returns-in-Some-clause-of
+returns-in-Some-clause-of c = λ h m is of.
     covered_is_absorbed h m c.args.self.now.shelf c.remove_span.new.self of (λ object value.
-    returns-clause-cells c object value ∙ ap (λ o. cell_uncovered object value o (cell_in c.args.self.now.shelf.items object value)) (sym is))
+    returns-in-Some-clause-cells c object value ∙ ap (λ o. cell_uncovered object value o (cell_in c.args.self.now.shelf.items object value)) (sym is))
+
+pub returns-in_default-clause-cells : goal.returns-in_default-clause-cells
+returns-in_default-clause-cells c = λ object value.
+    cell_without (covers_place (op.Update c.args.update.now)) c.args.self.now.shelf.items 0 0 c.in_default.ensures object value
+
+pub returns-in_default-clause-of : goal.returns-in_default-clause-of
+returns-in_default-clause-of c = λ h m is of.
+    covered_is_absorbed h m c.args.self.now.shelf c.args.self.now.shelf of (λ object value.
+    returns-in_default-clause-cells c object value ∙ ap (λ o. cell_uncovered object value o (cell_in c.args.self.now.shelf.items object value)) (sym is))

@@ -48,21 +48,21 @@ left parts from k first removed new t is =
 pub overflow_sub-self-2 : goal.overflow_sub-self-2
 overflow_sub-self-2 c =
     let parts = c.self.inside.chunks.parts in
-    let k = c.chunk_to-chunk.result in
+    let k = c.chunk_of-chunk.result in
     let first = c.args.from - c.start.result in
     let removed = c.min-removed.result in
-    let t = taken parts c.args.from c.args.to k first removed c.start.result (length c.part-len.result.now) c.chunk_to-chunk.ensures c.start.ensures refl (ap length c.part-len.ensures) c.requires.ordered c.min-removed.ensures in
+    let t = taken parts c.args.from c.args.to k first removed c.start.result (length c.part-len.result.now) c.chunk_of-chunk.ensures c.start.ensures refl (ap length c.part-len.ensures) c.requires.ordered c.min-removed.ensures in
     let rest = left parts c.args.from k first removed c.cut.new.self.parts t (ap (λ v. v.parts) c.cut.ensures) in
     omega (arith, rest.excess, rest.long, c.self.invariant.excess, c.saturating_sub.ensures, c.saturating_sub-2.ensures, ap length c.part-len.ensures)
 
 pub invariant_of-self : goal.invariant_of-self
 invariant_of-self c =
     let parts = c.self.inside.chunks.parts in
-    let k = c.chunk_to-chunk.result in
+    let k = c.chunk_of-chunk.result in
     let first = c.args.from - c.start.result in
     let removed = c.min-removed.result in
     let old = get_or parts k [] in
-    let t = taken parts c.args.from c.args.to k first removed c.start.result (length c.part-len.result.now) c.chunk_to-chunk.ensures c.start.ensures refl (ap length c.part-len.ensures) c.requires.ordered c.min-removed.ensures in
+    let t = taken parts c.args.from c.args.to k first removed c.start.result (length c.part-len.result.now) c.chunk_of-chunk.ensures c.start.ensures refl (ap length c.part-len.ensures) c.requires.ordered c.min-removed.ensures in
     let rest = left parts c.args.from k first removed c.cut.new.self.parts t (ap (λ v. v.parts) c.cut.ensures) in
     let none : get_or c.cut.new.self.parts k [] ≡ [] = ap (λ ps. get_or ps k []) rest.is ∙ get_or-set_same parts k rest.part [] t.home ∙ nil_from_length rest.part (omega (arith, rest.long, c.if-removed-len.true, ap length c.part-len.ensures)) in
     let l : k < length c.cut.new.self.parts = omega (arith, t.home, ap length rest.is, length-set parts k rest.part) in
@@ -76,11 +76,11 @@ invariant_of-self c =
 pub invariant_of-self-else-removed-len : goal.invariant_of-self-else-removed-len
 invariant_of-self-else-removed-len c =
     let parts = c.self.inside.chunks.parts in
-    let k = c.chunk_to-chunk.result in
+    let k = c.chunk_of-chunk.result in
     let first = c.args.from - c.start.result in
     let removed = c.min-removed.result in
     let old = get_or parts k [] in
-    let t = taken parts c.args.from c.args.to k first removed c.start.result (length c.part-len.result.now) c.chunk_to-chunk.ensures c.start.ensures refl (ap length c.part-len.ensures) c.requires.ordered c.min-removed.ensures in
+    let t = taken parts c.args.from c.args.to k first removed c.start.result (length c.part-len.result.now) c.chunk_of-chunk.ensures c.start.ensures refl (ap length c.part-len.ensures) c.requires.ordered c.min-removed.ensures in
     let rest = left parts c.args.from k first removed c.cut.new.self.parts t (ap (λ v. v.parts) c.cut.ensures) in
     let short = (c.self.invariant.open_parts k [] t.home).short in
     record {
@@ -97,11 +97,11 @@ removed_is items start first from removed at =
 pub returns-then-removed-len-clause-items : goal.returns-then-removed-len-clause-items
 returns-then-removed-len-clause-items c =
     let parts = c.self.inside.chunks.parts in
-    let k = c.chunk_to-chunk.result in
+    let k = c.chunk_of-chunk.result in
     let first = c.args.from - c.start.result in
     let removed = c.min-removed.result in
     let old = get_or parts k [] in
-    let t = taken parts c.args.from c.args.to k first removed c.start.result (length c.part-len.result.now) c.chunk_to-chunk.ensures c.start.ensures refl (ap length c.part-len.ensures) c.requires.ordered c.min-removed.ensures in
+    let t = taken parts c.args.from c.args.to k first removed c.start.result (length c.part-len.result.now) c.chunk_of-chunk.ensures c.start.ensures refl (ap length c.part-len.ensures) c.requires.ordered c.min-removed.ensures in
     let rest = left parts c.args.from k first removed c.cut.new.self.parts t (ap (λ v. v.parts) c.cut.ensures) in
     let none : get_or c.cut.new.self.parts k [] ≡ [] = ap (λ ps. get_or ps k []) rest.is ∙ get_or-set_same parts k rest.part [] t.home ∙ nil_from_length rest.part (omega (arith, rest.long, c.if-removed-len.true, ap length c.part-len.ensures)) in
     let l : k < length c.cut.new.self.parts = omega (arith, t.home, ap length rest.is, length-set parts k rest.part) in
@@ -111,11 +111,11 @@ returns-then-removed-len-clause-items c =
 pub returns-else-removed-len-clause-items : goal.returns-else-removed-len-clause-items
 returns-else-removed-len-clause-items c =
     let parts = c.self.inside.chunks.parts in
-    let k = c.chunk_to-chunk.result in
+    let k = c.chunk_of-chunk.result in
     let first = c.args.from - c.start.result in
     let removed = c.min-removed.result in
     let old = get_or parts k [] in
-    let t = taken parts c.args.from c.args.to k first removed c.start.result (length c.part-len.result.now) c.chunk_to-chunk.ensures c.start.ensures refl (ap length c.part-len.ensures) c.requires.ordered c.min-removed.ensures in
+    let t = taken parts c.args.from c.args.to k first removed c.start.result (length c.part-len.result.now) c.chunk_of-chunk.ensures c.start.ensures refl (ap length c.part-len.ensures) c.requires.ordered c.min-removed.ensures in
     let rest = left parts c.args.from k first removed c.cut.new.self.parts t (ap (λ v. v.parts) c.cut.ensures) in
     rest.slots ∙ removed_is (concat parts) (length (concat (take k parts))) first c.args.from removed t.at
     ∙ ap (λ v. remove_range v.items c.args.from (c.args.from + removed)) c.self.view_is
