@@ -89,37 +89,45 @@ pub each-of-items : {E : Type 0} (P : E → Type 0) (rs : List (ℕ × E)) → E
 each-of-items P [] each = tt
 each-of-items P (r ∷ rs) each = (each.0, each-of-items P rs each.1)
 
+-- an entry put between those that stand no higher and those that stand higher
+pub laid-between : (n next : ℕ) (front back : List (ℕ × Entry)) (e : Entry) → IsLaid n next (front ++ back)
+    → Each (λ x. is_le (object_cmp x.1.update.object e.update.object) ≡ true) front → Each (λ x. is_le (object_cmp x.1.update.object e.update.object) ≡ false) back
+    → IsTrue (fits n (message_of e)) → IsLaid n (next + 1) (front ++ (next, e) ∷ back)
+laid-between n next front back e laid low high fit =
+    let r : ℕ × Entry = (next, e) in
+    let below = each-parts (λ x. x.0 < next) front back laid.below in
+    let Q : ℕ × Entry → Type 0 = λ x. IsTrue (fits n (message_of x.1)) in
+    let fitting = each-parts Q front back laid.fit in
+    let before = each-weaker (λ x. (is_le (object_cmp x.1.update.object e.update.object) ≡ true) × (x.0 < next)) (λ x. StandsBefore x r)
+    (λ x h. (before-or-at x.1.update.object e.update.object x.0 next (object_cmp x.1.update.object e.update.object) refl h.0 h.1, λ t. omega (arith, h.1, t)))
+    front (each-both _ _ front low below.0) in
+    let after = each-weaker (λ x. (is_le (object_cmp x.1.update.object e.update.object) ≡ false) × (x.0 < next)) (λ x. StandsBefore r x)
+    (λ x h. (inl (above-from x.1.update.object e.update.object h.0), λ t. omega (arith, h.1, t)))
+    back (each-both _ _ back high below.1) in
+    let up : (rs : List (ℕ × Entry)) → Each (λ x. x.0 < next) rs → Each (λ x. x.0 < next + 1) rs = each-weaker (λ x. x.0 < next) (λ x. x.0 < next + 1) (λ x l. omega (arith, l)) in
+    record {
+      grouped = pairwise-more StandsBefore front back r before after laid.grouped;
+      below = each-join (λ x. x.0 < next + 1) front (r ∷ back) (up front below.0) (omega arith, up back below.1);
+      fit = each-join Q front (r ∷ back) fitting.0 (fit, fitting.1);
+    }
+
 -- an entry put behind all that stand no higher
 pub laid-more : (n next at : ℕ) (rs : List (ℕ × Entry)) (e : Entry) → IsLaid n next rs
     → Each (λ f. is_le (object_cmp f.update.object e.update.object) ≡ true) (take at (items_of rs)) → Each (λ f. is_le (object_cmp f.update.object e.update.object) ≡ false) (drop at (items_of rs))
     → IsTrue (fits n (message_of e)) → IsLaid n (next + 1) (insert rs at (next, e))
 laid-more n next at rs e laid lower higher fit =
-    let r : ℕ × Entry = (next, e) in
-    let P : ℕ × Entry → Type 0 = λ x. x.0 < next in
-    let below = each-parts P (take at rs) (drop at rs) (subst (Each P) (sym (joined at rs)) laid.below) in
-    let Q : ℕ × Entry → Type 0 = λ x. IsTrue (fits n (message_of x.1)) in
-    let fitting = each-parts Q (take at rs) (drop at rs) (subst (Each Q) (sym (joined at rs)) laid.fit) in
     let low = each-of-items (λ f. is_le (object_cmp f.update.object e.update.object) ≡ true) (take at rs) (subst (Each (λ f. is_le (object_cmp f.update.object e.update.object) ≡ true)) (items-take at rs) lower) in
     let high = each-of-items (λ f. is_le (object_cmp f.update.object e.update.object) ≡ false) (drop at rs) (subst (Each (λ f. is_le (object_cmp f.update.object e.update.object) ≡ false)) (items-drop at rs) higher) in
-    let before = each-weaker (λ x. (is_le (object_cmp x.1.update.object e.update.object) ≡ true) × (x.0 < next)) (λ x. StandsBefore x r)
-    (λ x h. (before-or-at x.1.update.object e.update.object x.0 next (object_cmp x.1.update.object e.update.object) refl h.0 h.1, λ t. omega (arith, h.1, t)))
-    (take at rs) (each-both _ _ (take at rs) low below.0) in
-    let after = each-weaker (λ x. (is_le (object_cmp x.1.update.object e.update.object) ≡ false) × (x.0 < next)) (λ x. StandsBefore r x)
-    (λ x h. (inl (above-from x.1.update.object e.update.object h.0), λ t. omega (arith, h.1, t)))
-    (drop at rs) (each-both _ _ (drop at rs) high below.1) in
-    let up = each-weaker P (λ x. x.0 < next + 1) (λ x l. omega (arith, l)) in
-    record {
-      grouped = pairwise-more StandsBefore (take at rs) (drop at rs) r before after (subst (Pairwise StandsBefore) (sym (joined at rs)) laid.grouped);
-      below = each-join (λ x. x.0 < next + 1) (take at rs) (r ∷ drop at rs) (up (take at rs) below.0) (omega arith, up (drop at rs) below.1);
-      fit = each-join Q (take at rs) (r ∷ drop at rs) fitting.0 (fit, fitting.1);
-    }
+    laid-between n next (take at rs) (drop at rs) e (subst (IsLaid n next) (sym (joined at rs)) laid) low high fit
+
+-- wherever it is put, it arrived last
+pub arrived-between : (n next : ℕ) (front back : List (ℕ × Entry)) (e : Entry) → IsLaid n next (front ++ back) → arrived (front ++ (next, e) ∷ back) ≡ arrived (front ++ back) ++ e ∷ []
+arrived-between n next front back e laid =
+    ap items_of (in_order-more front back (next, e) laid.below) ∙ items-join (in_order (front ++ back)) ((next, e) ∷ [])
 
 pub arrived-more : (n next at : ℕ) (rs : List (ℕ × Entry)) (e : Entry) → IsLaid n next rs → arrived (insert rs at (next, e)) ≡ arrived rs ++ e ∷ []
 arrived-more n next at rs e laid =
-    let below = subst (Each (λ x. x.0 < next)) (sym (joined at rs)) laid.below in
-    ap items_of (in_order-more (take at rs) (drop at rs) (next, e) below)
-    ∙ items-join (in_order (take at rs ++ drop at rs)) ((next, e) ∷ [])
-    ∙ ap (λ xs. arrived xs ++ e ∷ []) (joined at rs)
+    arrived-between n next (take at rs) (drop at rs) e (subst (IsLaid n next) (sym (joined at rs)) laid) ∙ ap (λ xs. arrived xs ++ e ∷ []) (joined at rs)
 
 -- ---- one object
 

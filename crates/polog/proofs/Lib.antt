@@ -10,7 +10,6 @@ pub mod Runs
 pub mod Firsts
 pub mod Strips
 pub mod Prunes
-pub mod Thinning
 pub mod Items
 pub mod Fitting
 pub mod Standing

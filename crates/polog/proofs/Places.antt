@@ -142,6 +142,11 @@ tied_between Less h t = sym h
 tied_between Equal h t = refl
 tied_between Greater h t = t
 
+pub lower-is-le : (o : Ordering) → is_lt o ≡ true → is_le o ≡ true
+lower-is-le Less h = refl
+lower-is-le Equal h = absurd (false≢true h)
+lower-is-le Greater h = h
+
 pub other-below : (a b : ObjectId) → is_lt (object_cmp a b) ≡ true → same_object a b ≡ false
 other-below a b h = same-is-eq a b ∙ not_tied_below (object_cmp a b) h
 

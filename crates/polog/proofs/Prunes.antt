@@ -1,5 +1,5 @@
 -- Which entries of a log a message leaves.
-use Rattle.std.proofs.Common.{◌≡◌, ℕ, ◌≤◌, cond, nat_lt, Bool, true, false, not, ◌&&◌, List, [], ◌∷◌, length, IsTrue, inl, inr, refl, sym, ap, subst, ◌∙◌, arith}
+use Rattle.std.proofs.Common.{◌≡◌, ℕ, ◌≤◌, cond, nat_lt, Bool, true, false, not, ◌&&◌, List, [], ◌∷◌, ◌++◌, length, take, drop, IsTrue, inl, inr, refl, sym, ap, subst, ◌∙◌, arith}
 use Rattle.std.specs.List.{filter}
 use Rattle.std.proofs.lemmas.Bool.{eq-eqb, false≢true}
 use Rattle.std.proofs.lemmas.List.Filters.{length-filter_both}
@@ -7,6 +7,7 @@ use Rattle.op_base.specs.Object.{same_object}
 use Rattle.op_base.specs.declared.message.Entry.{Entry}
 use Rattle.op_base.specs.declared.message.Message.{Message}
 use Rattle.op_base.specs.declared.operation.Act.{Act}
+use Rattle.op_base.specs.declared.operation.Op.{Op}
 use Rattle.op_base.specs.declared.operation.Op.TheVariants as op
 use Rattle.op_base.specs.declared.operation.Update.{Update}
 use Rattle.causal_model.specs.Log.{is_covered_by, message_of}
@@ -18,7 +19,8 @@ use Rattle.polog.specs.Value.{is_of, stays}
 use Rattle.polog.specs.declared.reach.Look.TheVariants.{AtMark, AtAll}
 use Rattle.polog.specs.declared.reach.Reach.{Reach}
 use Rattle.polog.specs.declared.reach.Reach.TheVariants as reaches
-use Rattle.polog.proofs.Orders.{filter-all, told}
+use Rattle.polog.proofs.Laid.{joined}
+use Rattle.polog.proofs.Orders.{filter-all, filter-join, told}
 
 each-any : {A : Type 0} (P : A → Type 0) → ((x : A) → P x) → (xs : List A) → Each P xs
 each-any P all [] = tt
@@ -58,6 +60,20 @@ rest-stays covers m u reach rows is reached e unseen = uncovered-stays covers m 
   | inl t ↦ absurd (false≢true (sym unseen ∙ reached-is-looked-at reach u.act e.update.act rows (subst (Reaches reach covers) is reached e.update t)))
   | inr t ↦ t
 ])
+
+-- an operation that reaches nothing covers nothing
+pub nothing-leaves-all : (covers : Update → Update → Bool) (m : Message) → Reaches reaches.Nothing covers m.op → (es : List Entry) → filter (stays covers m) es ≡ es
+nothing-leaves-all covers m nothing es = filter-all (stays covers m) es (each-any (λ e. stays covers m e ≡ true) (λ e. uncovered-stays covers m e (uncovered m.op e.update nothing)) es) where
+  uncovered : (o : Op) (u : Update) → Reaches reaches.Nothing covers o → is_covered_by covers (op.Update u) o ≡ false
+  uncovered op.NoOp u none = refl
+  uncovered (op.Update later) u none = elim (told (covers later u)) [ inl t ↦ absurd (none u t) | inr t ↦ t ]
+
+-- what stays as far as a place was put first, and all from the place on stays
+pub swept-is-filtered : {A : Type 0} (p : A → Bool) (old swept : List A) (kept to : ℕ) → take kept swept ≡ filter p (take to old) → drop to swept ≡ drop to old
+    → Each (λ x. p x ≡ true) (drop to old) → take kept swept ++ drop to swept ≡ filter p old
+swept-is-filtered p old swept kept to front behind after =
+    (λ t. front t ++ behind t) ∙ ap (λ xs. filter p (take to old) ++ xs) (sym (filter-all p (drop to old) after))
+    ∙ sym (filter-join p (take to old) (drop to old)) ∙ ap (filter p) (joined to old)
 
 pub length-filter-le : {A : Type 0} (p : A → Bool) (xs : List A) → length (filter p xs) ≤ length xs
 length-filter-le p xs = let both = length-filter_both p (λ x. not (p x)) (λ x. refl) xs in omega (arith, both)

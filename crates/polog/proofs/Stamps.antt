@@ -55,6 +55,11 @@ module _ (ss more : List Stamp) (es others : List Entry) (marked : AreMarked ss 
       ap (map (λ s. s.mark)) stamps ∙ map-insert (λ (s : Stamp). s.mark) i s ss ∙ (λ t. insert (marked t) i (is t))
       ∙ sym (ap (map (λ e. mark_of e.update.act)) entries ∙ map-insert (λ (e : Entry). mark_of e.update.act) i e es)
 
+  pub marked-set : (i : ℕ) (s : Stamp) (e : Entry) → s.mark ≡ mark_of e.update.act → more ≡ set ss i s → others ≡ set es i e → AreMarked more others
+  marked-set i s e is stamps entries =
+      ap (map (λ s. s.mark)) stamps ∙ map-set (λ (s : Stamp). s.mark) ss i s ∙ (λ t. set (marked t) i (is t))
+      ∙ sym (ap (map (λ e. mark_of e.update.act)) entries ∙ map-set (λ (e : Entry). mark_of e.update.act) es i e)
+
   pub marked-swap : (i j : ℕ) → more ≡ swap ss i j → others ≡ swap es i j → AreMarked more others
   marked-swap i j stamps entries =
       ap (map (λ s. s.mark)) stamps ∙ map-swap (λ (s : Stamp). s.mark) i j ss ∙ ap (λ ms. swap ms i j) marked

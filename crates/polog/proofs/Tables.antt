@@ -1,8 +1,8 @@
 -- Rows of a list of stamps and one of items as long: what edits of both lists make of them.
-use Rattle.std.proofs.Common.{◌≡◌, ℕ, ◌-◌, ◌<◌, zero, suc, List, [], ◌∷◌, ◌++◌, length, take, drop, get_or, set, length-append, length-drop, refl, sym, ap, ◌∙◌, arith}
+use Rattle.std.proofs.Common.{◌≡◌, ℕ, ◌+◌, ◌-◌, ◌<◌, append_assoc, zero, suc, List, [], ◌∷◌, ◌++◌, length, take, drop, get_or, set, length-append, length-drop, refl, sym, ap, ◌∙◌, arith}
 use Rattle.std.specs.List.{insert, swap}
 use Rattle.std.specs.Prelude.{slice_range}
-use Rattle.std.proofs.lemmas.List.{set-get_or}
+use Rattle.std.proofs.lemmas.List.{drop-set-lt, get_or-set_same, length-set, set-get_or, take-set-le, take_more}
 use Rattle.op_base.specs.declared.message.Entry.{Entry}
 use Rattle.polog.specs.Order.{rows, items_of}
 use Rattle.polog.specs.declared.marks.Stamp.{Stamp}
@@ -22,6 +22,13 @@ same-take (suc i) (x ∷ xs) (y ∷ ys) same = ap suc (same-take i xs ys (omega 
 pub swap-itself : {A : Type 0} (i : ℕ) (xs : List A) → swap xs i i ≡ xs
 swap-itself i [] = refl
 swap-itself i (x ∷ xs) = ap (λ ys. set ys i (get_or (x ∷ xs) i x)) (set-get_or (x ∷ xs) i x) ∙ set-get_or (x ∷ xs) i x
+
+-- a list that is cut behind an item that was put in
+pub cut-behind-set : {A : Type 0} (i j : ℕ) (xs : List A) (x : A) → i < j → i < length xs → take (i + 1) (set xs i x) ++ drop j (set xs i x) ≡ take i xs ++ x ∷ drop j xs
+cut-behind-set i j xs x before inside =
+    let long : i < length (set xs i x) = omega (arith, inside, length-set xs i x) in
+    (λ t. (take_more (set xs i x) i x long ∙ (λ u. take-set-le i xs i x (omega arith) u ++ get_or-set_same xs i x x inside u ∷ [])) t ++ drop-set-lt j xs i x before t)
+    ∙ append_assoc (take i xs) (x ∷ []) (drop j xs)
 
 module _ {E : Type 0} where
   pub rows-join : (ss more : List Stamp) (es fs : List E) → length ss ≡ length es → rows (ss ++ more) (es ++ fs) ≡ rows ss es ++ rows more fs
@@ -59,7 +66,7 @@ module _ {E : Type 0} where
   rows-drop (suc k) (s ∷ ss) [] same = cc
   rows-drop (suc k) (s ∷ ss) (e ∷ es) same = rows-drop k ss es (omega (arith, same))
 
-  rows-set : (k : ℕ) (ss : List Stamp) (es : List E) (s : Stamp) (e : E) → rows (set ss k s) (set es k e) ≡ set (rows ss es) k (s.number, e)
+  pub rows-set : (k : ℕ) (ss : List Stamp) (es : List E) (s : Stamp) (e : E) → rows (set ss k s) (set es k e) ≡ set (rows ss es) k (s.number, e)
   rows-set zero [] es s e = refl
   rows-set zero (r ∷ ss) [] s e = refl
   rows-set zero (r ∷ ss) (f ∷ es) s e = refl

@@ -28,14 +28,6 @@ pub record IsMovedDown {A : Type 0} (to from end : ℕ) (old new : List A) : Typ
   pub rest : drop end new ≡ drop end old
   pub same : IsPermutation old new
 
--- some items that don't pass were taken out of a list: what stands before a place passes, and what stands from a later place on
-pub record IsThinned {A : Type 0} (p : A → Bool) (at end : ℕ) (old new : List A) : Type 0 where
-  pub order : at ≤ end
-  pub places : end ≤ length new
-  pub before : Each (λ x. p x ≡ true) (take at new)
-  pub after : Each (λ x. p x ≡ true) (drop end new)
-  pub same : filter p new ≡ filter p old
-
 -- of two rows the first stands before the second: by object, and within an object by arrival; and they arrived apart
 abbrev pub StandsBefore : ℕ × Entry → ℕ × Entry → Type 0
 StandsBefore a b =

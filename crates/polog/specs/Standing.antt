@@ -73,6 +73,11 @@ KeepsLogged entry old new =
     → message_of entry ≡ m → IsTrue (is_kept keeps m.op)
     → IsPruned keeps covers n me messages m old → IsLogged keeps covers n me messages m new
 
+-- where the log was that of messages, and one that is kept was taken in, it is in the log
+abbrev pub KeepsTakenIn : (Update → Update → Bool) → Message → Log → Log → Type 0
+KeepsTakenIn covers m old new = (keeps : Update → Bool) (n me : ℕ) (messages : List Message) → IsTrue (is_kept keeps m.op)
+    → IsLogOf keeps covers n me messages old → IsLogged keeps covers n me messages m new
+
 -- where the log had the last message of a chapter, and these are the stable counts with it, it is stripped of what is
 -- stable, and none of that was handed out yet
 abbrev pub KeepsStripped : List ℕ → Log → Log → Type 0

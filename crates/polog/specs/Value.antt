@@ -4,6 +4,8 @@ use Rattle.op_base.specs.Object.{same_object}
 use Rattle.op_base.specs.declared.message.Entry.{Entry}
 use Rattle.op_base.specs.declared.message.Message.{Message}
 use Rattle.op_base.specs.declared.name.ObjectId.{ObjectId}
+use Rattle.op_base.specs.declared.operation.Op.{Op}
+use Rattle.op_base.specs.declared.operation.Op.TheVariants as op
 use Rattle.op_base.specs.declared.operation.Update.{Update}
 use Rattle.causal_model.specs.Log.{is_covered_by, message_of}
 use Rattle.causal_model.specs.Order.{happened_before}
@@ -26,6 +28,11 @@ with_entries log entries = record { n = log.n; room = log.room; pushed = log.pus
 abbrev pub with_entry : Log → Entry → Log
 with_entry log entry = record { n = log.n; room = log.room; pushed = log.pushed + 1; entries = log.entries ++ entry ∷ []; stripped = log.stripped }
 
+-- a log with an operation's update from a member at a timestamp, where it has one
+abbrev pub with_update : ℕ → List ℕ → Op → Log → Log
+with_update origin tag op.NoOp log = log
+with_update origin tag (op.Update u) log = with_entry log (record { origin = origin; tag = tag; update = u })
+
 -- whether an entry is stable where these are the stable counts
 abbrev pub is_stable_entry : List ℕ → Entry → Bool
 is_stable_entry stable entry = is_stable stable (message_of entry)
@@ -46,6 +53,10 @@ is_of object entry = same_object entry.update.object object
 -- whether an entry stays when a message comes: it didn't happen before the message, or the message doesn't cover it
 abbrev pub stays : (Update → Update → Bool) → Message → Entry → Bool
 stays covers m entry = not (is_covered_by covers (message_of entry).op m.op && happened_before (message_of entry) m)
+
+-- a log without what a message covers
+abbrev pub without_covered : Log → (Update → Update → Bool) → Message → Log
+without_covered log covers m = with_entries log (filter (stays covers m) log.entries)
 
 -- a list without the first item that passes
 abbrev pub without_first : {A : Type 0} → (A → Bool) → List A → List A

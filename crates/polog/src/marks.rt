@@ -1,6 +1,6 @@
 //! Marks of acts, by which rows of other values are passed over.
 
-ghost use Rattle.std.specs.Prelude.{◌≡◌, ◌≢◌, ◌≤◌, ◌<◌, ℕ, length, slice_index_or};
+ghost use Rattle.std.specs.Prelude.{◌≡◌, ◌≢◌, ◌≤◌, ◌<◌, ℕ, false, length, slice_index_or};
 ghost use Rattle.polog.specs.Marks.{mark_of, mark_of_text};
 ghost use Rattle.polog.specs.declared.marks.Stamp.{Stamp};
 
@@ -44,6 +44,37 @@ fn mark_of_text(bytes: &[u8]) -> u32
     mark
 }
 
+/// So many stamps are looked at together.
+const BLOCK: usize = 8;
+
+/// Whether a mark stands among stamps. All are looked at, so that several are compared at once.
+#[inline(always)]
+fn is_among(stamps: &[Stamp], mark: u32) -> bool
+    ensures { result ≡ false → (k : ℕ) (d : Stamp) → k < length stamps.now → (slice_index_or stamps.now k d).mark ≢ mark }
+{
+    let mut found = false;
+    for stamp in stamps {
+        found |= stamp.mark == mark;
+    }
+    found
+}
+
+/// A place from a place on and up to a later one, before which a mark doesn't stand. Where it isn't near the later one, the mark
+/// stands soon behind it.
+fn block_marked(stamps: &[Stamp], mark: u32, from: usize, to: usize) -> usize
+    requires order { from ≤ to }
+    requires places { to ≤ length stamps.now }
+    ensures least { from ≤ result }
+    ensures most { result ≤ to }
+    ensures passed { (k : ℕ) (d : Stamp) → from ≤ k → k < result → (slice_index_or stamps.now k d).mark ≢ mark }
+{
+    let mut at = from;
+    while to - at >= BLOCK && !is_among(&stamps[at..at + BLOCK], mark) {
+        at += BLOCK;
+    }
+    at
+}
+
 /// The first place from a place on and up to a later one where a mark stands, or the later place.
 pub fn next_marked(stamps: &[Stamp], mark: u32, from: usize, to: usize) -> usize
     requires order { from ≤ to }
@@ -53,7 +84,7 @@ pub fn next_marked(stamps: &[Stamp], mark: u32, from: usize, to: usize) -> usize
     ensures passed { (k : ℕ) (d : Stamp) → from ≤ k → k < result → (slice_index_or stamps.now k d).mark ≢ mark }
     ensures marked { (d : Stamp) → result < to → (slice_index_or stamps.now result d).mark ≡ mark }
 {
-    for at in from..to {
+    for at in block_marked(stamps, mark, from, to)..to {
         if stamps[at].mark == mark {
             return at;
         }

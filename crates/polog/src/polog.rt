@@ -7,22 +7,25 @@ ghost use Rattle.op_base.specs.Message.{fits, id_of};
 ghost use Rattle.op_base.specs.Order.{object_cmp};
 ghost use Rattle.op_base.specs.declared.message.Entry.{Entry};
 ghost use Rattle.op_base.specs.declared.name.ObjectId.{ObjectId};
+ghost use Rattle.op_base.specs.declared.operation.Op.TheVariants as op;
 ghost use Rattle.op_base.specs.declared.operation.Update.{Update};
 ghost use Rattle.causal_model.specs.Log.{message_of};
-ghost use Rattle.polog.specs.Value.{Log, with_entries, with_entry, with_stripped, without_stable, without_first, is_stable_entry, is_of, stays};
+ghost use Rattle.polog.specs.Value.{Log, with_entries, with_entry, with_update, with_stripped, without_covered, without_stable, without_first, is_stable_entry, is_of, stays};
 ghost use Rattle.polog.specs.Marks.{Reaches};
 ghost use Rattle.polog.specs.Order.{Pairwise};
-ghost use Rattle.polog.specs.Standing.{IsLogOf, KeepsPruned, KeepsLogged, KeepsStripped, KeepsHandingOut, KeepsStripping, AreLoggedOf, TellWhatIsLogged};
+ghost use Rattle.polog.specs.Standing.{IsLogOf, KeepsPruned, KeepsLogged, KeepsTakenIn, KeepsStripped, KeepsHandingOut, KeepsStripping, AreLoggedOf, TellWhatIsLogged};
 
 use crate::ids::{numbered_ids, without_numbers};
-use crate::reach::{Reach, look_of};
+use crate::marks::{Stamp, mark_of};
+use crate::reach::Reach;
 use crate::rows::Rows;
-use crate::search::{count_through, span, span_of};
-use crate::sweep::{first_stable, keep_unstable, move_tail, prune_span, sort, sort_falling};
+use crate::search::{count_through, span};
+use crate::sweep::{first_stable, keep_unstable, move_tail, sort, sort_falling, sweep_object};
 use causal_model::TypeRule;
 use op_base::{Entry, IdList, Message, NoMemory, ObjectId, Op, Tag};
 use std::alloc::Global;
 use std::marker::Model;
+use std::mem::replace;
 
 /// A log with room for `n * w` entries, all of which `create` takes.
 #[derive(Debug, Drop)]
@@ -117,18 +120,70 @@ impl Polog {
     }
 
     /// Prunes as `prune` does, where it is known what the message's operation may reach: where `reach` is `Value`, entries with
-    /// another mark are passed over, but where the object has two at most, and behind the fourth that goes.
+    /// another mark are passed over, but where the object has two at most; where it is `Nothing`, none is looked at.
     pub fn prune_within<T: TypeRule>(&mut self, message: &Message, rule: &T, reach: Reach)
         requires fits { IsTrue (fits self.old.n message.now) }
         requires reach { Reaches reach (T.covers rule.now) message.now.op }
         ensures kept { self.new ≡ with_entries self.old (filter (stays (T.covers rule.now) message.now) self.old.entries) }
         ensures pruned { KeepsPruned (T.covers rule.now) message.now self.old self.new }
     {
+        if reach == Reach::Nothing {
+            return;
+        }
         if let Op::Update(update) = &message.op {
-            let (from, to) = span_of(self.rows.entries(), &update.object, self.last);
-            let look = look_of(reach, update.act(), to - from);
-            let kept = prune_span(&mut self.rows, from, to, message, rule, look);
-            self.last = (from, kept);
+            let mark = mark_of(update.act());
+            let swept = sweep_object(
+                &mut self.rows,
+                self.last,
+                message,
+                update,
+                rule,
+                reach,
+                mark,
+            );
+            self.rows.cut(swept.kept, swept.to);
+            self.last = (swept.from, swept.kept);
+        }
+    }
+
+    /// Prunes as `prune_within` does, takes the update out of the message, and puts it at the end. Where entries go, it stands in
+    /// the place of one of them.
+    pub fn take_in<T: TypeRule>(&mut self, message: &mut Message, rule: &T, reach: Reach)
+        requires fits { IsTrue (fits self.old.n message.old) }
+        requires reach { Reaches reach (T.covers rule.now) message.old.op }
+        requires room { length (filter (stays (T.covers rule.now) message.old) self.old.entries) < self.old.room }
+        requires numbers { self.old.pushed + 1 < 2 ^ 64 }
+        ensures put { self.new ≡ with_update message.old.origin message.old.tag message.old.op (without_covered self.old (T.covers rule.now) message.old) }
+        ensures taken { message.new ≡ record { origin = message.old.origin; tag = message.old.tag; op = op.NoOp } }
+        // where it was the log of what a member delivered, and the message is kept, the message is in it
+        ensures taken_in { KeepsTakenIn (T.covers rule.now) message.old self.old self.new }
+    {
+        let Op::Update(update) = &message.op else {
+            return;
+        };
+        let mark = mark_of(update.act());
+        let swept = sweep_object(
+            &mut self.rows,
+            self.last,
+            message,
+            update,
+            rule,
+            reach,
+            mark,
+        );
+        if let Op::Update(update) = replace(&mut message.op, Op::NoOp) {
+            let stamp = Stamp {
+                number: self.next,
+                mark,
+            };
+            let entry = Entry {
+                origin: message.origin,
+                tag: message.tag,
+                update,
+            };
+            self.rows.splice(swept.kept, swept.to, stamp, entry);
+            self.next += 1;
+            self.last = (swept.from, swept.kept + 1);
         }
     }
 
@@ -142,7 +197,12 @@ impl Polog {
         ensures logged { KeepsLogged entry self.old self.new }
     {
         let at = count_through(self.rows.entries(), &entry.update.object, self.last.1);
-        self.rows.insert(at, self.next, entry);
+        let mark = mark_of(entry.update.act());
+        let stamp = Stamp {
+            number: self.next,
+            mark,
+        };
+        self.rows.insert(at, stamp, entry);
         self.next += 1;
         self.last.1 = at + 1;
     }

@@ -1,10 +1,8 @@
 //! What an operation may cover, and which rows are looked at for it.
 
 ghost use Rattle.std.specs.Prelude.{◌≡◌};
-ghost use Rattle.polog.specs.Marks.{look_of};
-
-use crate::marks::mark_of;
-use op_base::Act;
+ghost use Rattle.op_base.specs.declared.operation.Act.{Act};
+ghost use Rattle.polog.specs.Marks.{look_of, mark_of};
 
 /// What an operation may cover of its object.
 #[derive(Clone, Copy, Debug, PartialEq, Eq)]
@@ -28,14 +26,13 @@ pub enum Look {
     AtAll,
 }
 
-/// Which of so many rows are looked at for an act that may cover so much. Two rows are looked at sooner than the act's mark
-/// is made.
-pub fn look_of(reach: Reach, act: &Act, rows: usize) -> Look
-    ensures { result ≡ look_of reach act.now rows }
+/// Which of so many rows are looked at for an act of a mark that may cover so much.
+pub fn look_of(reach: Reach, mark: u32, rows: usize) -> Look
+    ensures { (act : Act) → mark_of act ≡ mark → result ≡ look_of reach act rows }
 {
     match reach {
         Reach::Nothing => Look::AtNone,
-        Reach::Value if rows > 2 => Look::AtMark(mark_of(act)),
+        Reach::Value if rows > 2 => Look::AtMark(mark),
         Reach::Value | Reach::Object => Look::AtAll,
     }
 }

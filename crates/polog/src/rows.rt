@@ -1,6 +1,6 @@
 //! Entries beside the stamps of their arrival.
 
-ghost use Rattle.std.specs.Prelude.{◌≡◌, ◌≢◌, ◌<◌, ◌≤◌, ℕ, [], ◌∷◌, ◌++◌, length, take, drop, slice_index_or, vec_len, vec_capacity, IfOk, IfNone};
+ghost use Rattle.std.specs.Prelude.{◌≡◌, ◌≢◌, ◌<◌, ◌≤◌, ℕ, [], ◌∷◌, ◌++◌, length, take, drop, set, slice_index_or, vec_len, vec_capacity, IfOk, IfNone};
 ghost use Rattle.std.specs.List.{insert, remove, swap};
 ghost use Rattle.std.specs.Option.{option_to_list};
 ghost use Rattle.op_base.specs.declared.message.Entry.{Entry};
@@ -8,7 +8,7 @@ ghost use Rattle.polog.specs.Marks.{mark_of};
 ghost use Rattle.polog.specs.Order.{items_of};
 ghost use Rattle.polog.specs.Rows.{Table, with_rows, turned};
 
-use crate::marks::{Stamp, mark_of, next_marked};
+use crate::marks::{Stamp, next_marked};
 use op_base::{Entry, NoMemory};
 use std::alloc::Global;
 use std::marker::Model;
@@ -99,15 +99,41 @@ impl Rows {
         next_marked(&self.stamps, mark, from, to)
     }
 
-    /// Puts a row in at a place.
-    pub fn insert(&mut self, at: usize, number: u64, entry: Entry)
+    /// Puts a row in at a place. Its stamp has the mark of its entry's act.
+    pub fn insert(&mut self, at: usize, stamp: Stamp, entry: Entry)
         requires place { at ≤ length self.old.rows }
         requires room { length self.old.rows < self.old.room }
-        ensures { self.new ≡ with_rows self.old (insert self.old.rows at (number, entry)) }
+        requires mark { stamp.mark ≡ mark_of entry.update.act }
+        ensures { self.new ≡ with_rows self.old (insert self.old.rows at (stamp.number, entry)) }
     {
-        let mark = mark_of(entry.update.act());
         put(&mut self.entries, at, entry);
-        put(&mut self.stamps, at, Stamp { number, mark });
+        put(&mut self.stamps, at, stamp);
+    }
+
+    /// Puts a row in the place of another.
+    pub fn set(&mut self, at: usize, stamp: Stamp, entry: Entry)
+        requires place { at < length self.old.rows }
+        requires mark { stamp.mark ≡ mark_of entry.update.act }
+        ensures { self.new ≡ with_rows self.old (set self.old.rows at (stamp.number, entry)) }
+    {
+        self.entries[at] = entry;
+        self.stamps[at] = stamp;
+    }
+
+    /// Puts a row in the place of those from one place up to another, or in between where there are none.
+    pub fn splice(&mut self, from: usize, to: usize, stamp: Stamp, entry: Entry)
+        requires order { from ≤ to }
+        requires places { to ≤ length self.old.rows }
+        requires room { from ≡ to → length self.old.rows < self.old.room }
+        requires mark { stamp.mark ≡ mark_of entry.update.act }
+        ensures { self.new ≡ with_rows self.old (take from self.old.rows ++ (stamp.number, entry) ∷ drop to self.old.rows) }
+    {
+        if from == to {
+            self.insert(from, stamp, entry);
+        } else {
+            self.set(from, stamp, entry);
+            self.cut(from + 1, to);
+        }
     }
 
     /// Exchanges two rows. Where they are one, nothing is moved.

@@ -98,6 +98,8 @@ pub fn span_of(entries: &[Entry], object: &ObjectId, guess: (usize, usize)) -> (
     ensures before { Each (λ e. is_of object.now e ≡ false) (take result.0 entries.now) }
     ensures inside { slice_range entries.now result.0 result.1 ≡ filter (is_of object.now) entries.now }
     ensures after { Each (λ e. is_of object.now e ≡ false) (drop result.1 entries.now) }
+    ensures through { Each (λ e. is_le (object_cmp e.update.object object.now) ≡ true) (take result.1 entries.now) }
+    ensures above { Each (λ e. is_le (object_cmp e.update.object object.now) ≡ false) (drop result.1 entries.now) }
 {
     let from = count_before(entries, object, guess.0);
     let guess = guess.1.saturating_sub(from);

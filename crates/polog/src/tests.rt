@@ -5,7 +5,7 @@ ghost use Rattle.op_base.specs.Message.{fits};
 ghost use Rattle.op_base.specs.Timestamp.{entry};
 ghost use Rattle.causal_model.specs.Log.{message_of};
 
-use crate::Polog;
+use crate::{Polog, Reach};
 use causal_model::TypeRule;
 use op_base::{Act, Entry, Message, ObjectId, Op, Tag, Update, Value};
 use std::alloc::Global;
@@ -74,7 +74,10 @@ fn entry(alloc: Global, origin: u8, seq: u32, set: &[u8], value: &[u8]) -> Resul
 /// Two entries of member 0 in one set, and between them one of member 1 in another, which stands before it in the order of
 /// objects.
 fn log_of_three(alloc: Global) -> Result<Polog, Fail>
-    ensures { IfOk result (λ log. log.n ≡ 2) }
+    ensures members { IfOk result (λ log. log.n ≡ 2) }
+    ensures entries { IfOk result (λ log. length log.entries ≡ 3) }
+    ensures room { IfOk result (λ log. log.room ≡ 4) }
+    ensures pushed { IfOk result (λ log. log.pushed ≡ 3) }
 {
     let mut log = Polog::create(alloc, 2, 2)?;
     log.push(entry(alloc, 0, 1, b"awset:b", b"x")?);
@@ -138,5 +141,21 @@ fn what_is_covered_goes_and_what_is_concurrent_stays(rt: HostRuntime) -> Result<
     };
     log.prune(&message, &LastOfObject);
     assert_eq!(rt; has_ids(alloc, &log, &[(1, 1), (0, 2)])?, true);
+    Ok(())
+}
+
+#[test]
+fn what_is_taken_in_stands_in_the_place_of_what_it_covers(rt: HostRuntime) -> Result<(), Fail> {
+    let alloc = rt.alloc();
+    let mut log = log_of_three(alloc)?;
+    // member 0 has seen both entries of the set
+    let mut message = Message {
+        origin: 0,
+        tag: tag(0, 3, 0),
+        op: Op::Update(add(alloc, b"awset:b", b"v")?),
+    };
+    log.take_in(&mut message, &LastOfObject, Reach::Object);
+    assert_eq!(rt; has_ids(alloc, &log, &[(1, 1), (0, 3)])?, true);
+    assert_eq!(rt; log.of_object(&ObjectId::read(alloc, b"awset:b")?).len(), 1);
     Ok(())
 }

@@ -32,9 +32,9 @@ use Rattle.causal_model.proofs.Delivery.Lengths.{chapter_is_bounded}
 use Rattle.causal_model.proofs.Cells.MovedCells.{counter_is_not_kept}
 use Rattle.causal_model.proofs.Cells.MovedSums.{moved_sums_are_bounded}
 use Rattle.causal_model.proofs.Delivery.Settling.{last_is_next}
-use Rattle.polog.specs.Standing.{IsPruned, IsLogged, KeepsPruned}
-use Rattle.polog.specs.Value.{Log, with_entries, with_entry, stays}
-use Rattle.polog.proofs.Standing.{logged-is, has-room}
+use Rattle.polog.specs.Standing.{IsPruned, IsLogged}
+use Rattle.polog.specs.Value.{Log, with_entry, without_covered, stays}
+use Rattle.polog.proofs.Standing.{pruned-is, logged-is, has-room}
 use Rattle.stable_state.specs.Laws.{HasRange}
 use Rattle.stable_state.specs.Shelf.{Shelved}
 use Rattle.stable_state.specs.Standing.{AreSettledOf, AreAbsorbed, AreMoved}
@@ -141,13 +141,13 @@ logged_is_one_more origin tag (op.Update u) log =
     one_more_at_most (store_keeps u) (is_counter u.object.kind) u (record { origin = origin; tag = tag; update = u }) log (λ counter. counter_is_not_kept u (is_counter-true u.object.kind counter))
 
 -- of a log that was pruned and a message, no more is logged and applied than came
-pub no_more_than_came : (m : Message) (old pruned logged : Log) → pruned ≡ with_entries old (filter (stays store_covers m) old.entries) → logged ≡ with_logged m.origin m.tag m.op pruned
+pub no_more_than_came : (m : Message) (old logged : Log) → logged ≡ with_logged m.origin m.tag m.op (without_covered old store_covers m)
     → length logged.entries + room_of (applied_of m.op) ≤ length old.entries + 1
-no_more_than_came m old pruned logged was put =
+no_more_than_came m old logged put =
     let passes = stays store_covers m in
+    let pruned = without_covered old store_covers m in
     let few = length-filter_both passes (λ e. not (passes e)) (λ e. refl) old.entries in
     let more = logged_is_one_more m.origin m.tag m.op pruned in
-    let many : length pruned.entries ≡ length (filter passes old.entries) = ap (λ (l : Log). length l.entries) was in
     let all : length logged.entries ≡ length (with_logged m.origin m.tag m.op pruned).entries = ap (λ (l : Log). length l.entries) put in
     omega arith
 
@@ -196,8 +196,8 @@ module _ {w limit : ℕ} {h : History} {log : Log} {items : Shelved} {lists : Li
   fits_of = subst (λ n. IsTrue (fits n m)) (sym ready.are_of.is_log.of_store) next_fits
 
   -- the log, step by step
-  pub pruned_of : {pruned : Log} → KeepsPruned store_covers m log pruned → IsPruned store_keeps store_covers h.present.n h.present.me h.present.messages m pruned
-  pruned_of keeps = keeps store_keeps h.present.n h.present.me h.present.messages ready.are_of.is_log
+  pub pruned_of : IsPruned store_keeps store_covers h.present.n h.present.me h.present.messages m (without_covered log store_covers m)
+  pruned_of = pruned-is store_keeps store_covers h.present.n h.present.me h.present.messages m log ready.are_of.is_log
 
   pub logged_of : {pruned logged : Log} → IsPruned store_keeps store_covers h.present.n h.present.me h.present.messages m pruned → logged ≡ with_logged m.origin m.tag m.op pruned
       → IsLogged store_keeps store_covers h.present.n h.present.me h.present.messages m logged
@@ -205,9 +205,6 @@ module _ {w limit : ℕ} {h : History} {log : Log} {items : Shelved} {lists : Li
 
   -- the pruned log can take the message in
   module _ {pruned : Log} (is : IsPruned store_keeps store_covers h.present.n h.present.me h.present.messages m pruned) where
-    pub pruned_fits : IsTrue (fits pruned.n m)
-    pruned_fits = subst (λ n. IsTrue (fits n m)) (sym is.of_store) next_fits
-
     pub pruned_has_room : pruned.room ≡ log.room → IsTrue (is_kept store_keeps m.op) → length pruned.entries < pruned.room
     pruned_has_room same kept =
         has-room store_keeps store_covers h.present.n h.present.me h.present.messages w m pruned (IsHistory-from_test w (with_message h m) ready.of_history).member ready.wide chapter_of kept is (same ∙ ready.room)

@@ -12,7 +12,7 @@ ghost use Rattle.causal_model.specs.ListSteps.{pruned};
 ghost use Rattle.list_type.specs.Listed.{AreListsOf, AreListsMoved, AreWithin};
 ghost use Rattle.list_type.specs.Shown.{shown as lists_shown};
 ghost use Rattle.polog.specs.Standing.{IsLogOf, IsLogged};
-ghost use Rattle.polog.specs.Value.{with_stripped};
+ghost use Rattle.polog.specs.Value.{with_stripped, without_covered};
 ghost use Rattle.stable_state.specs.Laws.{HasRange};
 ghost use Rattle.stable_state.specs.Standing.{AreSettledOf, AreAbsorbed, AreMoved};
 ghost use Rattle.stable_state.specs.Shown.{shown};
@@ -52,10 +52,9 @@ pub fn settle(
     ensures lists_spare { (lists_shown lists.old).spare ≤ (lists_shown lists.new).spare + element_room message.old.op }
     ensures deep { (most : ℕ) → AreWithin most (lists_shown lists.old) → AreWithin (most + 1) (lists_shown lists.new) }
 {
-    log.prune_within(message, &StoreRule, reach_of(&message.op));
     cover(items, &message.op);
     let id = message.id();
-    put(log, lists, epoch, message);
+    note(log, lists, epoch, message);
     move_stable(log, items, lists, epoch, id, before, stable);
     apply(items, message);
     items.settle_marks(log.grouped());
@@ -81,14 +80,15 @@ pub(crate) fn is_insertion(op: &Op) -> bool
     }
 }
 
-/// Puts a message where its kind keeps it: into the log, until it is stable, or its element into a list. Its operation is taken
-/// out of it there. That of a counter that can't be cleared is kept in neither, and stays in the message.
-fn put(log: &mut Polog, lists: &mut Lists, epoch: u32, message: &mut Message)
+/// Takes out of the log what a message covers, and puts the message where its kind keeps it: into the log, until it is stable, or
+/// its element into a list. Its operation is taken out of it there. That of a counter that can't be cleared is kept in neither,
+/// and stays in the message.
+fn note(log: &mut Polog, lists: &mut Lists, epoch: u32, message: &mut Message)
     requires fits { IsTrue (fits log.old.n message.old) }
-    requires room { IsTrue (is_kept store_keeps message.old.op) → length log.old.entries < log.old.room }
+    requires room { IsTrue (is_kept store_keeps message.old.op) → length (without_covered log.old store_covers message.old).entries < log.old.room }
     requires numbers { log.old.pushed + 1 < 2 ^ 64 }
     requires can { CanBePut epoch (entry_put message.old.origin message.old.tag message.old.op) (lists_shown lists.old) }
-    ensures log { log.new ≡ with_logged message.old.origin message.old.tag message.old.op log.old }
+    ensures log { log.new ≡ with_logged message.old.origin message.old.tag message.old.op (without_covered log.old store_covers message.old) }
     ensures room { log.new.room ≡ log.old.room }
     ensures applied { applied_of message.new.op ≡ applied_of message.old.op }
     ensures of { (w : ℕ) (h : History) → IsTrue (is_history w (with_message h message.old)) → epoch ≡ epoch_of h
@@ -97,10 +97,14 @@ fn put(log: &mut Polog, lists: &mut Lists, epoch: u32, message: &mut Message)
     ensures spare { (lists_shown lists.old).spare ≤ (lists_shown lists.new).spare + element_room message.old.op }
     ensures deep { (most : ℕ) → AreWithin most (lists_shown lists.old) → AreWithin (most + 1) (lists_shown lists.new) }
 {
+    let reach = reach_of(&message.op);
     if is_insertion(&message.op) {
+        log.prune_within(message, &StoreRule, reach);
         insert(lists, epoch, message, log);
     } else if is_logged(&message.op) {
-        put_into_log(log, message);
+        log.take_in(message, &StoreRule, reach);
+    } else {
+        log.prune_within(message, &StoreRule, reach);
     }
 }
 
@@ -111,24 +115,6 @@ fn is_logged(op: &Op) -> bool
     match op {
         Op::NoOp => false,
         Op::Update(update) => StoreRule.keeps(update),
-    }
-}
-
-/// Puts a message into the log, and takes its operation out of it.
-fn put_into_log(log: &mut Polog, message: &mut Message)
-    requires fits { IsTrue (fits log.old.n message.old) }
-    requires kept { IsTrue (is_kept store_keeps message.old.op) }
-    requires room { length log.old.entries < log.old.room }
-    requires numbers { log.old.pushed + 1 < 2 ^ 64 }
-    ensures log { log.new ≡ with_logged message.old.origin message.old.tag message.old.op log.old }
-    ensures taken { message.new.op ≡ op.NoOp }
-{
-    if let Op::Update(update) = replace(&mut message.op, Op::NoOp) {
-        log.push(Entry {
-            origin: message.origin,
-            tag: message.tag,
-            update,
-        });
     }
 }
 

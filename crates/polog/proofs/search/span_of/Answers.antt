@@ -4,9 +4,10 @@ use Rattle.op_base.specs.Order.{object_cmp}
 use Rattle.op_base.specs.declared.message.Entry.{Entry}
 use Rattle.polog.specs.Value.{is_of}
 use Rattle.polog.specs.Order.{Each, Pairwise}
-use Rattle.polog.proofs.Orders.{pairwise-parts, each-weaker}
+use Rattle.std.proofs.Math.Seq.{take-add}
+use Rattle.polog.proofs.Orders.{pairwise-parts, each-join, each-weaker}
 use Rattle.polog.proofs.Laid.{joined}
-use Rattle.polog.proofs.Places.{other-below, other-above}
+use Rattle.polog.proofs.Places.{lower-is-le, other-below, other-above}
 use Rattle.polog.proofs.Spans.{rest-taken, spanned}
 use Rattle.polog.proofs.search.span_of.Goals as goal
 
@@ -51,3 +52,20 @@ returns-clause-after c =
     let k = c.count_through.result in
     subst (Each (λ e. is_of object e ≡ false)) (drop-drop k i es)
     (each-weaker (λ e. is_le (object_cmp e.update.object object) ≡ false) (λ e. is_of object e ≡ false) (λ e h. other-above e.update.object object h) (drop k (drop i es)) (after c))
+
+pub returns-clause-above : goal.returns-clause-above
+returns-clause-above c =
+    let es = c.args.entries.now in
+    let i = c.count_before-from.result in
+    let k = c.count_through.result in
+    subst (Each (λ e. is_le (object_cmp e.update.object c.args.object.now) ≡ false)) (drop-drop k i es) (after c)
+
+pub returns-clause-through : goal.returns-clause-through
+returns-clause-through c =
+    let P : Entry → Type 0 = λ e. is_le (object_cmp e.update.object c.args.object.now) ≡ true in
+    let es = c.args.entries.now in
+    let i = c.count_before-from.result in
+    let k = c.count_through.result in
+    let lower = each-weaker (λ e. is_lt (object_cmp e.update.object c.args.object.now) ≡ true) P (λ e h. lower-is-le (object_cmp e.update.object c.args.object.now) h) (take i es) c.count_before-from.ensures.before in
+    let own = subst (λ xs. Each P (take k xs)) (rest c) c.count_through.ensures.before in
+    subst (Each P) (sym (take-add i k es)) (each-join P (take i es) (take k (drop i es)) lower own)

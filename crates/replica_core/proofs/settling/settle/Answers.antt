@@ -10,36 +10,33 @@ use Rattle.list_type.specs.Shown.{shown as lists_shown}
 use Rattle.polog.specs.Value.{Log}
 use Rattle.stable_state.specs.Shown.{shown}
 use Rattle.replica_core.specs.Settling.{AreReady, AreLogged, room_of, applied_of, CanBeApplied}
-use Rattle.replica_core.proofs.Settles.{origin_of, fits_of, fresh_of, pruned_fits, pruned_has_room, pruned_is_numbered, are_logged, can_be_put, fresh_is_prop, can_be_applied, range_is_prop, applied_has_range, no_more_than_came, pruned_of, logged_of}
+use Rattle.replica_core.proofs.Settles.{origin_of, fits_of, fresh_of, pruned_has_room, pruned_is_numbered, are_logged, can_be_put, fresh_is_prop, can_be_applied, range_is_prop, applied_has_range, no_more_than_came, pruned_of, logged_of}
 use Rattle.replica_core.proofs.settling.settle.Goals as goal
-use Rattle.replica_core.proofs.settling.settle.Goals.{After-put}
-
-pub prune_within-requires : goal.prune_within-requires
-prune_within-requires c = record { fits = ∥∥₁_elim c.requires.ready (search props) (λ x. fits_of x.3); reach = c.reach_of.ensures.covers }
+use Rattle.replica_core.proofs.settling.settle.Goals.{After-note}
 
 pub id-id-requires : goal.id-id-requires
 id-id-requires c = ∥∥₁_elim c.requires.ready (search props) (λ x. origin_of x.3)
 
-pub put-requires-clause-fits : goal.put-requires-clause-fits
-put-requires-clause-fits c = ∥∥₁_elim c.requires.ready (search props) (λ x. pruned_fits x.3 (pruned_of x.3 c.prune_within.ensures.pruned))
+pub note-requires-clause-fits : goal.note-requires-clause-fits
+note-requires-clause-fits c = ∥∥₁_elim c.requires.ready (search props) (λ x. fits_of x.3)
 
-pub put-requires-clause-room : goal.put-requires-clause-room
-put-requires-clause-room c = λ kept.
-    ∥∥₁_elim c.requires.ready (search props) (λ x. pruned_has_room x.3 (pruned_of x.3 c.prune_within.ensures.pruned) (ap (λ (l : Log). l.room) c.prune_within.ensures.kept) kept)
+pub note-requires-clause-room : goal.note-requires-clause-room
+note-requires-clause-room c = λ kept.
+    ∥∥₁_elim c.requires.ready (search props) (λ x. pruned_has_room x.3 (pruned_of x.3) refl kept)
 
-pub put-requires-clause-numbers : goal.put-requires-clause-numbers
-put-requires-clause-numbers c = ∥∥₁_elim c.requires.ready (search props) (λ x. pruned_is_numbered x.3 (pruned_of x.3 c.prune_within.ensures.pruned))
+pub note-requires-clause-numbers : goal.note-requires-clause-numbers
+note-requires-clause-numbers c = ∥∥₁_elim c.requires.ready (search props) (λ x. pruned_is_numbered x.3 (pruned_of x.3))
 
 -- log, items and lists, once the element is in its list
-logged : (c : After-put) {w limit : ℕ} {h : History} → AreReady w limit h c.args.log.now (shown c.args.items.now) (lists_shown c.args.lists.now) c.args.epoch c.args.message.now c.args.before.now c.args.stable.now
-    → AreLogged w limit h c.args.message.now c.put.new.log (shown c.cover.new.items) (lists_shown c.put.new.lists) c.args.epoch c.id-id.result c.args.before.now c.args.stable.now
+logged : (c : After-note) {w limit : ℕ} {h : History} → AreReady w limit h c.args.log.now (shown c.args.items.now) (lists_shown c.args.lists.now) c.args.epoch c.args.message.now c.args.before.now c.args.stable.now
+    → AreLogged w limit h c.args.message.now c.note.new.log (shown c.cover.new.items) (lists_shown c.note.new.lists) c.args.epoch c.id-id.result c.args.before.now c.args.stable.now
 logged c {w} {limit} {h} ready =
     let m = c.args.message.now in
-    let is = logged_of ready (pruned_of ready c.prune_within.ensures.pruned) c.put.ensures.log in
-    are_logged ready is (c.cover.ensures.of h m refl ready.are_of.are_settled) (c.put.ensures.of w h ready.of_history ready.in_epoch is ready.are_of.are_lists) c.id-id.result c.id-id.ensures
+    let is = logged_of ready (pruned_of ready) c.note.ensures.log in
+    are_logged ready is (c.cover.ensures.of h m refl ready.are_of.are_settled) (c.note.ensures.of w h ready.of_history ready.in_epoch is ready.are_of.are_lists) c.id-id.result c.id-id.ensures
 
-pub put-requires-clause-can : goal.put-requires-clause-can
-put-requires-clause-can c =
+pub note-requires-clause-can : goal.note-requires-clause-can
+note-requires-clause-can c =
     let m = c.args.message.now in
     let lists = lists_shown c.args.lists.now in
     can_be_put c.args.epoch m.origin m.tag m.op lists (λ u. ∥∥₁_elim c.requires.ready (fresh_is_prop c.args.epoch (record { origin = m.origin; tag = m.tag; update = u }) lists) (λ x. fresh_of x.3 u)) c.requires.deep c.requires.lists_spare
@@ -50,12 +47,12 @@ move_stable-requires-clause-logged c = ∥∥₁_map c.requires.ready (λ x. (
   x.1,
   x.2,
   c.args.message.now,
-  logged (goal.at.move_stable-requires-clause-logged c).After-put x.3,
+  logged (goal.at.move_stable-requires-clause-logged c).After-note x.3,
 ))
 
 pub move_stable-requires-clause-spare : goal.move_stable-requires-clause-spare
 move_stable-requires-clause-spare c =
-    let few = no_more_than_came c.args.message.now _ _ _ c.prune_within.ensures.kept c.put.ensures.log in
+    let few = no_more_than_came c.args.message.now _ _ c.note.ensures.log in
     let room = c.requires.spare in
     let more = c.cover.ensures.spare in
     omega arith
@@ -64,46 +61,46 @@ pub apply-requires : goal.apply-requires
 apply-requires c =
     let m = c.args.message.now in
     let moved = c.move_stable.new.items.shelf in
-    let few = no_more_than_came m _ _ _ c.prune_within.ensures.kept c.put.ensures.log in
+    let few = no_more_than_came m _ _ c.note.ensures.log in
     let room = c.requires.spare in
     let more = c.cover.ensures.spare in
     let less = c.move_stable.ensures.spare in
     let spare : room_of (applied_of m.op) ≤ moved.spare = omega arith in
     let can : CanBeApplied (applied_of m.op) moved = can_be_applied m.op moved (λ u is kind. ∥∥₁_elim c.requires.ready (range_is_prop moved u) (λ x.
-    applied_has_range x.3 u moved is kind (c.move_stable.ensures.absorbed x.0 x.1 x.2 m (logged (goal.at.apply-requires c).After-put x.3)))) spare in
-    subst (λ a. CanBeApplied a moved) (sym c.put.ensures.applied) can
+    applied_has_range x.3 u moved is kind (c.move_stable.ensures.absorbed x.0 x.1 x.2 m (logged (goal.at.apply-requires c).After-note x.3)))) spare in
+    subst (λ a. CanBeApplied a moved) (sym c.note.ensures.applied) can
 
 pub returns-clause-are_of : goal.returns-clause-are_of
 returns-clause-are_of c = λ w limit h ready.
     let m = c.args.message.now in
-    let are = logged (goal.at.returns-clause-are_of c).After-put ready in
+    let are = logged (goal.at.returns-clause-are_of c).After-note ready in
     let log = c.move_stable.ensures.log w limit h m are in
     record {
       is_log = log;
       are_settled = c.settle_marks.ensures.of w h m ready.of_history
           (λ object value. c.grouped.ensures.of store_keeps store_covers h.present.n h.present.me (with_message h m).present.messages (λ x. acts_on object (puts_in value) x.op) log)
-          (c.apply.ensures.of h m c.put.ensures.applied (c.move_stable.ensures.absorbed w limit h m are));
+          (c.apply.ensures.of h m c.note.ensures.applied (c.move_stable.ensures.absorbed w limit h m are));
       are_lists = λ object is_list. c.move_stable.ensures.moved w limit h m are object is_list ∙ kept_of_one_more w h m ready.of_history object is_list;
     }
 
 pub returns-clause-room : goal.returns-clause-room
-returns-clause-room c = c.move_stable.ensures.room ∙ c.put.ensures.room ∙ ap (λ (l : Log). l.room) c.prune_within.ensures.kept
+returns-clause-room c = c.move_stable.ensures.room ∙ c.note.ensures.room
 
 pub returns-clause-spare : goal.returns-clause-spare
 returns-clause-spare c =
-    let few = no_more_than_came c.args.message.now _ _ _ c.prune_within.ensures.kept c.put.ensures.log in
+    let few = no_more_than_came c.args.message.now _ _ c.note.ensures.log in
     let more = c.cover.ensures.spare in
     let less = c.move_stable.ensures.spare in
-    let same : room_of (applied_of c.put.new.message.op) ≡ room_of (applied_of c.args.message.now.op) = ap room_of c.put.ensures.applied in
+    let same : room_of (applied_of c.note.new.message.op) ≡ room_of (applied_of c.args.message.now.op) = ap room_of c.note.ensures.applied in
     let one = c.apply.ensures.spare in
     let last = c.settle_marks.ensures.spare in
     omega arith
 
 pub returns-clause-lists_spare : goal.returns-clause-lists_spare
 returns-clause-lists_spare c =
-    let put = c.put.ensures.spare in
+    let put = c.note.ensures.spare in
     let moved = c.move_stable.ensures.lists_spare in
     omega arith
 
 pub returns-clause-deep : goal.returns-clause-deep
-returns-clause-deep c = λ most within. c.move_stable.ensures.deep (most + 1) (c.put.ensures.deep most within)
+returns-clause-deep c = λ most within. c.move_stable.ensures.deep (most + 1) (c.note.ensures.deep most within)

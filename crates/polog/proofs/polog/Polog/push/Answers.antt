@@ -6,6 +6,7 @@ use Rattle.op_base.specs.declared.message.Entry.{Entry}
 use Rattle.causal_model.specs.Log.{message_of}
 use Rattle.std.specs.List.{insert}
 use Rattle.std.proofs.lemmas.List.Edits.{length-insert}
+use Rattle.polog.specs.Marks.{mark_of}
 use Rattle.polog.specs.Order.{Each, Pairwise, items_of}
 use Rattle.polog.specs.Rows.{Table, IsLaid, arrived}
 use Rattle.polog.specs.Value.{Log, with_entry}
@@ -23,6 +24,9 @@ pub insert-requires-clause-place : goal.insert-requires-clause-place
 insert-requires-clause-place c =
     let many = ap length c.entries.ensures ∙ length-items c.self.inside.rows.rows in
     omega (arith, c.count_through-at.ensures.bound, many)
+
+pub insert-requires-clause-mark : goal.insert-requires-clause-mark
+insert-requires-clause-mark c = c.mark_of-mark.ensures ∙ ap mark_of c.act.ensures
 
 pub insert-requires-clause-room : goal.insert-requires-clause-room
 insert-requires-clause-room c =

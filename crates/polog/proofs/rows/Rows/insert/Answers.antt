@@ -3,15 +3,9 @@ use Rattle.op_base.specs.declared.message.Entry.{Entry}
 use Rattle.polog.specs.Order.{rows}
 use Rattle.polog.specs.Rows.{Table, with_rows}
 use Rattle.std.specs.List.{insert}
-use Rattle.polog.specs.Marks.{mark_of}
-use Rattle.polog.specs.declared.marks.Stamp.{Stamp}
 use Rattle.polog.proofs.Stamps.{as_long, marked-insert}
 use Rattle.polog.proofs.Tables.{as_many, fewer, rows-insert}
 use Rattle.polog.proofs.rows.Rows.insert.Goals as goal
-
--- what stands beside the entry
-abbrev stamp : (c : goal.After-put-2) → Stamp
-stamp c = record { number = c.args.number; mark = c.mark_of-mark.result }
 
 pub put-requires-clause-place : goal.put-requires-clause-place
 put-requires-clause-place c =
@@ -40,7 +34,7 @@ put-requires-2-clause-room c =
 pub invariant_of-self : goal.invariant_of-self
 invariant_of-self c =
     let inside = c.self.inside in
-    let marked = marked-insert inside.stamps.items c.put-2.new.items.items inside.entries.items c.put.new.items.items c.self.invariant.3 c.args.at (stamp c) c.args.entry (c.mark_of-mark.ensures ∙ ap mark_of c.act.ensures) c.put-2.ensures.items c.put.ensures.items in (
+    let marked = marked-insert inside.stamps.items c.put-2.new.items.items inside.entries.items c.put.new.items.items c.self.invariant.3 c.args.at c.args.stamp c.args.entry c.requires.mark c.put-2.ensures.items c.put.ensures.items in (
       as_long c.put-2.new.items.items c.put.new.items.items marked,
       omega (arith, c.self.invariant.1, c.put.ensures.capacity),
       omega (arith, c.self.invariant.2, c.put-2.ensures.capacity),
@@ -51,5 +45,5 @@ pub returns : goal.returns
 returns c =
     let inside = c.self.inside in
     let made : List (ℕ × Entry) → Table = λ rs. record { room = inside.room; rows = rs } in
-    ap made ((λ t. rows (c.put-2.ensures.items t) (c.put.ensures.items t)) ∙ rows-insert c.args.at inside.stamps.items inside.entries.items (stamp c) c.args.entry c.self.invariant.0)
-    ∙ ap (λ t. with_rows t (insert t.rows c.args.at (c.args.number, c.args.entry))) c.self.view_is
+    ap made ((λ t. rows (c.put-2.ensures.items t) (c.put.ensures.items t)) ∙ rows-insert c.args.at inside.stamps.items inside.entries.items c.args.stamp c.args.entry c.self.invariant.0)
+    ∙ ap (λ t. with_rows t (insert t.rows c.args.at (c.args.stamp.number, c.args.entry))) c.self.view_is
