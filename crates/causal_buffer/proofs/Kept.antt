@@ -21,7 +21,9 @@ use Rattle.causal_model.proofs.Theory.Finds.{found, none_found, none_passes}
 use Rattle.causal_buffer.specs.Buffer.{AreAhead, AreNear, IsNextId}
 use Rattle.causal_buffer.specs.declared.queue.Queue.{Queue}
 use Rattle.causal_buffer.specs.declared.queue.Wait.{Wait}
+use Rattle.causal_buffer.specs.declared.watch.Watch.{Watch}
 use Rattle.causal_buffer.specs.Row.{Row}
+use Rattle.causal_buffer.specs.Watch.{IsWatch}
 use Rattle.causal_buffer.specs.Queue.{messages, standing, ArePlaces, WaitsFor, AreWaiting, IsQueue, AreWithin, IsKept, AreKept, AreQueues, is_ready, can_be_taken, AreUnready, IsLowest}
 use Rattle.causal_buffer.proofs.Places.{has, all_at, standing_few, find_of_id, length-taken, without_at, places_set}
 use Rattle.causal_buffer.proofs.Parts.{All-flat, All-part, any_is_found, IsPartFor, FailElsewhere, find_flat, without_flat, put_flat, first_flat, first_put, none_flat, length-flat, find-put_early}
@@ -29,6 +31,10 @@ use Rattle.causal_buffer.proofs.Parts.{All-flat, All-part, any_is_found, IsPartF
 pub some_copied : {X : Type 0} (r : Option (Bor X)) → is_some r ≡ is_some (option_copied r)
 some_copied None = refl
 some_copied (Some x) = refl
+
+pub none_is_not_some : {X : Type 0} (o : Option X) → is_none o ≡ not (is_some o)
+none_is_not_some None = refl
+none_is_not_some (Some x) = refl
 
 pub some_mapped : {X Y : Type 0} (f : X → Y) (o : Option X) (y : Y) → Some y ≡ option_map f o → is_some o ≡ true
 some_mapped f None y e = cc
@@ -38,7 +44,7 @@ pub length-option : {X : Type 0} (o : Option X) → from_bool (is_some o) ≡ le
 length-option None = refl
 length-option (Some x) = refl
 
-none_from : {X : Type 0} (o : Option X) → is_some o ≡ false → o ≡ None
+pub none_from : {X : Type 0} (o : Option X) → is_some o ≡ false → o ≡ None
 none_from None e = refl
 none_from (Some x) e = cc
 
@@ -109,6 +115,12 @@ is_lowest end n member counted early id below next ready unready =
       by (Some m) e is =
           let same : id ≡ id_of m = cc in
           ap (λ (i : MessageId). i.origin) same ∙ eqb-true m.origin member (and_parts (m.origin == member) (is_deliverable n counted m) (found (is_ready n counted member) early m e).1).0
+
+-- what is found of a member is of the lowest one, where none of a lower one is ready
+pub found_is_lowest : (end n member : ℕ) (counted : List ℕ) (early : List Message) (o : Option MessageId) → member < end → IfSome o (IsNextId n counted) → o ≡ option_map id_of (find (is_ready n counted member) early)
+    → AreUnready member n counted early → IfSome o (IsLowest end n counted early)
+found_is_lowest end n member counted early None below next ready unready = tt
+found_is_lowest end n member counted early (Some id) below next ready unready = is_lowest end n member counted early id below next ready unready
 
 -- ---- a message that isn't early is next once it is put among the early ones, where none of a lower member can be delivered
 
@@ -349,11 +361,24 @@ pub most_is_small : (n w : ℕ) → 1 ≤ n → n ≤ 16 → w ≤ 64 → w + no
 most_is_small n w some few narrow = grind arith
 
 -- and of all members
-pub few_held : (n w held : ℕ) (qs : List Queue) → AreQueues n w held qs → held ≤ 31760
-few_held n w held qs are =
+pub few_held : (n w held : ℕ) (qs : List Queue) (watch : Watch) → AreQueues n w held qs watch → held ≤ 31760
+few_held n w held qs watch are =
     let each : (x : ℕ) (d : Queue) → x < length qs → length (messages (get_or qs x d)) ≤ 1985 = λ x d l.
     omega (arith, few_kept n w x (get_or qs x d) (are.kept x d l), (are.kept x d l).is_queue.counted, most_is_small n w are.some are.few are.narrow) in
     omega (arith, length-flat messages 1985 qs each, are.counted, are.count, are.few)
+
+-- queues that have the same messages are those of the store, too
+pub same_are_queues : (n w held : ℕ) (qs : List Queue) (watch : Watch) (members : ℕ) (new : List Queue) (told : Watch) → AreQueues n w held qs watch → n ≡ members → length new ≡ length qs → ((v : ℕ) → AreKept members v qs → AreKept members v new)
+    → flat_map messages new ≡ flat_map messages qs → IsWatch members told (flat_map messages new) → AreQueues n w held new told
+same_are_queues n w held qs watch members new told is count long kept same watched = record {
+  some = is.some;
+  few = is.few;
+  narrow = is.narrow;
+  count = long ∙ is.count;
+  kept = subst (λ k. AreKept k w new) (sym count) (kept w (subst (λ k. AreKept k w qs) count is.kept));
+  counted = is.counted ∙ sym (ap length same);
+  watched = subst (λ k. IsWatch k told (flat_map messages new)) (sym count) watched;
+}
 
 -- ---- what is held of the counts once the next message of an origin is taken out and delivered
 

@@ -4,3 +4,5 @@ pub mod Deliverable
 pub mod Kept
 pub mod Waits
 pub mod Standing
+mod Watched
+mod Following

@@ -13,6 +13,8 @@ use Rattle.causal_model.specs.Stability.{noop_window}
 use Rattle.causal_buffer.specs.Buffer.{IsNextId}
 use Rattle.causal_buffer.specs.declared.queue.Queue.{Queue}
 use Rattle.causal_buffer.specs.declared.queue.Wait.{Wait}
+use Rattle.causal_buffer.specs.declared.watch.Watch.{Watch}
+use Rattle.causal_buffer.specs.Watch.{IsWatch}
 
 -- the messages that stand at places, in their order
 abbrev pub standing : List (Option Message) → List Message
@@ -50,6 +52,10 @@ WaitsFor member wait m = number m ≡ wait.seq → (wait.member ≢ member) × (
 abbrev pub AreWaiting : ℕ → Wait → List Message → Type 0
 AreWaiting member wait early = All (WaitsFor member wait) early
 
+-- it is told of the messages of a number what they wait for, and more than was delivered
+abbrev pub AreTold : ℕ → List ℕ → Wait → List Message → Type 0
+AreTold seq counted wait early = All (λ m. number m ≡ seq → (wait.seq ≡ seq) × (entry counted wait.member < wait.count)) early
+
 -- ---- queues
 
 -- a queue is a member's, there is room for its places, its messages are counted, their numbers fit a number's type, and what one
@@ -77,14 +83,15 @@ pub record IsKept (n w member : ℕ) (queue : Queue) : Type 0 where
 abbrev pub AreKept : ℕ → ℕ → List Queue → Type 0
 AreKept n w queues = (member : ℕ) (d : Queue) → member < length queues → IsKept n w member (slice_index_or queues member d)
 
--- the queues of a store, which have so many messages
-pub record AreQueues (n w held : ℕ) (queues : List Queue) : Type 0 where
+-- the queues of a store, which have so many messages, of which this is known
+pub record AreQueues (n w held : ℕ) (queues : List Queue) (watch : Watch) : Type 0 where
   pub some : 1 ≤ n
   pub few : n ≤ MOST_MEMBERS
   pub narrow : w ≤ MOST_WINDOW
   pub count : length queues ≡ n
   pub kept : AreKept n w queues
   pub counted : held ≡ length (flat_map messages queues)
+  pub watched : IsWatch n watch (flat_map messages queues)
 
 -- a message is a member's, and can be delivered where so many of each of n members were
 abbrev pub is_ready : ℕ → List ℕ → ℕ → Message → Bool

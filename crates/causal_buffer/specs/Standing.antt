@@ -1,5 +1,5 @@
 -- When a buffer is that of a state that a replica can be in, what its calls make of it then, and what is asked of them.
-use Rattle.std.specs.Prelude.{◌≡◌, ℕ, ◌<◌, IsTrue, List, length, Option, Some, None, if◌then◌else◌}
+use Rattle.std.specs.Prelude.{◌≡◌, ℕ, ◌<◌, ◌≤◌, IsTrue, List, length, Option, Some, None, if◌then◌else◌}
 use Rattle.std.specs.Option.{option_map}
 use Rattle.op_base.specs.Message.{id_of}
 use Rattle.op_base.specs.Valid.{is_valid}
@@ -8,7 +8,7 @@ use Rattle.op_base.specs.declared.operation.Op.{Op}
 use Rattle.op_base.specs.declared.tag.MessageId.{MessageId}
 use Rattle.causal_model.specs.Counts.{count_of, is_carried}
 use Rattle.causal_model.specs.Sending.{own_message, HasRoom}
-use Rattle.causal_model.specs.Receiving.{is_far, with_early, state_with, next_of}
+use Rattle.causal_model.specs.Receiving.{is_far, with_early, state_with, next_of, steps}
 use Rattle.causal_model.specs.State.{State, counted, with_own}
 use Rattle.causal_model.specs.Early.{is_again}
 use Rattle.causal_model.specs.States.{IsState}
@@ -65,6 +65,11 @@ KeepsEarly m old new = (w : ℕ) (s : State) → IsBufferOf w s old → IsBuffer
 abbrev pub KeepKeepsState : ℕ → List ℕ → Message → Buffer → Type 0
 KeepKeepsState me counts m old = (w limit : ℕ) (s : State) → IsState w limit s → IsBufferOf w s old → IsMemberOf me counts s
     → IsTrue (is_carried limit m) → IsState w limit (with_early s m)
+
+-- of a state with these early messages at most so many steps are made once a message is one of them
+abbrev pub HasStepsWithin : List ℕ → Message → List Message → ℕ → Type 0
+HasStepsWithin counts m early most = (w : ℕ) (s : State) → s.history.present.n ≡ length counts → counts ≡ counted s.history → s.early ≡ early
+    → length (steps w (with_early s m)).0 ≤ most
 
 -- ---- what is next, and its removal
 

@@ -1,6 +1,6 @@
 //! The buffer of early messages.
 
-ghost use Rattle.std.specs.Prelude.{◌≡◌, ◌↔◌, ℕ, ◌+◌, ◌<◌, ◌≤◌, true, false, List, [], length, slice_index_or, slice_set, IsTrue, IfOk, Some, None, if◌then◌else◌};
+ghost use Rattle.std.specs.Prelude.{◌≡◌, ◌↔◌, ℕ, ◌+◌, ◌^◌, ◌<◌, ◌≤◌, true, false, List, [], length, slice_index_or, slice_set, IsTrue, IfOk, Some, None, if◌then◌else◌};
 ghost use Rattle.std.specs.List.{find, list_any, flat_map};
 ghost use Rattle.std.specs.Option.{is_some, option_map, IfSome, IfNone};
 ghost use Rattle.op_base.specs.Timestamp.{entry};
@@ -11,10 +11,13 @@ ghost use Rattle.causal_model.specs.Receiving.{is_old, is_far, next_early};
 ghost use Rattle.causal_model.specs.State.{start};
 ghost use Rattle.causal_model.specs.Early.{has_id, is_again, put_early, without};
 ghost use Rattle.causal_buffer.specs.Buffer.{with_messages, offer_of, after_offer, AreAhead, AreNear, IsNextId, KeepsAhead, KeepsNear};
-ghost use Rattle.causal_buffer.specs.Queue.{is_ready, AreUnready, IsLowest, IsEmptied};
+ghost use Rattle.causal_buffer.specs.Queue.{is_ready, messages, AreKept, AreUnready, IsLowest, IsEmptied};
 ghost use Rattle.causal_buffer.specs.declared.queue.Queue.{Queue};
+ghost use Rattle.causal_buffer.specs.Watch.{IsClosed, IsWatch};
+ghost use Rattle.causal_buffer.specs.Standing.{HasStepsWithin};
 
 use crate::queue::{Queue, number};
+use crate::watch::Watch;
 use causal_model::{MOST_WINDOW, most_unstable};
 use op_base::{Message, MessageId, NoMemory, Tag};
 use std::alloc::Global;
@@ -45,6 +48,7 @@ pub struct CausalBuffer {
     /// How many messages the queues have.
     held: usize,
     queues: Vec<Queue>,
+    watch: Watch,
 }
 
 impl Model for CausalBuffer {
@@ -56,7 +60,7 @@ impl Model for CausalBuffer {
 
     ghost view = { λ b. record { n = b.n; w = b.w; early = flat_map messages b.queues.items } };
 
-    ghost invariant = { λ b. AreQueues b.n b.w b.held b.queues.items };
+    ghost invariant = { λ b. AreQueues b.n b.w b.held b.queues.items b.watch };
 }
 
 /// Whether a message can be delivered where so many of each member were: it is its origin's next, and its number there is
@@ -67,6 +71,74 @@ pub fn is_deliverable(message: &Message, counts: &Tag) -> bool
 {
     let origin = message.origin;
     message.tag.at(origin) - 1 == counts.at(origin) && message.tag.count_above(counts) == 1
+}
+
+/// The id of the message that is taken next of those of members below one, where so many of each member were delivered as it is
+/// known for. `None` exactly where none of them can be delivered.
+fn first_ready(
+    queues: &mut Vec<Queue>,
+    watch: &mut Watch,
+    end: u8,
+    counts: &Tag,
+) -> Option<MessageId>
+    requires members { length queues.old.items ≡ length counts.now }
+    requires end { end ≤ length counts.now }
+    requires kept { (w : ℕ) × AreKept (length counts.now) w queues.old.items }
+    requires watch { IsWatch (length counts.now) watch.old (flat_map messages queues.old.items) }
+    requires counts { watch.old.counts ≡ counts.now }
+    ensures found { IfSome result (IsLowest end (length counts.now) counts.now (flat_map messages queues.old.items)) }
+    ensures none { IfNone result (AreUnready end (length counts.now) counts.now (flat_map messages queues.old.items)) }
+    ensures members { length queues.new.items ≡ length queues.old.items }
+    ensures kept { (w : ℕ) → AreKept (length counts.now) w queues.old.items → AreKept (length counts.now) w queues.new.items }
+    ensures same { flat_map messages queues.new.items ≡ flat_map messages queues.old.items }
+    ensures watch { IsWatch (length counts.now) watch.new (flat_map messages queues.new.items) }
+    ensures counts { watch.new.counts ≡ counts.now }
+    ensures waiting { IfNone result ((x : ℕ) → x < end → IsClosed watch.new x) }
+{
+    for member in watch.from..end.min(watch.end) {
+        let ready = queues[member as usize].next_ready(member, counts, &mut watch.awaited);
+        if ready.is_some() {
+            return ready;
+        }
+        watch.from = member + 1;
+    }
+    None
+}
+
+/// For how many steps there has to be room where a message becomes early.
+fn most_steps(
+    queues: &mut Vec<Queue>,
+    watch: &mut Watch,
+    held: usize,
+    message: &Message,
+    counts: &Tag,
+) -> usize
+    requires fits { IsTrue (fits (length counts.now) message.now) }
+    requires held { held ≡ length (flat_map messages queues.old.items) }
+    requires few { held < 2 ^ 32 }
+    requires members { length queues.old.items ≡ length counts.now }
+    requires apart { is_again (flat_map messages queues.old.items) message.now ≡ false }
+    requires kept { (w : ℕ) × AreKept (length counts.now) w queues.old.items }
+    requires watch { IsWatch (length counts.now) watch.old (flat_map messages queues.old.items) }
+    requires counts { watch.old.counts ≡ counts.now }
+    ensures most { HasStepsWithin counts.now message.now (flat_map messages queues.old.items) result }
+    ensures members { length queues.new.items ≡ length queues.old.items }
+    ensures kept { (w : ℕ) → AreKept (length counts.now) w queues.old.items → AreKept (length counts.now) w queues.new.items }
+    ensures same { flat_map messages queues.new.items ≡ flat_map messages queues.old.items }
+    ensures watch { IsWatch (length counts.now) watch.new (flat_map messages queues.new.items) }
+{
+    let all = held + 1;
+    if first_ready(queues, watch, counts.members(), counts).is_some() {
+        return all;
+    }
+    if !is_deliverable(message, counts) {
+        return 0;
+    }
+    let id = message.id();
+    if watch.wakes(id) || queues[id.origin as usize].has_after(id) {
+        return all;
+    }
+    1
 }
 
 impl CausalBuffer {
@@ -91,6 +163,7 @@ impl CausalBuffer {
             w,
             held: 0,
             queues,
+            watch: Watch::create(n),
         })
     }
 
@@ -147,6 +220,7 @@ impl CausalBuffer {
         ensures is_state { KeepKeepsState me counts.now message self.old }
     {
         let member = message.origin;
+        self.watch.keep(member, number(&message));
         self.queues[member as usize].put(message, counts.at(member));
         self.held += 1;
     }
@@ -196,7 +270,14 @@ impl CausalBuffer {
         ensures next { IsTrue result ↔ (next_early self.old.n counts.now (put_early message.now self.old.early) ≡ Some message.now) }
         ensures unchanged { self.new ≡ self.old }
     {
-        self.held == 0 || self.ready_below(message.origin, counts).is_none()
+        if self.held == 0 {
+            return true;
+        }
+        if self.ready_below(message.origin, counts).is_some() {
+            return false;
+        }
+        self.count(message.id());
+        true
     }
 
     /// Takes the message that is taken next out, into a place: of those that can be delivered, that of the lowest member. `false`
@@ -221,6 +302,7 @@ impl CausalBuffer {
         match self.ready_below(self.n, counts) {
             Some(id) => {
                 self.move_out(id, into);
+                self.count(id);
                 true
             }
             None => false,
@@ -247,24 +329,17 @@ impl CausalBuffer {
         ensures none { IfNone result (AreUnready end self.old.n counts.now self.old.early) }
         ensures unchanged { self.new ≡ self.old }
     {
-        for member in 0..end {
-            if let Some(id) = self.told_ready(member, counts) {
-                return Some(id);
-            }
-        }
-        None
+        self.watch.go_on(counts);
+        first_ready(&mut self.queues, &mut self.watch, end, counts)
     }
 
-    /// The id of a member's next message, where that is early and can be delivered.
-    #[inline(always)]
-    fn told_ready(&mut self, member: u8, counts: &Tag) -> Option<MessageId>
-        requires member { member < self.old.n }
-        requires counts { length counts.now ≡ self.old.n }
-        ensures ready { result ≡ option_map id_of (find (is_ready self.old.n counts.now member) self.old.early) }
-        ensures is_next { IfSome result (IsNextId self.old.n counts.now) }
+    /// Goes on where the message of an id, which isn't early, is counted.
+    fn count(&mut self, id: MessageId)
+        requires { id.origin < self.old.n }
         ensures unchanged { self.new ≡ self.old }
     {
-        self.queues[member as usize].next_ready(member, counts)
+        let follows = self.queues[id.origin as usize].has_after(id);
+        self.watch.count(id, follows);
     }
 
     /// The id of a member's next message, where that is early and can be delivered.
@@ -282,6 +357,28 @@ impl CausalBuffer {
         };
         let message = queue.get(id)?;
         is_deliverable(message, counts).then_some(id)
+    }
+
+    /// For how many steps there has to be room where a message that isn't early becomes so, and then what can be delivered is
+    /// taken: for no more than one where it is known that no other follows.
+    pub fn most_steps(&mut self, message: &Message, counts: &Tag) -> usize
+        requires fits { IsTrue (fits self.old.n message.now) }
+        requires counts { length counts.now ≡ self.old.n }
+        requires apart { is_again self.old.early message.now ≡ false }
+        ensures most { HasStepsWithin counts.now message.now self.old.early result }
+        ensures unchanged { self.new ≡ self.old }
+    {
+        if self.held == 0 {
+            return 1;
+        }
+        self.watch.go_on(counts);
+        most_steps(
+            &mut self.queues,
+            &mut self.watch,
+            self.held,
+            message,
+            counts,
+        )
     }
 
     /// Takes out the message of an id. `None` exactly where none has it, and then nothing changes.

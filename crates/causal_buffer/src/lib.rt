@@ -10,6 +10,7 @@ mod queue;
 mod row;
 #[cfg(test)]
 mod tests;
+mod watch;
 
 pub use buffer::{CausalBuffer, Offer, is_deliverable};
 pub use laws::{own_messages_leave_a_buffer, states_meet_what_is_asked};

@@ -1,13 +1,14 @@
 //! The early messages of one member: a row with a place for each number, so that a message is found by its number alone.
 
-ghost use Rattle.std.specs.Prelude.{◌≡◌, ℕ, ◌+◌, ◌-◌, ◌<◌, ◌≤◌, true, ◌||◌, ◌&&◌, ◌==◌, nat_lt, [], ◌∷◌, length, All, IsTrue, IfOk, if◌then◌else◌};
+ghost use Rattle.std.specs.Prelude.{◌≡◌, ℕ, ◌+◌, ◌-◌, ◌<◌, ◌≤◌, true, false, ◌||◌, ◌&&◌, ◌==◌, nat_lt, [], ◌∷◌, length, All, IsTrue, IfOk, if◌then◌else◌};
 ghost use Rattle.std.specs.List.{find};
 ghost use Rattle.std.specs.Option.{is_some, option_copied, option_map, option_to_list, IfSome, IfNone};
 ghost use Rattle.op_base.specs.Timestamp.{entry};
 ghost use Rattle.op_base.specs.Message.{number, id_of, fits};
 ghost use Rattle.causal_model.specs.Early.{has_id, without, put_early};
 ghost use Rattle.causal_buffer.specs.Buffer.{IsNextId};
-ghost use Rattle.causal_buffer.specs.Queue.{IsQueue, IsEmptied, AreWithin, IsFirstMissing, AreSeen, can_be_taken, is_ready, messages};
+ghost use Rattle.causal_buffer.specs.Queue.{IsQueue, IsEmptied, AreWithin, IsFirstMissing, AreSeen, AreTold, can_be_taken, is_ready, messages};
+ghost use Rattle.causal_buffer.specs.Watch.{HasNoneAfter, NextWaits};
 ghost use Rattle.causal_buffer.specs.declared.queue.TheConstants.{NO_WAIT};
 
 use crate::buffer::is_deliverable;
@@ -49,6 +50,18 @@ fn forget(wait: &mut Wait, seq: u32)
     }
 }
 
+/// Takes over what the message of a number waits for, where that is known: of the member no more are awaited then.
+fn lower(wait: &Wait, seq: u32, awaited: &mut Tag)
+    requires { wait.now.member < length awaited.old }
+    ensures members { length awaited.new ≡ length awaited.old }
+    ensures lower { (x : ℕ) → entry awaited.new x ≤ entry awaited.old x }
+    ensures known { wait.now.seq ≡ seq → entry awaited.new wait.now.member ≤ wait.now.count }
+{
+    if wait.seq == seq && wait.count < awaited.at(wait.member) {
+        awaited.set(wait.member, wait.count);
+    }
+}
+
 /// The early messages of one member: a place for each number from `first` on, empty where none of that number is early.
 ///
 /// A number's place is found by one subtraction. While the member's count only rises, a place is made once for each number,
@@ -68,8 +81,11 @@ pub struct Queue {
 /// it tells nothing.
 #[derive(Debug, Clone, Copy)]
 pub struct Wait {
+    /// The number of the message that waits.
     pub seq: u32,
+    /// The member for one of whose messages it waits.
     pub member: u8,
+    /// How many of them it has seen.
     pub count: u32,
 }
 
@@ -183,39 +199,69 @@ impl Queue {
         self.filled -= 1;
     }
 
-    /// The id of the member's next message, where that is early and can be delivered. What it waits for is kept, so that it
-    /// isn't looked at again before.
+    /// Whether the message after that of an id of the queue's member is there.
+    pub fn has_after(&self, id: MessageId) -> bool
+        requires { IsQueue id.origin self.now }
+        ensures { result ≡ false → HasNoneAfter id (messages self.now) }
+    {
+        let Some(seq) = id.seq.checked_add(1) else {
+            return false;
+        };
+        let after = MessageId {
+            origin: id.origin,
+            seq,
+        };
+        self.get(after).is_some()
+    }
+
+    /// The id of the member's next message, where it is there and can be delivered. Where it can't, what it waits for is kept,
+    /// and awaited.
     #[inline(always)]
-    pub fn next_ready(&mut self, member: u8, counts: &Tag) -> Option<MessageId>
+    pub fn next_ready(
+        &mut self,
+        member: u8,
+        counts: &Tag,
+        awaited: &mut Tag,
+    ) -> Option<MessageId>
         requires member { member < length counts.now }
         requires queue { IsQueue member self.old }
         requires fit { All (λ m. IsTrue (fits (length counts.now) m)) (messages self.old) }
         requires wait { self.old.wait.member < length counts.now }
+        requires awaited { length awaited.old ≡ length counts.now }
         ensures ready { result ≡ option_map id_of (find (is_ready (length counts.now) counts.now member) (messages self.old)) }
         ensures is_next { IfSome result (IsNextId (length counts.now) counts.now) }
         ensures same { self.new ≡ record self.old { wait = self.new.wait } }
         ensures kept { IsQueue member self.new }
         ensures wait { self.new.wait.member < length counts.now }
+        ensures waits { IfNone result (NextWaits counts.now awaited.new member (messages self.new)) }
+        ensures awaited { length awaited.new ≡ length awaited.old }
+        ensures lower { (x : ℕ) → entry awaited.new x ≤ entry awaited.old x }
     {
         let seq = counts.at(member).checked_add(1)?;
         let id = MessageId {
             origin: member,
             seq,
         };
-        self.is_ready(id, counts).then_some(id)
+        if self.is_ready(id, counts) {
+            return Some(id);
+        }
+        lower(&self.wait, seq, awaited);
+        None
     }
 
-    /// Whether the message of an id of the queue's member is there and can be delivered. It looks at the message only where
-    /// it isn't known to wait.
+    /// Whether the message of an id of the queue's member, which is its next, is there and can be delivered. It looks at the
+    /// message only where it isn't known to wait.
     #[inline(always)]
     fn is_ready(&mut self, id: MessageId, counts: &Tag) -> bool
         requires queue { IsQueue id.origin self.old }
         requires fit { All (λ m. IsTrue (fits (length counts.now) m)) (messages self.old) }
         requires wait { self.old.wait.member < length counts.now }
+        requires next { id.seq ≡ entry counts.now id.origin + 1 }
         ensures ready { result ≡ can_be_taken (length counts.now) counts.now (find (has_id id) (messages self.old)) }
         ensures same { self.new ≡ record self.old { wait = self.new.wait } }
         ensures kept { IsQueue id.origin self.new }
         ensures wait { self.new.wait.member < length counts.now }
+        ensures told { result ≡ false → AreTold id.seq counts.now self.new.wait (messages self.new) }
     {
         !self.waits(id.seq, counts) && self.look(id, counts)
     }
@@ -235,10 +281,12 @@ impl Queue {
         requires queue { IsQueue id.origin self.old }
         requires fit { All (λ m. IsTrue (fits (length counts.now) m)) (messages self.old) }
         requires wait { self.old.wait.member < length counts.now }
+        requires next { id.seq ≡ entry counts.now id.origin + 1 }
         ensures ready { result ≡ can_be_taken (length counts.now) counts.now (find (has_id id) (messages self.old)) }
         ensures same { self.new ≡ record self.old { wait = self.new.wait } }
         ensures kept { IsQueue id.origin self.new }
         ensures wait { self.new.wait.member < length counts.now }
+        ensures told { result ≡ false → AreTold id.seq counts.now self.new.wait (messages self.new) }
     {
         let Some(message) = self.get(id) else {
             return false;

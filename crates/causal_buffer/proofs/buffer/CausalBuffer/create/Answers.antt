@@ -29,4 +29,5 @@ invariant_of-result c = record {
   count = omega (arith, c.loop.invariant.count);
   kept = c.loop.invariant.kept;
   counted = sym (ap length c.loop.invariant.none);
+  watched = c.create-2.ensures (flat_map messages c.loop.queues.items);
 }

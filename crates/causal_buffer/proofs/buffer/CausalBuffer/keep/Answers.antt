@@ -1,4 +1,4 @@
-use Rattle.std.proofs.Common.{◌≡◌, set, ◌+◌, ◌<◌, ◌≤◌, IsTrue, length, sym, ap, subst, ◌∙◌, arith}
+use Rattle.std.proofs.Common.{◌≡◌, set, ◌+◌, ◌<◌, ◌≤◌, IsTrue, length, refl, sym, ap, subst, ◌∙◌, arith}
 use Rattle.std.proofs.lemmas.List.{length-set}
 use Rattle.op_base.specs.Timestamp.{entry}
 use Rattle.op_base.specs.Message.{number, fits}
@@ -11,6 +11,7 @@ use Rattle.std.specs.List.{flat_map}
 use Rattle.causal_buffer.proofs.Places.{length-put_early}
 use Rattle.causal_buffer.specs.Queue.{messages}
 use Rattle.causal_buffer.proofs.Kept.{kept_at, kept_set, kept_put, fresh_here, near_here, put_in_queue, few_held}
+use Rattle.causal_buffer.specs.Watch.{IsWatch}
 use Rattle.causal_buffer.proofs.Standing.{keeps_early, keep_keeps_state}
 use Rattle.causal_buffer.proofs.buffer.CausalBuffer.keep.Goals as goal
 use Rattle.causal_buffer.proofs.buffer.CausalBuffer.keep.Goals.{Start, After-index_mut, After-put}
@@ -47,7 +48,7 @@ put c =
     put_in_queue c.self.inside.n c.self.inside.w c.self.inside.queues.items c.index_mut.result.now c.self.invariant.kept m c.put.new.self (has_queue (goal.at-After-put c).After-index_mut) (c.put.ensures.put ∙ ap (λ z. put_early m (messages z)) c.index_mut.ensures.value)
 
 pub overflow_add-self : goal.overflow_add-self
-overflow_add-self c = omega (arith, few_held c.self.inside.n c.self.inside.w c.self.inside.held c.self.inside.queues.items c.self.invariant)
+overflow_add-self c = omega (arith, few_held c.self.inside.n c.self.inside.w c.self.inside.held c.self.inside.queues.items c.self.inside.watch c.self.invariant)
 
 pub invariant_of-self : goal.invariant_of-self
 invariant_of-self c =
@@ -64,6 +65,7 @@ invariant_of-self c =
       count = length-set qs m.origin c.put.new.self ∙ c.self.invariant.count;
       kept = kept_set n w qs m.origin c.put.new.self c.self.invariant.kept (kept_put n w m c.index_mut.result.now c.put.new.self kept fit c.put.ensures.kept c.put.ensures.put c.put.ensures.room c.put.ensures.wait);
       counted = omega (arith, c.self.invariant.counted, length-put_early m (flat_map messages qs), ap length (put (goal.at.invariant_of-self c).After-put));
+      watched = subst (IsWatch n c.keep.new.self) (sym (put (goal.at.invariant_of-self c).After-put)) (c.keep.ensures n m (flat_map messages qs) c.self.invariant.watched refl (sym c.number.ensures));
     }
 
 pub returns-clause-early : goal.returns-clause-early

@@ -1,4 +1,4 @@
-use Rattle.std.proofs.Common.{◌≡◌, ◌+◌, ◌<◌, length, set, sym, ap, ◌∙◌, arith}
+use Rattle.std.proofs.Common.{◌≡◌, ◌+◌, ◌<◌, length, set, sym, ap, subst, ◌∙◌, arith}
 use Rattle.std.specs.List.{find, flat_map}
 use Rattle.std.specs.Option.{is_some}
 use Rattle.std.proofs.lemmas.List.{length-set}
@@ -6,6 +6,8 @@ use Rattle.causal_model.specs.Early.{has_id, without}
 use Rattle.causal_buffer.specs.Buffer.{Buffer, with_messages}
 use Rattle.causal_buffer.specs.Queue.{messages}
 use Rattle.causal_buffer.proofs.Kept.{kept_at, kept_set, kept_without, find_in_queue, without_in_queue}
+use Rattle.causal_buffer.proofs.Watched.{left_are_watched}
+use Rattle.causal_buffer.specs.Watch.{IsWatch}
 use Rattle.causal_buffer.proofs.Parts.{length-set_flat}
 use Rattle.causal_buffer.proofs.buffer.CausalBuffer.move_out.Goals as goal
 use Rattle.causal_buffer.proofs.buffer.CausalBuffer.move_out.Goals.{After-index_mut, After-move_out}
@@ -34,6 +36,12 @@ fewer c =
     let q = c.index_mut.result.now in
     omega (arith, length-set_flat messages qs c.args.id.origin c.move_out.new.self q (has_queue (goal.at-After-move_out c).After-index_mut), ap (λ z. length (messages z)) c.index_mut.ensures.value, c.move_out.ensures.fewer)
 
+-- and no others than before
+left_here : (c : After-move_out) → flat_map messages (set c.self.inside.queues.items c.args.id.origin c.move_out.new.self) ≡ without c.args.id (flat_map messages c.self.inside.queues.items)
+left_here c =
+    without_in_queue c.self.inside.n c.self.inside.w c.self.inside.queues.items c.index_mut.result.now c.self.invariant.kept c.args.id c.move_out.new.self (has_queue (goal.at-After-move_out c).After-index_mut)
+    (c.move_out.ensures.others ∙ ap (λ z. without c.args.id (messages z)) c.index_mut.ensures.value)
+
 pub overflow_sub-self : goal.overflow_sub-self
 overflow_sub-self c = omega (arith, c.self.invariant.counted, fewer (goal.at.overflow_sub-self c).After-move_out)
 
@@ -52,6 +60,7 @@ invariant_of-self c =
       count = length-set qs c.args.id.origin c.move_out.new.self ∙ c.self.invariant.count;
       kept = kept_set n w qs c.args.id.origin c.move_out.new.self c.self.invariant.kept (kept_without n w c.args.id q c.move_out.new.self kept left.kept left.others left.room left.wait);
       counted = omega (arith, c.self.invariant.counted, fewer (goal.at.invariant_of-self c).After-move_out);
+      watched = subst (IsWatch n c.self.inside.watch) (sym (left_here (goal.at.invariant_of-self c).After-move_out)) (left_are_watched n c.self.inside.watch c.args.id (flat_map messages qs) c.self.invariant.watched);
     }
 
 pub returns-clause-moved : goal.returns-clause-moved
@@ -60,6 +69,5 @@ returns-clause-moved c = c.move_out.ensures.moved ∙ in_queue (goal.at.returns-
 pub returns-clause-others : goal.returns-clause-others
 returns-clause-others c =
     let id = c.args.id in
-    ap (λ early. record { n = c.self.inside.n; w = c.self.inside.w; early = early })
-    (without_in_queue c.self.inside.n c.self.inside.w c.self.inside.queues.items c.index_mut.result.now c.self.invariant.kept id c.move_out.new.self (has_queue (goal.at.returns-clause-others c).After-index_mut) (c.move_out.ensures.others ∙ ap (λ z. without id (messages z)) c.index_mut.ensures.value))
+    ap (λ early. record { n = c.self.inside.n; w = c.self.inside.w; early = early }) (left_here (goal.at.returns-clause-others c).After-move_out)
     ∙ ap (λ (b : Buffer). with_messages b (without id b.early)) c.self.view_is

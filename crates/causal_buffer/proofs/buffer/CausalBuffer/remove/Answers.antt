@@ -2,6 +2,8 @@ use Rattle.std.proofs.Common.{◌≡◌, ◌+◌, ◌<◌, length, set, sym, ap,
 use Rattle.std.specs.List.{find, flat_map}
 use Rattle.std.specs.Int.{from_bool}
 use Rattle.std.specs.Option.{option_to_list}
+use Rattle.causal_buffer.proofs.Watched.{left_are_watched}
+use Rattle.causal_buffer.specs.Watch.{IsWatch}
 use Rattle.causal_buffer.proofs.Parts.{length-set_flat}
 use Rattle.causal_buffer.specs.Queue.{messages}
 use Rattle.std.proofs.lemmas.List.{length-set}
@@ -10,7 +12,7 @@ use Rattle.causal_buffer.specs.Buffer.{Buffer, with_messages, AreAhead, AreNear}
 use Rattle.causal_buffer.proofs.Kept.{kept_at, kept_set, kept_without, find_in_queue, without_in_queue, length-option, step_keeps_ahead, step_keeps_near}
 use Rattle.causal_buffer.proofs.Standing.{takes_next, keeps_step}
 use Rattle.causal_buffer.proofs.buffer.CausalBuffer.remove.Goals as goal
-use Rattle.causal_buffer.proofs.buffer.CausalBuffer.remove.Goals.{After-index_mut, After-is_some, After-from}
+use Rattle.causal_buffer.proofs.buffer.CausalBuffer.remove.Goals.{After-index_mut, After-take-taken, After-is_some, After-from}
 
 has_queue : (c : After-index_mut) → c.args.id.origin < length c.self.inside.queues.items
 has_queue c = omega (arith, ap (λ (b : Buffer). b.n) c.self.view_is, c.self.invariant.count, c.requires)
@@ -24,6 +26,12 @@ fewer c =
 
 taken_is : (c : After-from) → c.from.result ≡ length (option_to_list c.take-taken.result)
 taken_is c = c.from.ensures ∙ ap from_bool c.is_some.ensures ∙ length-option c.take-taken.result
+
+-- and no others than before
+left_here : (c : After-take-taken) → flat_map messages (set c.self.inside.queues.items c.args.id.origin c.take-taken.new.self) ≡ without c.args.id (flat_map messages c.self.inside.queues.items)
+left_here c =
+    without_in_queue c.self.inside.n c.self.inside.w c.self.inside.queues.items c.index_mut.result.now c.self.invariant.kept c.args.id c.take-taken.new.self (has_queue (goal.at-After-take-taken c).After-index_mut)
+    (c.take-taken.ensures.others ∙ ap (λ z. without c.args.id (messages z)) c.index_mut.ensures.value)
 
 pub invariant_of-self : goal.invariant_of-self
 invariant_of-self c =
@@ -39,6 +47,7 @@ invariant_of-self c =
       count = length-set qs c.args.id.origin c.take-taken.new.self ∙ c.self.invariant.count;
       kept = kept_set n w qs c.args.id.origin c.take-taken.new.self c.self.invariant.kept (kept_without n w c.args.id q c.take-taken.new.self kept c.take-taken.ensures.kept c.take-taken.ensures.others c.take-taken.ensures.room c.take-taken.ensures.wait);
       counted = omega (arith, c.self.invariant.counted, fewer (goal.at.invariant_of-self c).After-is_some, taken_is (goal.at.invariant_of-self c).After-from);
+      watched = subst (IsWatch n c.self.inside.watch) (sym (left_here (goal.at.invariant_of-self c).After-take-taken)) (left_are_watched n c.self.inside.watch c.args.id (flat_map messages qs) c.self.invariant.watched);
     }
 
 pub overflow_sub-self : goal.overflow_sub-self
@@ -54,8 +63,7 @@ returns-clause-taken c =
 pub returns-clause-others : goal.returns-clause-others
 returns-clause-others c =
     let id = c.args.id in
-    ap (λ early. record { n = c.self.inside.n; w = c.self.inside.w; early = early })
-    (without_in_queue c.self.inside.n c.self.inside.w c.self.inside.queues.items c.index_mut.result.now c.self.invariant.kept id c.take-taken.new.self (has_queue (goal.at.returns-clause-others c).After-index_mut) (c.take-taken.ensures.others ∙ ap (λ z. without id (messages z)) c.index_mut.ensures.value))
+    ap (λ early. record { n = c.self.inside.n; w = c.self.inside.w; early = early }) (left_here (goal.at.returns-clause-others c).After-take-taken)
     ∙ ap (λ (b : Buffer). with_messages b (without id b.early)) c.self.view_is
 
 pub returns-clause-held_ahead : goal.returns-clause-held_ahead

@@ -42,7 +42,7 @@ returns-in-Some-clause-taken c =
 pub returns-in-Some-clause-others : goal.returns-in-Some-clause-others
 returns-in-Some-clause-others c =
     let b = c.args.self.now in
-    c.move_out.ensures.others ∙ ap (λ (b : Buffer). with_messages b (without c.in-Some.id b.early)) c.ready_below-2.ensures.unchanged
+    c.count.ensures.unchanged ∙ c.move_out.ensures.others ∙ ap (λ (b : Buffer). with_messages b (without c.in-Some.id b.early)) c.ready_below-2.ensures.unchanged
     ∙ ap (λ id. with_messages b (without id b.early)) (of_id (goal.at.returns-in-Some-clause-others c).After-move_out)
 
 pub returns-in-Some-clause-held_ahead : goal.returns-in-Some-clause-held_ahead

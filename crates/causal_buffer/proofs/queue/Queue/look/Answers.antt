@@ -1,10 +1,15 @@
-use Rattle.std.proofs.Common.{IsTrue, length, sym, subst}
+use Rattle.std.proofs.Common.{◌+◌, IsTrue, length, sym, ap, ◌∙◌, subst}
 use Rattle.std.proofs.lemmas.List.Elements.{All-contains}
+use Rattle.std.proofs.lemmas.Bool.{false≢true}
+use Rattle.op_base.specs.Timestamp.{entry}
+use Rattle.causal_buffer.proofs.Kept.{has_parts}
 use Rattle.op_base.specs.Message.{fits}
 use Rattle.causal_model.specs.Early.{has_id}
 use Rattle.causal_model.proofs.Theory.Finds.{found}
 use Rattle.causal_buffer.specs.Queue.{AreWaiting, messages}
-use Rattle.causal_buffer.proofs.Deliverable.{fits_store}
+use Rattle.causal_buffer.proofs.Deliverable.{fits_store, seen_is_deliverable}
+use Rattle.causal_buffer.proofs.Watched.{none_numbered}
+use Rattle.std.specs.Option.{option_copied}
 use Rattle.causal_buffer.proofs.Waits.{waits_for}
 use Rattle.causal_buffer.proofs.queue.Queue.look.Goals as goal
 use Rattle.causal_buffer.proofs.queue.Queue.look.Goals.{In-Some}
@@ -36,3 +41,15 @@ returns-in-Some-first_missing-clause-kept c =
       waiting = subst (λ count. AreWaiting id.origin (record { seq = id.seq; member = x; count = count }) (messages q)) (sym c.at.ensures)
           (waits_for id q c.in-Some.message.now c.args.counts.now x is (sym c.in-Some.ensures) c.in-Some-first_missing.ensures.first.missing);
     }
+
+pub returns-in_default-clause-told : goal.returns-in_default-clause-told
+returns-in_default-clause-told c _ k d l numbered =
+    absurd (none_numbered c.args.id c.args.self.now c.requires.queue (ap option_copied (sym c.in_default.is) ∙ c.get.ensures) k d l numbered)
+
+-- one that isn't missing anything can be delivered
+pub returns-in_default-first_missing-clause-told : goal.returns-in_default-first_missing-clause-told
+returns-in_default-first_missing-clause-told c _ k d l numbered =
+    let m = c.in-Some.message.now in
+    let own = has_parts c.args.id m (found (has_id c.args.id) (messages c.args.self.now) m (sym c.in-Some.ensures)).1 in
+    let next = own.1 ∙ c.requires.next ∙ ap (λ x. entry c.args.counts.now x + 1) (sym own.0) in
+    absurd (false≢true (sym c.if-is_deliverable.false ∙ c.is_deliverable.ensures ∙ seen_is_deliverable c.args.counts.now m next c.in_default-first_missing.ensures.none))
