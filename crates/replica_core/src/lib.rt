@@ -21,7 +21,7 @@ mod tests;
 
 pub use causal_model::{Beat, Local, Receive, Refusal};
 pub use create_fault::CreateFault;
-pub use epochs::EpochRoom;
+pub use epochs::{EpochParts, EpochRoom};
 pub use numbers::are_numbers;
 pub use reach::reach_of;
 pub use replica::Replica;

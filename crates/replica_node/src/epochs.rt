@@ -37,7 +37,7 @@ impl<R: Recorder> Node<R> {
         requires numbers { IsTrue (are_numbers me n self.now.inner.w self.now.inner.limit) }
         ensures me { IfOk result (λ room. room.me ≡ me) }
         ensures n { IfOk result (λ room. room.n ≡ n) }
-        ensures empty { IfOk result (IsRoomFor me n self.now.inner.w) }
+        ensures empty { IfOk result (IsRoomFor self.now.inner.n me n self.now.inner.w) }
     {
         self.inner.room(alloc, me, n)
     }
@@ -77,7 +77,7 @@ impl<R: Recorder> Node<R> {
         requires numbers { IsTrue (are_numbers room.me room.n self.old.inner.w self.old.inner.limit) }
         requires settled { (s : State) → StandsFor self.old.inner s → IsTrue (is_all_stable s.history.present) }
         requires early { self.old.inner.epoch < 65535 }
-        requires empty { IsRoomFor room.me room.n self.old.inner.w room }
+        requires empty { IsRoomFor self.old.inner.n room.me room.n self.old.inner.w room }
         ensures me { self.new.inner.me ≡ room.me }
         ensures n { self.new.inner.n ≡ room.n }
         ensures w { self.new.inner.w ≡ self.old.inner.w }

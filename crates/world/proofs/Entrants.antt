@@ -78,7 +78,7 @@ module _ (before now : List NotedNode) (q : ℕ) (node next : NotedNode) (low : 
 
 -- a member goes on in a room that was made for it, where the epoch can end
 pub can_go_on : (n q : ℕ) (nodes : List NotedNode) (node : NotedNode) (room : EpochRoom) → q < length nodes → node ≡ slice_index_or nodes q node → All IsSettled nodes → All IsEarly nodes → IsTrue (are_numbers q n node.inner.w node.inner.limit) → room.me ≡ q → room.n ≡ n
-    → IsRoomFor q n node.inner.w room → CanGoOn n q nodes room
+    → IsRoomFor node.inner.n q n node.inner.w room → CanGoOn n q nodes room
 can_go_on n q nodes node room low at settled early numbers is_me is_n empty = record {
   low = low;
   me = is_me;
@@ -89,7 +89,7 @@ can_go_on n q nodes node room low at settled early numbers is_me is_n empty = re
         numbers = rw (is_me, is_n, sym here) numbers;
         settled = settled q d low;
         early = early q d low;
-        empty = subst (λ me. IsRoomFor me room.n (slice_index_or nodes q d).inner.w room) (sym is_me) (subst (λ k. IsRoomFor q k (slice_index_or nodes q d).inner.w room) (sym is_n) (subst (λ (x : NotedNode). IsRoomFor q n x.inner.w room) here empty));
+        empty = subst (λ me. IsRoomFor (slice_index_or nodes q d).inner.n me room.n (slice_index_or nodes q d).inner.w room) (sym is_me) (subst (λ k. IsRoomFor (slice_index_or nodes q d).inner.n q k (slice_index_or nodes q d).inner.w room) (sym is_n) (subst (λ (x : NotedNode). IsRoomFor x.inner.n q n x.inner.w room) here empty));
       };
 }
 

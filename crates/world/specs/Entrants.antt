@@ -48,12 +48,12 @@ pub record IsNextNode (n q : ℕ) (node next : NotedNode) : Type 0 where
   pub limit : next.inner.limit ≡ node.inner.limit
   pub noted : next.journal.notes ≡ node.journal.notes ++ note.Regroup (node.inner.epoch + 1) n q ∷ []
 
--- a replica can begin the next epoch in a room: it can end, and the room is one of its store
+-- a replica can begin the next epoch in a room: it can end, and the room is one for it
 pub record CanTurn (r : Replica) (room : EpochRoom) : Type 0 where
   pub numbers : IsTrue (are_numbers room.me room.n r.w r.limit)
   pub settled : (s : State) → StandsFor r s → IsTrue (is_all_stable s.history.present)
   pub early : r.epoch < 65535
-  pub empty : IsRoomFor room.me room.n r.w room
+  pub empty : IsRoomFor r.n room.me room.n r.w room
 
 -- the node at place q can go on in a room, as member q of n
 pub record CanGoOn (n q : ℕ) (nodes : List NotedNode) (room : EpochRoom) : Type 0 where

@@ -36,8 +36,8 @@ impl World {
 
     /// Changes the members to the first `n`, 1 to 16, where the store is at rest: the next epoch begins. Each goes on where it
     /// was a member, with what it has settled, and begins with what member 0 has else. Of what was sent before, nothing can be
-    /// given any more. It costs new empty parts for each member, and for each that is new a copy of what member 0 has settled and
-    /// of its journal. After `NoMemory` it shows what it showed.
+    /// given any more. Where there were as many members, their parts are emptied; else it costs new empty parts for each. For each
+    /// member that is new it costs a copy of what member 0 has settled and of its journal. After `NoMemory` it shows what it showed.
     pub fn regroup(&mut self, alloc: Global, n: u8) -> Regroup
         requires some { 1 ≤ n }
         requires few { n ≤ MOST_MEMBERS }
