@@ -405,6 +405,7 @@ impl CausalBuffer {
         ensures empty { self.new ≡ record { n = self.old.n; w = self.old.w; early = [] } }
         ensures stands { (me : ℕ) → IsBufferOf self.old.w (start self.old.n me) self.new }
     {
+        self.watch = Watch::create(self.n);
         clear_each(&mut self.queues);
         self.held = 0;
     }

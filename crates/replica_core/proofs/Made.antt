@@ -1,12 +1,13 @@
 -- The steps of receiving, some of which were made.
-use Rattle.std.proofs.Common.{◌≡◌, ℕ, ◌+◌, ◌≤◌, length, List, [], ◌∷◌, ◌++◌, sym, ap, subst, ◌∙◌, append_assoc, None}
-use Rattle.std.proofs.lemmas.List.{append-nil}
+use Rattle.std.proofs.Common.{◌≡◌, ℕ, ◌+◌, ◌<◌, ◌≤◌, length, List, [], ◌∷◌, ◌++◌, refl, sym, ap, subst, ◌∙◌, append_assoc, Option, Some, None, arith}
+use Rattle.std.proofs.lemmas.List.{append-nil, length-append, length_push}
+use Rattle.op_base.specs.declared.message.Message.{Message}
 use Rattle.op_base.specs.declared.outcome.Step.{Step}
 use Rattle.causal_model.specs.Receiving.{next_of, state_with, steps}
 use Rattle.causal_model.specs.State.{State}
 use Rattle.causal_model.proofs.States.Steps.{steps_of_none, steps_of_one_more}
 use Rattle.replica_core.specs.Rules.{StandsFor, SameSettings}
-use Rattle.replica_core.specs.Steps.{HasStepped, behind, HasMade, HasAdded, IsStepOf}
+use Rattle.replica_core.specs.Steps.{HasStepped, behind, HasMade, HasAdded, HasRoomToStep, IsStepOf}
 use Rattle.replica_core.specs.declared.replica.Replica.{Replica}
 
 -- the steps of a state are one that is made, and those of the state after it
@@ -44,8 +45,30 @@ rest_is_added w s made all now new has added = record {
   stands = subst (StandsFor new) (sym (ap (λ (some : List Step × State). some.1) has.is)) added.stands;
 }
 
+-- where there is none, none can be delivered
+pub none_of_no_steps : (w : ℕ) (s : State) → length (steps w s).0 ≤ 0 → next_of s ≡ None
+none_of_no_steps w s none = by (next_of s) refl where
+  by : (o : Option Message) → next_of s ≡ o → o ≡ None
+  by None is = refl
+  by (Some m) is = absurd (omega (arith, none, ap (λ (made : List Step × State). length made.0) (steps_of_one_more w s m is)))
+
+-- where a message is next there is one, for which there is room
+pub next_has_room : (w : ℕ) (s : State) (m : Message) (made : List Step) (capacity : ℕ) → next_of s ≡ Some m → length made + length (steps w s).0 ≤ capacity → length made < capacity
+next_has_room w s m made capacity next room = omega (arith, room, ap (λ (made : List Step × State). length made.0) (steps_of_one_more w s m next))
+
+-- and there is for those that are left once it is made
+pub left_have_room : (w : ℕ) (s : State) (made : List Step) (step : Step) (new : Replica) (capacity : ℕ) (is : IsStepOf w s step new) → length made + length (steps w s).0 ≤ capacity
+    → length (made ++ step ∷ []) + length (steps w (state_with w s is.message)).0 ≤ capacity
+left_have_room w s made step new capacity is room =
+    omega (arith, room, length_push made step, ap (λ (all : List Step × State). length all.0) (one_and_more w s step new is))
+
+-- so where some were made of a state, and there was room for all
+pub rest_has_room : (w : ℕ) (s : State) (made : List Step) (now : Replica) (capacity : ℕ) (has : HasMade w s [] made now) → length (steps w s).0 ≤ capacity → length made + length (steps w has.after).0 ≤ capacity
+rest_has_room w s made now capacity has room =
+    omega (arith, room, ap (λ (all : List Step × State). length all.0) has.is, length-append made (steps w has.after).0)
+
 -- a replica makes the steps that can be made from what it was, and there is room for those of the early messages
 pub record IsMaking (old now : Replica) (before made : List Step) (capacity : ℕ) : Type 0 where
   pub settings : SameSettings old now
-  pub room : length made + length now.buffer.early ≤ capacity
+  pub room : HasRoomToStep now made capacity
   pub are_made : (s : State) → StandsFor old s → HasMade old.w s before made now

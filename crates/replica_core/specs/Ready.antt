@@ -8,7 +8,7 @@ use Rattle.op_base.specs.declared.outcome.Step.{Step}
 use Rattle.op_base.specs.declared.room.CopyRoom.{CopyRoom}
 use Rattle.causal_model.specs.Counts.{is_carried}
 use Rattle.causal_model.specs.Early.{is_again}
-use Rattle.causal_model.specs.Receiving.{is_old, is_far}
+use Rattle.causal_model.specs.Receiving.{is_old, is_far, with_early, steps}
 use Rattle.causal_model.specs.State.{State, with_own}
 use Rattle.causal_model.specs.States.{IsState}
 use Rattle.list_type.specs.Shown.{shown as lists_shown}
@@ -30,8 +30,8 @@ pub record IsReadyToCommit (r : Replica) (m : Message) (taken : CopyRoom) : Type
   pub copy : IsCopyRoomFor taken m.op
   pub room : HasRoomFor r m
 
--- a message of the store is neither old nor early already nor far, and there is room for it, and for the steps that it and the
--- early messages can make
+-- a message of the store is neither old nor early already nor far, and there is room for it, and for the steps that are made once
+-- it is early
 pub record IsReadyToAccept (r : Replica) (m : Message) (taken : Vec Step Global) : Type 0 where
   pub fits : IsTrue (fits r.n m)
   pub carried : IsTrue (is_carried r.limit m)
@@ -39,5 +39,5 @@ pub record IsReadyToAccept (r : Replica) (m : Message) (taken : Vec Step Global)
   pub apart : is_again r.buffer.early m ≡ false
   pub near : is_far r.buffer.n r.buffer.w r.me r.counts m ≡ false
   pub none : taken.items ≡ []
-  pub steps : length r.buffer.early + 1 ≤ vec_capacity taken
+  pub made : (s : State) → StandsFor r s → length (steps r.w (with_early s m)).0 ≤ vec_capacity taken
   pub room : HasRoomFor r m

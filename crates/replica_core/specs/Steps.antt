@@ -1,5 +1,5 @@
 -- What one message more makes of parts of a replica, and what the steps of receiving make of all its fields.
-use Rattle.std.specs.Prelude.{◌≡◌, ◌≢◌, ℕ, Bool, not, ◌&&◌, ◌||◌, ◌==◌, IsTrue, List, [], ◌∷◌, ◌++◌, Some, if◌then◌else◌}
+use Rattle.std.specs.Prelude.{◌≡◌, ◌≢◌, ◌+◌, ◌≤◌, length, ℕ, Bool, not, ◌&&◌, ◌||◌, ◌==◌, IsTrue, List, [], ◌∷◌, ◌++◌, Some, if◌then◌else◌}
 use Rattle.op_base.specs.CopyRooms.{IsCopyRoomFor}
 use Rattle.op_base.specs.Message.{id_of}
 use Rattle.op_base.specs.declared.message.Message.{Message}
@@ -82,3 +82,7 @@ pub record HasMade (w : ℕ) (s : State) (before made : List Step) (now : Replic
 pub record HasAdded (w : ℕ) (s : State) (before made : List Step) (new : Replica) : Type 0 where
   pub are : made ≡ before ++ (steps w s).0
   pub stands : StandsFor new (steps w s).1
+
+-- there is room for each step of some state that the fields stand for, behind those that were made
+abbrev pub HasRoomToStep : Replica → List Step → ℕ → Type 0
+HasRoomToStep r made capacity = ∥ ((s : State) × StandsFor r s × (length made + length (steps r.w s).0 ≤ capacity)) ∥₁

@@ -24,7 +24,7 @@ use std::alloc::Global;
 impl Replica {
     ghost use Rattle.replica_core.specs.Ready.{IsReadyToAccept};
     ghost use Rattle.replica_core.specs.Rules.{StandsFor, SameSettings, Unchanged, IsBounded};
-    ghost use Rattle.replica_core.specs.Steps.{HasStepped, HasMade, HasAdded, IsNextOf, IsStepOf};
+    ghost use Rattle.replica_core.specs.Steps.{HasStepped, HasMade, HasAdded, HasRoomToStep, IsNextOf, IsStepOf};
 
     /// Receives a message of the store, none of whose entries is above the limit and whose operation is valid. One that is
     /// old, early already or too far ahead is let go, and changes nothing. Each other becomes early; then early messages are
@@ -101,22 +101,22 @@ impl Replica {
         ensures ready { IfOk result (λ steps. IsReadyToAccept self.new message.now steps) }
         ensures unchanged { Unchanged self.old self.new }
     {
-        let most = self.buffer.len() + 1;
+        let most = self.buffer.most_steps(message, &self.counts);
         let steps = Vec::with_capacity(alloc, most)?;
-        self.items.reserve(self.log.len() + most)?;
+        self.items.reserve(self.log.len() + self.buffer.len() + 1)?;
         self.reserve_element(message)?;
         Ok(steps)
     }
 
-    /// Takes in a message for which `reserve_accept` took memory, and makes the steps that follow. Where it is next at once, it
-    /// never becomes early.
+    /// Takes in a message for which `reserve_accept` took memory, and makes the steps that follow: none, where there is room for no
+    /// more. Where it is next at once, it never becomes early.
     pub fn accept_reserved(&mut self, message: Message, mut steps: Vec<Step>) -> StepList
         requires ready { IsReadyToAccept self.old message steps }
         ensures steps { (s : State) → StandsFor self.old s → HasStepped self.old.w (with_early s message) result self.new }
         ensures settings { SameSettings self.old self.new }
     {
         self.take_in(message, &mut steps);
-        if self.buffer.is_empty() {
+        if steps.len() == steps.capacity() {
             return StepList::from_vec(steps);
         }
         self.make_steps(&mut steps);
@@ -129,7 +129,7 @@ impl Replica {
     fn take_in(&mut self, mut message: Message, steps: &mut Vec<Step>)
         requires ready { IsReadyToAccept self.old message steps.old }
         ensures made { (s : State) → StandsFor self.old s → HasMade self.old.w (with_early s message) [] steps.new.items self.new }
-        ensures room { length steps.new.items + length self.new.buffer.early ≤ vec_capacity steps.new }
+        ensures capacity { vec_capacity steps.new ≡ vec_capacity steps.old }
         ensures settings { SameSettings self.old self.new }
     {
         if comes_next(&mut self.buffer, &message, &self.counts) {
@@ -153,9 +153,9 @@ impl Replica {
     }
 
     /// Makes the steps that can be made, one after the other, and puts them behind those that there are. There is room for a step
-    /// of each early message.
+    /// of each.
     fn make_steps(&mut self, steps: &mut Vec<Step>)
-        requires room { length steps.old.items + length self.old.buffer.early ≤ vec_capacity steps.old }
+        requires room { HasRoomToStep self.old steps.old.items (vec_capacity steps.old) }
         ensures steps { (s : State) → StandsFor self.old s → HasAdded self.old.w s steps.old.items steps.new.items self.new }
         ensures settings { SameSettings self.old self.new }
     {

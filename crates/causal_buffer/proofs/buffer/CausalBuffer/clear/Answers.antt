@@ -28,6 +28,7 @@ invariant_of-self c =
           let emptied = c.clear_each.ensures.empty x q within in
           kept_empty c.self.inside.n c.self.inside.w x (get_or new x q) (emptied.kept x) emptied.none (emptied.room ∙ (are.kept x q within).room) (omega (arith, emptied.wait, are.some));
       counted = sym (ap length (none_is_left c));
+      watched = c.create-self-inside.ensures (flat_map messages new);
     }
 
 pub returns-clause-empty : goal.returns-clause-empty

@@ -1,11 +1,12 @@
-use Rattle.std.proofs.Common.{◌≡◌, ◌<◌, List, length, refl, sym, ap, subst, ◌∙◌, Some, None, arith}
-use Rattle.std.proofs.Math.Logic.{∥∥₁_map}
+use Rattle.std.proofs.Common.{◌≡◌, ◌+◌, ◌<◌, ◌≤◌, List, length, vec_capacity, refl, sym, ap, subst, ◌∙◌, Some, None, arith}
+use Rattle.std.proofs.Math.Logic.{∥∥₁_elim, ∥∥₁_map}
+use denote.Struct.Props.{props}
 use Rattle.std.proofs.lemmas.Bool.{cond-true, cond-false}
 use Rattle.std.proofs.lemmas.List.{length_push}
 use Rattle.op_base.specs.Message.{id_of}
 use Rattle.op_base.specs.declared.outcome.Step.{Step}
 use Rattle.causal_model.specs.Early.{without}
-use Rattle.causal_model.specs.Receiving.{next_early}
+use Rattle.causal_model.specs.Receiving.{next_early, state_with, steps}
 use Rattle.causal_model.specs.State.{State}
 use Rattle.causal_buffer.specs.Buffer.{Buffer, with_messages}
 use Rattle.replica_core.specs.Insertions.{insertions}
@@ -13,7 +14,7 @@ use Rattle.replica_core.specs.Rules.{fields_of, StandsFor}
 use Rattle.replica_core.specs.Standing.{Standing}
 use Rattle.replica_core.specs.Steps.{IsNextOf, IsStepOf, HasMade}
 use Rattle.replica_core.specs.declared.replica.Replica.{Replica}
-use Rattle.replica_core.proofs.Made.{one_more_is_made, all_are_made}
+use Rattle.replica_core.proofs.Made.{one_more_is_made, all_are_made, next_has_room, left_have_room}
 use Rattle.replica_core.proofs.Stands.{same_settings_after, length-counts_in, buffer_n_in, items_room_in, lists_room_in}
 use Rattle.replica_core.proofs.Takes.{taken_or_not_in, taken_is_next, fewer_are_left, elements_are_left}
 use Rattle.replica_core.proofs.replica.Replica.make_steps.Goals as goal
@@ -87,12 +88,23 @@ loop-steps-preserved c =
     let taken = c.take.ensures.settings in
     record {
       settings = same_settings_after old now new making.settings (record { me = taken.me; n = taken.n; w = taken.w; limit = taken.limit; epoch = taken.epoch });
-      room = omega (arith, making.room, fewer here, ap (λ (b : Buffer). length b.early) c.take.ensures.buffer, ap length c.push_reserved.ensures.items, length_push made step, c.push_reserved.ensures.capacity);
+      room = ∥∥₁_map making.room (λ x.
+          let is = c.take.ensures.step x.0 (is_next_of here x.0 x.1 _ refl) in
+          let left = left_have_room now.w x.0 made step new (vec_capacity c.loop-steps.steps) is x.2 in
+          (state_with now.w x.0 is.message, is.stands, subst (λ w. length c.push_reserved.new.self.items + length (steps w (state_with now.w x.0 is.message)).0 ≤ vec_capacity c.push_reserved.new.self) (sym taken.w)
+          (omega (arith, left, ap length c.push_reserved.ensures.items, c.push_reserved.ensures.capacity))));
       are_made = λ s stands.
           let has = making.are_made s stands in
           subst (λ (all : List Step). HasMade old.w s before all new) (sym c.push_reserved.ensures.items)
           (one_more_is_made old.w s before made now new step has (subst (λ w. IsStepOf w has.after step new) making.settings.w (c.take.ensures.step has.after (is_next_of here has.after has.stands _ refl))));
     }
+
+pub push_reserved-requires : goal.push_reserved-requires
+push_reserved-requires c =
+    let here = (goal.at.push_reserved-requires c).In-loop-steps in
+    ∥∥₁_elim c.loop-steps.invariant.room (search props) (λ x.
+    let is = c.take.ensures.step x.0 (is_next_of here x.0 x.1 _ refl) in
+    omega (arith, next_has_room c.loop-steps.self.w x.0 is.message c.loop-steps.steps.items (vec_capacity c.loop-steps.steps) is.next x.2, c.loop-steps.steps.ok.0))
 
 -- ---- none can be taken
 

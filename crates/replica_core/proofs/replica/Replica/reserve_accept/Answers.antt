@@ -8,16 +8,40 @@ use Rattle.list_type.specs.Shown.{shown as lists_shown}
 use Rattle.polog.specs.Value.{Log}
 use Rattle.stable_state.specs.Shown.{shown}
 use Rattle.replica_core.specs.Rules.{fields_of, Unchanged}
+use Rattle.causal_model.proofs.Delivery.Counts.{length-counts}
+use Rattle.replica_core.specs.Standing.{StandsForSome}
 use Rattle.replica_core.proofs.Bounds.{few_logged, few_early}
 use Rattle.replica_core.proofs.Receives.{new_in, apart_in, near_in}
-use Rattle.replica_core.proofs.Stands.{with_room_in, unchanged_after}
+use Rattle.replica_core.proofs.Stands.{with_room_in, unchanged_after, length-counts_in, buffer_n_in}
 use Rattle.replica_core.proofs.replica.Replica.reserve_accept.Goals as goal
-use Rattle.replica_core.proofs.replica.Replica.reserve_accept.Goals.{In_ok-reserve_element}
+use Rattle.replica_core.proofs.replica.Replica.reserve_accept.Goals.{Start, In_ok-reserve_element}
+
+fit : (c : Start) → IsTrue (fits c.args.self.now.buffer.n c.args.message.now)
+fit c = subst (λ n. IsTrue (fits n c.args.message.now)) (sym (buffer_n_in (fields_of c.args.self.now) c.args.self.now.stands)) c.requires.fits
+
+pub most_steps-most-requires-clause-fits : goal.most_steps-most-requires-clause-fits
+most_steps-most-requires-clause-fits c = fit (goal.at.most_steps-most-requires-clause-fits c).Start
+
+pub most_steps-most-requires-clause-counts : goal.most_steps-most-requires-clause-counts
+most_steps-most-requires-clause-counts c =
+    let r = c.args.self.now in
+    omega (arith, length-counts_in (fields_of r) r.stands, buffer_n_in (fields_of r) r.stands)
+
+pub most_steps-most-requires-clause-apart : goal.most_steps-most-requires-clause-apart
+most_steps-most-requires-clause-apart c = apart_in c.args.self.now c.args.message.now c.requires.unrefused
+
+-- the buffer is the same
+pub invariant_of-self : goal.invariant_of-self
+invariant_of-self c =
+    let r = c.args.self.now in
+    record { numbers = r.numbers; stands = subst (λ b. ∥ StandsForSome (record (fields_of r) { buffer = b }) ∥₁) (sym c.most_steps-most.ensures.unchanged) r.stands }
 
 pub invariant_of-self-2 : goal.invariant_of-self-2
 invariant_of-self-2 c =
     let r = c.args.self.now in
-    record { numbers = r.numbers; stands = with_room_in (fields_of r) r.stands (shown c.reserve.new.self) (lists_shown r.lists) c.reserve.ensures.items c.reserve.ensures.spare refl (omega arith) }
+    let f = record (fields_of r) { buffer = c.most_steps-most.new.self } in
+    let stands = subst (λ b. ∥ StandsForSome (record (fields_of r) { buffer = b }) ∥₁) (sym c.most_steps-most.ensures.unchanged) r.stands in
+    record { numbers = r.numbers; stands = with_room_in f stands (shown c.reserve.new.self) (lists_shown r.lists) c.reserve.ensures.items c.reserve.ensures.spare refl (omega arith) }
 
 -- once there is room for items and elements, nothing else changed
 room_taken : (c : In_ok-reserve_element) → Unchanged c.args.self.now c.reserve_element.new.self
@@ -26,7 +50,7 @@ room_taken c = unchanged_after _ _ _ (record {
   counts = refl;
   matrix = refl;
   window = refl;
-  buffer = refl;
+  buffer = c.most_steps-most.ensures.unchanged;
   log = refl;
   items = c.reserve.ensures.items;
   spare = c.reserve.ensures.spare;
@@ -36,11 +60,11 @@ room_taken c = unchanged_after _ _ _ (record {
   due = refl;
 }) c.reserve_element.ensures.unchanged
 
-pub overflow_add-most : goal.overflow_add-most
-overflow_add-most c = omega (arith, few_early c.args.self.now, c.len-most.ensures)
-
 pub overflow_add-len : goal.overflow_add-len
-overflow_add-len c = omega (arith, few_early c.args.self.now, few_logged c.args.self.now, c.len-most.ensures, c.len.ensures)
+overflow_add-len c = omega (arith, few_early c.args.self.now, few_logged c.args.self.now, c.len.ensures, c.len-2.ensures, ap (λ (b : Buffer). length b.early) c.most_steps-most.ensures.unchanged)
+
+pub overflow_add-len-2 : goal.overflow_add-len-2
+overflow_add-len-2 c = omega (arith, few_early c.args.self.now, few_logged c.args.self.now, c.len.ensures, c.len-2.ensures, ap (λ (b : Buffer). length b.early) c.most_steps-most.ensures.unchanged)
 
 pub returns-clause-ready : goal.returns-clause-ready
 returns-clause-ready c =
@@ -52,13 +76,17 @@ returns-clause-ready c =
     record {
       fits = subst (λ n. IsTrue (fits n m)) (sym taken.settings.n) c.requires.fits;
       carried = subst (λ limit. IsTrue (is_carried limit m)) (sym taken.settings.limit) c.requires.carried;
-      new = ap₂ (λ me counts. is_old me counts m) same.settings.me same.counts ∙ new_in r m c.requires.unrefused;
-      apart = ap (λ (b : Buffer). is_again b.early m) same.buffer ∙ apart_in r m c.requires.unrefused;
-      near = (λ i. is_far (same.buffer i).n (same.buffer i).w (same.settings.me i) (same.counts i) m) ∙ near_in r m c.requires.unrefused;
+      new = ap₂ (λ me counts. is_old me counts m) taken.settings.me taken.counts ∙ new_in r m c.requires.unrefused;
+      apart = ap (λ (b : Buffer). is_again b.early m) taken.buffer ∙ apart_in r m c.requires.unrefused;
+      near = (λ i. is_far (taken.buffer i).n (taken.buffer i).w (taken.settings.me i) (taken.counts i) m) ∙ near_in r m c.requires.unrefused;
       none = c.in_ok-steps.ensures.items;
-      steps = omega (arith, c.len-most.ensures, c.in_ok-steps.ensures.capacity, early);
+      made = λ s stands.
+          let counts = sym taken.counts ∙ stands.counts in
+          let members = sym (ap length counts ∙ length-counts s.history.present.n s.history.present.messages) in
+          let most = c.most_steps-most.ensures.most c.reserve_element.new.self.w s members counts (sym stands.buffer.early ∙ ap (λ (b : Buffer). b.early) taken.buffer) in
+          omega (arith, most, c.in_ok-steps.ensures.capacity);
       room = record {
-        items = omega (arith, c.in_ok-reserve.ensures.room, c.len.ensures, c.len-most.ensures, c.reserve_element.ensures.items, early, ap (λ (l : Log). length l.entries) same.log);
+        items = omega (arith, c.in_ok-reserve.ensures.room, c.len.ensures, c.len-2.ensures, c.reserve_element.ensures.items, early, ap (λ (l : Log). length l.entries) same.log);
         lists = c.in_ok-reserve_element.ensures.room;
       };
     }

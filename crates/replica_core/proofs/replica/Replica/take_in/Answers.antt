@@ -1,6 +1,7 @@
-use Rattle.std.proofs.Common.{◌≡◌, false, IsTrue, List, [], ◌∷◌, ◌++◌, length, sym, ap, subst, ◌∙◌, refl, arith}
+use Rattle.std.proofs.Common.{◌≡◌, false, IsTrue, List, [], ◌∷◌, ◌++◌, length, vec_capacity, sym, ap, subst, ◌∙◌, refl, arith}
 use Rattle.std.proofs.lemmas.List.{length_push}
-use Rattle.std.proofs.Math.Logic.{∥∥₁_map}
+use Rattle.std.proofs.Math.Logic.{∥∥₁_elim, ∥∥₁_map}
+use denote.Struct.Props.{props}
 use Rattle.op_base.specs.Message.{fits}
 use Rattle.op_base.specs.declared.outcome.Step.{Step}
 use Rattle.causal_model.specs.Early.{is_again, put_early}
@@ -16,7 +17,7 @@ use Rattle.replica_core.specs.Steps.{HasMade, IsNextOf}
 use Rattle.replica_core.specs.declared.replica.Replica.{Replica}
 use Rattle.replica_core.proofs.Comes.{comes_as_next}
 use Rattle.replica_core.proofs.Keeps.{length-put_early, kept_stands}
-use Rattle.replica_core.proofs.Made.{first_is_made}
+use Rattle.replica_core.proofs.Made.{first_is_made, next_has_room}
 use Rattle.replica_core.proofs.Stands.{member_in, length-counts_in, buffer_n_in, ahead_in, near_in}
 use Rattle.replica_core.proofs.replica.Replica.take_in.Goals as goal
 use Rattle.replica_core.proofs.replica.Replica.take_in.Goals.{Start, After-keep, Then-comes_next}
@@ -59,6 +60,17 @@ take-requires-clause-spare c = omega (arith, c.requires.ready.room.items, ap (λ
 pub take-requires-clause-lists_spare : goal.take-requires-clause-lists_spare
 take-requires-clause-lists_spare c = omega (arith, c.requires.ready.room.lists, ap (λ (b : Buffer). insertions b.early) c.comes_next.ensures.unchanged)
 
+pub push_reserved-requires : goal.push_reserved-requires
+push_reserved-requires c =
+    let here = (goal.at.push_reserved-requires c).Then-comes_next in
+    let r = c.args.self.now in
+    let m = c.args.message in
+    let ready = c.requires.ready in
+    ∥∥₁_elim r.stands (search props) (λ x.
+    let is = c.take.ensures.step (with_early x.0 m) (is_next here x.0 x.1 _ refl) in
+    let room = next_has_room r.w (with_early x.0 m) is.message c.args.steps.now.items (vec_capacity c.args.steps.now) is.next (omega (arith, ready.made x.0 x.1, ap length ready.none)) in
+    omega (arith, room, c.args.steps.now.ok.0))
+
 pub returns-then-comes_next-clause-made : goal.returns-then-comes_next-clause-made
 returns-then-comes_next-clause-made c = λ s stands.
     let w = c.args.self.now.w in
@@ -66,11 +78,6 @@ returns-then-comes_next-clause-made c = λ s stands.
     let here = (goal.at.returns-then-comes_next-clause-made c).Then-comes_next in
     let one : [] ++ c.take.result ∷ [] ≡ c.push_reserved.new.self.items = ap (λ made. made ++ c.take.result ∷ []) (sym c.requires.ready.none) ∙ sym c.push_reserved.ensures.items in
     subst (λ made. HasMade w early [] made c.take.new.self) one (first_is_made w early c.take.result c.take.new.self (c.take.ensures.step early (is_next here s stands _ refl)))
-
-pub returns-then-comes_next-clause-room : goal.returns-then-comes_next-clause-room
-returns-then-comes_next-clause-room c =
-    let ready = c.requires.ready in
-    omega (arith, ready.steps, ap length ready.none, ap length c.push_reserved.ensures.items, length_push c.args.steps.now.items c.take.result, c.push_reserved.ensures.capacity, ap (λ (b : Buffer). length b.early) c.take.ensures.buffer, ap (λ (b : Buffer). length b.early) c.comes_next.ensures.unchanged)
 
 -- ---- it isn't, and becomes early
 
@@ -126,8 +133,3 @@ returns-else-comes_next-clause-made c = λ s stands.
       stands = kept (goal.at.returns-else-comes_next-clause-made c).After-keep s stands;
       is = ap (λ (made : List Step). (made ++ (steps w early).0, (steps w early).1)) (sym c.requires.ready.none);
     }
-
-pub returns-else-comes_next-clause-room : goal.returns-else-comes_next-clause-room
-returns-else-comes_next-clause-room c =
-    let ready = c.requires.ready in
-    omega (arith, ready.steps, ap length ready.none, ap (λ (b : Buffer). length b.early) c.keep.ensures.early, length-put_early c.args.message c.comes_next.new.buffer.early, ap (λ (b : Buffer). length b.early) c.comes_next.ensures.unchanged)
