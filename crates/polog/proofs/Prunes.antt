@@ -1,23 +1,20 @@
 -- Which entries of a log a message leaves.
-use Rattle.std.proofs.Common.{◌≡◌, ℕ, ◌≤◌, cond, nat_lt, Bool, true, false, not, ◌&&◌, List, [], ◌∷◌, ◌++◌, length, take, drop, IsTrue, inl, inr, refl, sym, ap, subst, ◌∙◌, arith}
+use Rattle.std.proofs.Common.{◌≡◌, ℕ, ◌≤◌, Bool, true, false, not, ◌&&◌, List, [], ◌∷◌, ◌++◌, length, take, drop, IsTrue, inl, inr, refl, sym, ap, ◌∙◌, arith}
 use Rattle.std.specs.List.{filter}
-use Rattle.std.proofs.lemmas.Bool.{eq-eqb, false≢true}
+use Rattle.std.proofs.lemmas.Bool.{false≢true}
 use Rattle.std.proofs.lemmas.List.Filters.{length-filter_both}
 use Rattle.op_base.specs.Object.{same_object}
 use Rattle.op_base.specs.declared.message.Entry.{Entry}
 use Rattle.op_base.specs.declared.message.Message.{Message}
-use Rattle.op_base.specs.declared.operation.Act.{Act}
 use Rattle.op_base.specs.declared.operation.Op.{Op}
 use Rattle.op_base.specs.declared.operation.Op.TheVariants as op
 use Rattle.op_base.specs.declared.operation.Update.{Update}
 use Rattle.causal_model.specs.Log.{is_covered_by, message_of}
 use Rattle.causal_model.specs.Order.{happened_before}
 use Rattle.causal_model.proofs.Answers.Rules.{object_from_same}
-use Rattle.polog.specs.Marks.{is_looked_at, look_of, mark_of, mark_of_named, IsReached, Reaches, RestStays}
+use Rattle.polog.specs.Marks.{Reaches}
 use Rattle.polog.specs.Order.{Each}
 use Rattle.polog.specs.Value.{is_of, stays}
-use Rattle.polog.specs.declared.reach.Look.TheVariants.{AtMark, AtAll}
-use Rattle.polog.specs.declared.reach.Reach.{Reach}
 use Rattle.polog.specs.declared.reach.Reach.TheVariants as reaches
 use Rattle.polog.proofs.Laid.{joined}
 use Rattle.polog.proofs.Orders.{filter-all, filter-join, told}
@@ -44,22 +41,6 @@ module _ (covers : Update → Update → Bool) (m : Message) where
         absurd (false≢true (sym other ∙ (λ i. same_object (sym one i) (one i)) ∙ same))
     | inr t ↦ t
   ])
-
--- an act within a reach is looked at
-reached-is-looked-at : (reach : Reach) (later earlier : Act) (rows : ℕ) → IsReached reach later earlier → is_looked_at (look_of reach later rows) earlier ≡ true
-reached-is-looked-at reaches.Nothing later earlier rows reached = absurd reached
-reached-is-looked-at reaches.Value later earlier rows reached = elim (nat_lt 2 rows) as (λ b. is_looked_at (cond b (AtMark (mark_of later)) AtAll) earlier ≡ true) [
-  | true ↦ eq-eqb (mark_of earlier) (mark_of later) (ap mark_of_named reached)
-  | false ↦ refl
-]
-reached-is-looked-at reaches.Object later earlier rows reached = refl
-
--- so where an operation's reach is known, what isn't looked at for it stays
-pub rest-stays : (covers : Update → Update → Bool) (m : Message) (u : Update) (reach : Reach) (rows : ℕ) → m.op ≡ op.Update u → Reaches reach covers m.op → RestStays (look_of reach u.act rows) covers m
-rest-stays covers m u reach rows is reached e unseen = uncovered-stays covers m e (ap (is_covered_by covers (op.Update e.update)) is ∙ elim (told (covers u e.update)) [
-  | inl t ↦ absurd (false≢true (sym unseen ∙ reached-is-looked-at reach u.act e.update.act rows (subst (Reaches reach covers) is reached e.update t)))
-  | inr t ↦ t
-])
 
 -- an operation that reaches nothing covers nothing
 pub nothing-leaves-all : (covers : Update → Update → Bool) (m : Message) → Reaches reaches.Nothing covers m.op → (es : List Entry) → filter (stays covers m) es ≡ es

@@ -1,6 +1,5 @@
 use Rattle.std.proofs.Common.{ℕ, List, set, refl, ap, ◌∙◌, arith}
 use Rattle.op_base.specs.declared.message.Entry.{Entry}
-use Rattle.polog.specs.Order.{rows}
 use Rattle.polog.specs.Rows.{Table, with_rows}
 use Rattle.polog.proofs.Stamps.{as_long, marked-set}
 use Rattle.polog.proofs.Tables.{as_many, rows-set}
