@@ -1,6 +1,6 @@
 -- How many steps are made once a message is early, where no other can be delivered.
-use Rattle.std.proofs.Common.{◌≡◌, ◌≢◌, ℕ, ◌+◌, ◌<◌, ◌≤◌, true, false, not, IsTrue, All, List, [], ◌∷◌, ◌++◌, length, get_or, set, refl, sym, ap, ap₂, subst, ◌∙◌, Option, Some, None, arith}
-use Rattle.std.specs.List.{find, filter}
+use Rattle.std.proofs.Common.{◌≡◌, ℕ, ◌+◌, true, false, not, IsTrue, All, List, [], ◌∷◌, ◌++◌, length, get_or, set, refl, sym, ap, ap₂, subst, ◌∙◌, Option, Some, None, arith}
+use Rattle.std.specs.List.{find}
 use Rattle.std.proofs.lemmas.Bool.{false≢true, not-true}
 use Rattle.std.proofs.lemmas.List.Elements.{All-filter, filter_passes}
 use Rattle.op_base.specs.Timestamp.{entry}
@@ -10,7 +10,7 @@ use Rattle.op_base.specs.declared.outcome.Crook.{Crook}
 use Rattle.causal_model.specs.Counts.{is_deliverable, count_of}
 use Rattle.causal_model.specs.Early.{has_id, is_again, put_early, without}
 use Rattle.causal_model.specs.History.{with_messages}
-use Rattle.causal_model.specs.Receiving.{next_of, crook_after, messages_with, state_with, steps, with_early}
+use Rattle.causal_model.specs.Receiving.{next_of, crook_after, messages_with, state_with, with_early}
 use Rattle.causal_model.specs.State.{State, counted}
 use Rattle.causal_model.proofs.Delivery.Counts.{counts-push, entry-counts}
 use Rattle.causal_model.proofs.States.Early.{All-put_early, IsDeliverable-from_test, fits_member}
@@ -49,7 +49,7 @@ others_are_left P m early each k d l =
 
 -- one, where it can be delivered, and no other then, whether it is counted or not
 module _ (counts : List ℕ) (m : Message) (early : List Message) (fit : IsTrue (fits (length counts) m)) (apart : is_again early m ≡ false) (can : is_deliverable (length counts) counts m ≡ true)
-         (unready : AreUnready m.origin (length counts) counts early) (none : AreUndeliverable (length counts) counts early) (none_then : AreUndeliverable (length counts) (set counts m.origin (number m)) early) where
+    (unready : AreUnready m.origin (length counts) counts early) (none : AreUndeliverable (length counts) counts early) (none_then : AreUndeliverable (length counts) (set counts m.origin (number m)) early) where
   -- the counts once it is delivered
   counts_then : (s : State) → s.history.present.n ≡ length counts → counts ≡ counted s.history → counted (with_messages s.history (s.history.present.messages ++ m ∷ [])) ≡ set counts m.origin (number m)
   counts_then s members same =
@@ -66,6 +66,7 @@ module _ (counts : List ℕ) (m : Message) (early : List Message) (fit : IsTrue 
     left c fail =
         subst (λ n. find (is_deliverable n c) (without (id_of m) (put_early m s.early)) ≡ None) (sym members)
         (none_found (is_deliverable (length counts) c) (without (id_of m) (put_early m s.early)) (others_are_left (λ e. is_deliverable (length counts) c e ≡ false) m s.early (subst (AreUndeliverable (length counts) c) (sym of) fail)))
+
     by : (o : Option Crook) → crook_after w s.history m ≡ o → next_of (state_with w (with_early s m) m) ≡ None
     by None is =
         ap (λ o. next_of (record { history = with_messages s.history (messages_with s.history.present.messages m o); early = without (id_of m) (put_early m s.early) })) is

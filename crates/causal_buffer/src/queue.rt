@@ -217,12 +217,7 @@ impl Queue {
     /// The id of the member's next message, where it is there and can be delivered. Where it can't, what it waits for is kept,
     /// and awaited.
     #[inline(always)]
-    pub fn next_ready(
-        &mut self,
-        member: u8,
-        counts: &Tag,
-        awaited: &mut Tag,
-    ) -> Option<MessageId>
+    pub fn next_ready(&mut self, member: u8, counts: &Tag, awaited: &mut Tag) -> Option<MessageId>
         requires member { member < length counts.now }
         requires queue { IsQueue member self.old }
         requires fit { All (λ m. IsTrue (fits (length counts.now) m)) (messages self.old) }

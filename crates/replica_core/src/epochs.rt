@@ -82,11 +82,10 @@ impl Replica {
         ensures n { IfOk result (λ room. room.n ≡ n) }
         ensures empty { IfOk result (IsRoomFor self.now.n me n self.now.w) }
     {
-        let parts = if n == self.n {
-            None
-        } else {
-            Some(EpochParts::create(alloc, n, self.w)?)
-        };
+        if n == self.n {
+            return Ok(EpochRoom { me, n, parts: None });
+        }
+        let parts = Some(EpochParts::create(alloc, n, self.w)?);
         Ok(EpochRoom { me, n, parts })
     }
 
@@ -104,9 +103,10 @@ impl Replica {
         ensures epoch { self.new.epoch ≡ self.old.epoch + 1 }
         ensures stands { (s : State) → StandsFor self.old s → StandsFor self.new (regrouped room.n room.me s) }
     {
-        match room.parts {
-            Some(parts) => self.begin(room.me, room.n, parts),
-            None => self.begin_again(room.me),
+        let EpochRoom { me, n, parts } = room;
+        match parts {
+            Some(parts) => self.begin(me, n, parts),
+            None => self.begin_again(me),
         }
     }
 

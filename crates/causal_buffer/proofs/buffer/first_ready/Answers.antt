@@ -1,11 +1,11 @@
-use Rattle.std.proofs.Common.{◌≡◌, ◌+◌, ◌<◌, ◌≤◌, All, List, length, set, get_or, refl, sym, ap, subst, ◌∙◌, arith}
+use Rattle.std.proofs.Common.{◌≡◌, ◌+◌, ◌<◌, All, length, set, refl, sym, ap, subst, ◌∙◌, arith}
 use Rattle.std.specs.List.{find, flat_map}
 use Rattle.std.specs.Option.{option_map, IfNone}
 use Rattle.std.proofs.lemmas.List.{length-set}
 use Rattle.op_base.specs.Timestamp.{entry}
 use Rattle.op_base.specs.Message.{id_of, number}
 use Rattle.op_base.specs.declared.message.Message.{Message}
-use Rattle.causal_buffer.specs.Queue.{messages, is_ready, AreKept, IsKept, AreUnready, IsLowest}
+use Rattle.causal_buffer.specs.Queue.{messages, is_ready, AreKept, IsKept, AreUnready}
 use Rattle.causal_buffer.specs.Watch.{IsWatch, IsWaiting, NextWaits}
 use Rattle.causal_buffer.proofs.Kept.{kept_at, kept_set, kept_waiting, none_from, ready_in_queue, found_is_lowest}
 use Rattle.causal_buffer.proofs.Parts.{set_alike}

@@ -1,15 +1,12 @@
-use Rattle.std.proofs.Common.{◌≡◌, ◌+◌, ◌<◌, ◌≤◌, false, List, length, set, get_or, refl, sym, ap, subst, ◌∙◌, None, arith}
-use Rattle.std.specs.List.{find, flat_map}
+use Rattle.std.proofs.Common.{◌≡◌, ◌+◌, ◌<◌, List, length, set, sym, ap, subst, ◌∙◌, arith}
+use Rattle.std.specs.List.{flat_map}
 use Rattle.std.specs.Option.{IfNone}
 use Rattle.std.proofs.lemmas.Bool.{leb-false}
-use Rattle.std.proofs.lemmas.List.{length-set}
 use Rattle.op_base.specs.Timestamp.{entry}
-use Rattle.op_base.specs.Message.{number, id_of}
-use Rattle.op_base.specs.declared.message.Message.{Message}
+use Rattle.op_base.specs.Message.{number}
 use Rattle.causal_model.specs.Counts.{is_deliverable}
 use Rattle.causal_model.proofs.States.Early.{fits_member}
 use Rattle.causal_model.proofs.Theory.Finds.{none_passes}
-use Rattle.causal_buffer.specs.declared.watch.Watch.{Watch}
 use Rattle.causal_buffer.specs.Queue.{messages, AreKept, AreUnready}
 use Rattle.causal_buffer.specs.Watch.{IsClosed, IsWatch, HasNoneAfter}
 use Rattle.causal_buffer.proofs.Following.{AreUndeliverable, all_steps_within, no_steps_within, one_step_within}

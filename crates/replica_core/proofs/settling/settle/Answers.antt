@@ -7,7 +7,6 @@ use Rattle.causal_model.specs.Covering.{store_keeps, store_covers}
 use Rattle.causal_model.specs.History.{History, with_message}
 use Rattle.causal_model.proofs.Lists.KeptOfOneMore.{kept_of_one_more}
 use Rattle.list_type.specs.Shown.{shown as lists_shown}
-use Rattle.polog.specs.Value.{Log}
 use Rattle.stable_state.specs.Shown.{shown}
 use Rattle.replica_core.specs.Settling.{AreReady, AreLogged, room_of, applied_of, CanBeApplied}
 use Rattle.replica_core.proofs.Settles.{origin_of, fits_of, fresh_of, pruned_has_room, pruned_is_numbered, are_logged, can_be_put, fresh_is_prop, can_be_applied, range_is_prop, applied_has_range, no_more_than_came, pruned_of, logged_of}

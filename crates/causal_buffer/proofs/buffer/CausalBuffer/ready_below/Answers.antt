@@ -1,7 +1,7 @@
 use Rattle.std.proofs.Common.{◌≡◌, length, sym, ap, subst, ◌∙◌}
 use Rattle.std.specs.List.{flat_map}
 use Rattle.causal_buffer.specs.Buffer.{Buffer}
-use Rattle.causal_buffer.specs.Queue.{messages, AreKept, AreQueues}
+use Rattle.causal_buffer.specs.Queue.{messages, AreKept}
 use Rattle.causal_buffer.specs.Watch.{IsWatch}
 use Rattle.causal_buffer.proofs.Kept.{same_are_queues}
 use Rattle.causal_buffer.proofs.buffer.CausalBuffer.ready_below.Goals as goal

@@ -1,6 +1,6 @@
-use Rattle.std.proofs.Common.{true, false, length, sym, ap, subst, ◌∙◌, arith}
+use Rattle.std.proofs.Common.{length, sym, ap, subst, arith}
 use Rattle.std.proofs.lemmas.Bool.{false_from_ne_true}
-use Rattle.causal_buffer.specs.Watch.{IsClosed, IsWatch}
+use Rattle.causal_buffer.specs.Watch.{IsWatch}
 use Rattle.causal_buffer.proofs.Watched.{counted_is_watched}
 use Rattle.causal_buffer.proofs.watch.Watch.count.Goals as goal
 

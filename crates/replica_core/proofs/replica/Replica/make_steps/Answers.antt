@@ -2,7 +2,6 @@ use Rattle.std.proofs.Common.{◌≡◌, ◌+◌, ◌<◌, ◌≤◌, List, leng
 use Rattle.std.proofs.Math.Logic.{∥∥₁_elim, ∥∥₁_map}
 use denote.Struct.Props.{props}
 use Rattle.std.proofs.lemmas.Bool.{cond-true, cond-false}
-use Rattle.std.proofs.lemmas.List.{length_push}
 use Rattle.op_base.specs.Message.{id_of}
 use Rattle.op_base.specs.declared.outcome.Step.{Step}
 use Rattle.causal_model.specs.Early.{without}
@@ -90,9 +89,12 @@ loop-steps-preserved c =
       settings = same_settings_after old now new making.settings (record { me = taken.me; n = taken.n; w = taken.w; limit = taken.limit; epoch = taken.epoch });
       room = ∥∥₁_map making.room (λ x.
           let is = c.take.ensures.step x.0 (is_next_of here x.0 x.1 _ refl) in
-          let left = left_have_room now.w x.0 made step new (vec_capacity c.loop-steps.steps) is x.2 in
-          (state_with now.w x.0 is.message, is.stands, subst (λ w. length c.push_reserved.new.self.items + length (steps w (state_with now.w x.0 is.message)).0 ≤ vec_capacity c.push_reserved.new.self) (sym taken.w)
-          (omega (arith, left, ap length c.push_reserved.ensures.items, c.push_reserved.ensures.capacity))));
+          let left = left_have_room now.w x.0 made step new (vec_capacity c.loop-steps.steps) is x.2 in (
+            state_with now.w x.0 is.message,
+            is.stands,
+            subst (λ w. length c.push_reserved.new.self.items + length (steps w (state_with now.w x.0 is.message)).0 ≤ vec_capacity c.push_reserved.new.self) (sym taken.w)
+                (omega (arith, left, ap length c.push_reserved.ensures.items, c.push_reserved.ensures.capacity)),
+          ));
       are_made = λ s stands.
           let has = making.are_made s stands in
           subst (λ (all : List Step). HasMade old.w s before all new) (sym c.push_reserved.ensures.items)

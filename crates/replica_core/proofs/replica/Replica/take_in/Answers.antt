@@ -1,5 +1,4 @@
 use Rattle.std.proofs.Common.{◌≡◌, false, IsTrue, List, [], ◌∷◌, ◌++◌, length, vec_capacity, sym, ap, subst, ◌∙◌, refl, arith}
-use Rattle.std.proofs.lemmas.List.{length_push}
 use Rattle.std.proofs.Math.Logic.{∥∥₁_elim, ∥∥₁_map}
 use denote.Struct.Props.{props}
 use Rattle.op_base.specs.Message.{fits}
@@ -16,7 +15,7 @@ use Rattle.replica_core.specs.Standing.{Standing, StandsForSome}
 use Rattle.replica_core.specs.Steps.{HasMade, IsNextOf}
 use Rattle.replica_core.specs.declared.replica.Replica.{Replica}
 use Rattle.replica_core.proofs.Comes.{comes_as_next}
-use Rattle.replica_core.proofs.Keeps.{length-put_early, kept_stands}
+use Rattle.replica_core.proofs.Keeps.{kept_stands}
 use Rattle.replica_core.proofs.Made.{first_is_made, next_has_room}
 use Rattle.replica_core.proofs.Stands.{member_in, length-counts_in, buffer_n_in, ahead_in, near_in}
 use Rattle.replica_core.proofs.replica.Replica.take_in.Goals as goal
