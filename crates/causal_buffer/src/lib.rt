@@ -8,8 +8,6 @@ mod buffer;
 mod laws;
 mod queue;
 mod row;
-#[cfg(test)]
-mod tests;
 mod watch;
 
 pub use buffer::{CausalBuffer, Offer, is_deliverable};

@@ -6,8 +6,6 @@
 
 mod laws;
 mod sum;
-#[cfg(test)]
-mod tests;
 
 pub use laws::sums_of_histories_are_in_range;
 pub use sum::count_sum;

@@ -6,8 +6,6 @@
 
 mod flag;
 mod register;
-#[cfg(test)]
-mod tests;
 
 pub use flag::flag_on;
 pub use register::mvreg_values;

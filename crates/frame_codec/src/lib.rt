@@ -28,6 +28,3 @@ pub use laws::{
 };
 pub use version::Version;
 pub use worked::faults_are_told_in_order;
-
-#[cfg(test)]
-mod tests;

@@ -10,8 +10,6 @@ mod lists;
 mod putting;
 mod removals;
 mod taking;
-#[cfg(test)]
-mod tests;
 mod tree;
 mod walk;
 

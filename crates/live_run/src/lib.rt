@@ -32,6 +32,3 @@ pub use posting::{post_at, take_at};
 pub use text::put_live_text;
 pub use told::{ClientDone, ClientStopped, CourierDone, Told};
 pub use workers::{Done, Job, Plan, work_all};
-
-#[cfg(test)]
-mod tests;

@@ -13,6 +13,3 @@ mod seen;
 pub use laws::worked_rolls;
 pub use mailbox::{MailPass, Mailbox};
 pub use seen::{Line, Posted, Seen};
-
-#[cfg(test)]
-mod tests;

@@ -11,8 +11,6 @@ mod order;
 mod outcome;
 mod room;
 mod tag;
-#[cfg(test)]
-mod tests;
 mod validity;
 mod verb;
 

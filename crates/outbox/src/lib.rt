@@ -6,8 +6,6 @@
 
 mod laws;
 mod outbox;
-#[cfg(test)]
-mod tests;
 
 pub use laws::the_next_message_is_pushed;
 pub use outbox::Outbox;

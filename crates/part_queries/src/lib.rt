@@ -11,8 +11,6 @@ mod heads;
 mod listing;
 mod marks;
 mod membership;
-#[cfg(test)]
-mod tests;
 
 pub use listing::values;
 pub use membership::has;

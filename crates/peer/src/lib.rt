@@ -8,8 +8,6 @@ mod answers;
 mod hearing;
 mod peer;
 mod sending;
-#[cfg(test)]
-mod tests;
 
 pub use answers::{Beat, Heard, Updated};
 pub use peer::Peer;

@@ -12,8 +12,6 @@ mod reach;
 mod rows;
 mod search;
 mod sweep;
-#[cfg(test)]
-mod tests;
 
 pub use laws::{
     a_pruned_log_has_room, what_is_logged_can_be_stripped, what_is_not_kept_changes_nothing,

@@ -16,8 +16,6 @@ mod replica;
 mod sending;
 mod settling;
 mod step;
-#[cfg(test)]
-mod tests;
 
 pub use causal_model::{Beat, Local, Receive, Refusal};
 pub use create_fault::CreateFault;

@@ -21,8 +21,3 @@ pub use durably::Durably;
 pub use keep_world::{DurableList, KeepWorld};
 pub use laws::{a_front_of_bytes_is_read_as_a_front, what_was_sent_outlives_stops};
 pub use start::StartFault;
-
-#[cfg(test)]
-mod keep_tests;
-#[cfg(test)]
-mod tests;

@@ -10,8 +10,6 @@ mod epochs;
 mod journal;
 mod node;
 mod recorder;
-#[cfg(test)]
-mod tests;
 
 pub use count::AskCount;
 pub use journal::Journal;

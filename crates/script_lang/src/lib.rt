@@ -34,6 +34,3 @@ pub use note::put_note;
 pub use number::read_number;
 pub use reply::{Reply, put_reply};
 pub use word::{Words, is_passed_over, split};
-
-#[cfg(test)]
-mod tests;

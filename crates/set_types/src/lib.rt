@@ -5,7 +5,5 @@
 #![tactic(auto)]
 
 mod set;
-#[cfg(test)]
-mod tests;
 
 pub use set::{set_contains, set_values};

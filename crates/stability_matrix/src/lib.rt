@@ -6,7 +6,5 @@
 
 mod columns;
 mod matrix;
-#[cfg(test)]
-mod tests;
 
 pub use matrix::Matrix;

@@ -11,8 +11,6 @@ mod laws;
 mod order;
 mod rank;
 mod shelf;
-#[cfg(test)]
-mod tests;
 mod view;
 
 pub use items::Items;

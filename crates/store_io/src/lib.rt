@@ -21,8 +21,3 @@ pub use standard::{StdinSource, StdoutSink};
 pub use steady::SteadySource;
 pub use steady_keeper::SteadyKeeper;
 pub use traits::{Failed, Sink, Source, write_whole};
-
-#[cfg(test)]
-mod keeper_tests;
-#[cfg(test)]
-mod tests;

@@ -8,8 +8,6 @@ mod dropping;
 mod held;
 mod laws;
 mod queue;
-#[cfg(test)]
-mod tests;
 mod window;
 
 pub use held::Held;

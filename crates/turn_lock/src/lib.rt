@@ -17,6 +17,3 @@ pub use lock::TurnLock;
 pub use rule::Story;
 pub use tokens::{Opener, Pass, Visit};
 pub use view::TurnEntry;
-
-#[cfg(test)]
-mod tests;

@@ -11,9 +11,6 @@ ghost use Rattle.causal_model.specs.Covering.{keeps_act, covers_act};
 use causal_model::TypeRule;
 use op_base::{Act, Kind, Update, Value};
 
-#[cfg(test)]
-mod tests;
-
 /// The rule of the store's own kinds, for all of their acts.
 #[derive(Clone, Copy, Debug, PartialEq, Eq)]
 pub struct StoreRule;

@@ -8,11 +8,7 @@ mod draws;
 mod kind;
 mod laws;
 mod script;
-#[cfg(test)]
-mod script_tests;
 mod summary;
-#[cfg(test)]
-mod summary_tests;
 
 pub use laws::made_scripts_begin_with_a_header;
 pub use script::make;

@@ -12,8 +12,6 @@ mod offering;
 mod regrouping;
 mod sending;
 mod settling;
-#[cfg(test)]
-mod tests;
 mod world;
 
 pub use brief::{Brief, brief_of};
