@@ -15,8 +15,6 @@ mod replies;
 mod rows;
 mod script;
 mod shapes;
-#[cfg(test)]
-mod tests;
 
 pub use drawing::picture;
 pub use escape::put_escaped;

@@ -10,8 +10,6 @@ pub mod laws;
 mod line;
 mod reply;
 mod runner;
-#[cfg(test)]
-mod tests;
 pub mod worked;
 
 pub use feed::{Feed, Stage, Stop, transcript};

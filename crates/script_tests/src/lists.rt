@@ -1,6 +1,6 @@
 //! Scripts with lists: each line with its reply, as worked by hand.
 
-use crate::tests::scripts::Script;
+use crate::scripts::Script;
 
 pub const LISTS: [Script; 5] = [
     // Two replicas put elements behind one; one is deleted, which another put something behind meanwhile; then all are cleared.

@@ -1,16 +1,11 @@
 //! Whole scripts: each line's reply, as worked by hand.
 
-mod changes;
-mod lists;
-mod scripts;
-mod stops;
-
-use crate::tests::changes::CHANGES;
-use crate::tests::lists::{KEPT_LISTS, LISTS};
-use crate::tests::scripts::{SCRIPTS, Script};
-use crate::tests::stops::STOPS;
-use crate::transcript;
+use crate::changes::CHANGES;
+use crate::lists::{KEPT_LISTS, LISTS};
+use crate::scripts::{SCRIPTS, Script};
+use crate::stops::STOPS;
 use op_base::{NoMemory, Text};
+use script_net::transcript;
 use std::alloc::Global;
 use std::test::Fail;
 

@@ -1,6 +1,6 @@
 //! Scripts of durable replicas: each line with its reply, as worked by hand.
 
-use crate::tests::scripts::Script;
+use crate::scripts::Script;
 
 pub const STOPS: [Script; 4] = [
     // What is received is lost by a stop, but for whole records that outlive it; what is sent syncs all.

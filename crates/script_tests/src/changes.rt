@@ -1,6 +1,6 @@
 //! Scripts in which the members change: each line with its reply, as worked by hand.
 
-use crate::tests::scripts::Script;
+use crate::scripts::Script;
 
 pub const CHANGES: [Script; 5] = [
     // A third member begins with what the others have, and its remove comes to one of them; then one member is left.
