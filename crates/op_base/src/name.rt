@@ -2,7 +2,7 @@
 //!
 //! Their texts are this project's own profile. UTF-8 is tested by `simdutf8`.
 
-ghost use Rattle.std.specs.Prelude.{◌≡◌, ◌≢◌, ◌≤◌, ◌+◌, ◌-◌, ◌*◌, ◌++◌, length, take, drop, replicate, IfOk, IfErr, OnOk, IsOk, IsTrue, position, not, Some, Ok};
+ghost use Rattle.std.specs.Prelude.{◌≡◌, ◌≢◌, ◌≤◌, ◌+◌, ◌-◌, ◌*◌, ◌<◌, [], ◌∷◌, ◌++◌, length, take, drop, replicate, vec_len, vec_capacity, IfOk, IfErr, OnOk, OnErr, IsOk, IsTrue, position, not, Some, Ok};
 ghost use Rattle.op_base.specs.declared.name.TheConstants.{VALUE_BYTES_IN_PLACE};
 ghost use Rattle.std.specs.List.{list_all};
 ghost use Rattle.std.specs.Prelude.{nat_eq, refl};
@@ -496,6 +496,31 @@ impl Value {
         ensures in_place { length self.now ≤ VALUE_BYTES_IN_PLACE → IsOk result }
     {
         Ok(self.copied(self.room(alloc)?))
+    }
+
+    /// Puts an equal value at the end of values that have room for it. One that stands in place takes no memory; `NoMemory`
+    /// leaves the values as they were.
+    #[inline(always)]
+    pub fn push_copy(&self, alloc: Global, values: &mut Vec<Value>) -> Result<(), NoMemory>
+        requires room { vec_len values.old < vec_capacity values.old }
+        ensures pushed { OnOk result (values.new.items ≡ values.old.items ++ self.now ∷ []) }
+        ensures stays { OnErr result (values.new.items ≡ values.old.items) }
+        ensures len { OnOk result (vec_len values.new ≡ vec_len values.old + 1) }
+        ensures capacity { vec_capacity values.new ≡ vec_capacity values.old }
+        ensures in_place { length self.now ≤ VALUE_BYTES_IN_PLACE → IsOk result }
+    {
+        match &self.stored {
+            Stored::Short(short) => values.push_reserved(Value {
+                stored: Stored::Short(*short),
+            }),
+            Stored::Long(bytes) => {
+                let copy = Vec::from_slice(alloc, bytes.as_slice())?;
+                values.push_reserved(Value {
+                    stored: Stored::Long(copy),
+                });
+            }
+        }
+        Ok(())
     }
 
     /// Takes what a copy of the value needs memory for: nothing, where it stands in place. `NoMemory` leaves nothing behind.

@@ -207,11 +207,7 @@ fn add(alloc: Global, kind: Kind, values: &mut Vec<Value>, found: Found<'_>) -> 
     if !found.marks.is_in(kind) {
         return Ok(());
     }
-    match found.value.copy(alloc) {
-        Ok(value) => values.push_reserved(value),
-        Err(error) => return Err(error),
-    }
-    Ok(())
+    found.value.push_copy(alloc, values)
 }
 
 /// Puts the value of a find at the end, where it is in.
