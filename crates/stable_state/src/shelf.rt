@@ -183,6 +183,7 @@ impl Shelf {
     }
 
     /// The place of the item of an object and a value, or `Err` with where it would stand. A spot is looked at first.
+    #[inline(always)]
     pub fn find(&self, near: Spot, object: &ObjectId, value: Option<&Value>) -> Result<Spot, Gap>
         ensures within { IfOk result (λ spot. spot.place < length self.now.items) }
         ensures few { length self.now.items < 2 ^ 64 }
