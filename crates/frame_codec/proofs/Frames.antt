@@ -1,6 +1,5 @@
 -- What the bytes say is the message that they spell, and no other.
 use Rattle.std.proofs.Common.{◌≡◌, ◌≢◌, ℕ, zero, suc, ◌+◌, ◌*◌, ◌^◌, ◌<◌, ◌≤◌, Bool, true, false, not, ◌||◌, ◌&&◌, List, [], ◌∷◌, ◌++◌, length, drop, refl, sym, ap, subst, ◌∙◌, append_assoc, arith, inl, inr}
-use Rattle.std.proofs.Math.Bool.{Bool-set}
 use Rattle.std.specs.Prelude.{Some, None, Result, Ok, Err, MatchResult, IfOk, IfErr, IsOk, IsTrue, All, nat_lt, nat_le, ◌==◌, slice_index, if◌then◌else◌}
 use Rattle.std.specs.List.{flat_map, list_any, AllByRecursion}
 use Rattle.std.proofs.lemmas.Bool.{and_parts, or_parts, and_from, or_from, eqb-true, eqb-false, ltb-true, ltb-false, leb-false, lt-ltb, le-ltb, lt-leb, eq-eqb, cases_lt, not-false, ne_eqb, cases_eq}
@@ -15,7 +14,6 @@ use Rattle.op_base.specs.Operation.{has_act, verb_of}
 use Rattle.op_base.specs.declared.message.Message.{Message}
 use Rattle.op_base.specs.declared.operation.Op.{Op}
 use Rattle.op_base.specs.declared.operation.Op.TheVariants as op
-use Rattle.op_base.specs.declared.operation.Update.{Update}
 use Rattle.op_base.specs.declared.name.Kind.{Kind}
 use Rattle.op_base.specs.declared.name.ObjectId.{ObjectId}
 use Rattle.op_base.specs.declared.verb.Verb.{Verb}
