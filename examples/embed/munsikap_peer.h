@@ -52,7 +52,7 @@ struct munsikap_peer {
 #define MUNSIKAP_EMPTY {NULL, false}
 
 /* No frame has more bytes. */
-#define MUNSIKAP_MOST_FRAME 4204
+#define MUNSIKAP_MOST_FRAME 4214
 
 /* What calls answer. */
 enum {

@@ -10,7 +10,7 @@ const KEPT: i32 = 10;
 const OLD: i32 = 11;
 const NO_FRAME: i32 = 14;
 const BAD_TEXT: i32 = 20;
-const MOST_FRAME: usize = 4204;
+const MOST_FRAME: usize = 4214;
 
 /// `struct munsikap_peer`. It is neither `Send` nor `Clone`: all calls of a handle stay on one thread, and no copy is a peer.
 #[repr(C)]

@@ -137,16 +137,37 @@ fn frames_of_each_shape_are_read_and_written(rt: HostRuntime) -> Result<(), Fail
     Ok(())
 }
 
-/// A value of the greatest length doesn't stand in place: it takes memory.
+/// The text of a list whose key has 32 bytes.
+const LONGEST_LIST: &[u8] = b"list:kkkkkkkkkkkkkkkkkkkkkkkkkkkkkkkk";
+
+/// The first message of a store of 16 members: a value of 4096 bytes, which takes memory, is put into that list behind an
+/// element.
+fn longest(alloc: Global) -> Result<Message, Fail> {
+    let value = Value::read(alloc, &[b'v'; 4096])?;
+    let op = update(alloc, LONGEST_LIST, Act::Ins(value, Some(ELEMENT)))?;
+    let mut tag = Tag::zero(16);
+    tag.set(0, 1);
+    Ok(Message { origin: 0, tag, op })
+}
+
+/// Its frame.
+fn longest_frame(alloc: Global) -> Result<Vec<u8>, Fail> {
+    let mut bytes = b"\x02\0\x10\x14\0\0\0\0\0\0\0\x01".to_vec(alloc)?;
+    bytes.extend_from_slice(&[0; 60])?;
+    bytes.extend_from_slice(b"\0\x20kkkkkkkkkkkkkkkkkkkkkkkkkkkkkkkk\x10\0")?;
+    bytes.extend_from_slice(&[b'v'; 4096])?;
+    bytes.extend_from_slice(b"\x01\0\0\0\x07\x0F\0\0\0\x02")?;
+    Ok(bytes)
+}
+
+/// It has as many bytes as `MUNSIKAP_MOST_FRAME` of `examples/embed/munsikap_peer.h` says.
 #[test]
-fn a_value_of_4096_bytes_is_written_and_read(rt: HostRuntime) -> Result<(), Fail> {
+fn the_longest_frame_is_written_and_read(rt: HostRuntime) -> Result<(), Fail> {
     let alloc = rt.alloc();
-    let value = [b'v'; 4096];
-    let mut bytes = b"\x02\0\x01\x01\0\0\0\0\0\0\0\x01\0\x01s\x10\0".to_vec(alloc)?;
-    bytes.extend_from_slice(&value)?;
-    let add = Act::Add(Value::read(alloc, &value)?);
-    let wanted = first(update(alloc, b"awset:s", add)?);
-    assert!(rt; is_read_and_written(alloc, &bytes, &bytes, 1, 0, &wanted)?);
+    let bytes = longest_frame(alloc)?;
+    let wanted = longest(alloc)?;
+    assert!(rt; bytes.len() == 4214);
+    assert!(rt; is_read_and_written(alloc, &bytes, &bytes, 16, 0, &wanted)?);
     Ok(())
 }
 
