@@ -49,6 +49,7 @@ pub record IsFirstMissing (counted : List ℕ) (m : Message) (member : ℕ) : Ty
 abbrev pub WaitsFor : ℕ → Wait → Message → Type 0
 WaitsFor member wait m = number m ≡ wait.seq → (wait.member ≢ member) × (wait.count ≤ entry m.tag wait.member)
 
+-- what is kept of a member's wait is true of each of its early messages
 abbrev pub AreWaiting : ℕ → Wait → List Message → Type 0
 AreWaiting member wait early = All (WaitsFor member wait) early
 

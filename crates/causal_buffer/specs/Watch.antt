@@ -19,7 +19,7 @@ pub record IsWaiting (counted awaited : List ℕ) (m : Message) : Type 0 where
 abbrev pub NextWaits : List ℕ → List ℕ → ℕ → List Message → Type 0
 NextWaits counted awaited member early = All (λ m. number m ≡ entry counted member + 1 → IsWaiting counted awaited m) early
 
--- a member isn't one of those of whom it isn't known that their next message waits
+-- of a member it is known that its next message waits: only of those from one up to, and not with, another it isn't
 abbrev pub IsClosed : Watch → ℕ → Type 0
 IsClosed watch member = watch.from ≤ member → watch.end ≤ member
 

@@ -145,7 +145,7 @@ impl CausalBuffer {
     ghost use Rattle.causal_buffer.specs.Standing.{IsBufferOf, AnswersInState, KeepsOffered, OfferKeepsState, KeepsEarly, KeepKeepsState, IsNextInState, TakesNext, IsTakenInState, KeepsStep};
 
     /// The buffer of a store of `n` members with a window `w`, with no message. It takes all the room that it will ever need,
-    /// and doesn't fill it.
+    /// and doesn't fill it. `NoMemory` leaves nothing behind.
     pub fn create(alloc: Global, n: u8, w: u8) -> Result<CausalBuffer, NoMemory>
         requires some { 1 ≤ n }
         requires few { n ≤ MOST_MEMBERS }
@@ -261,7 +261,8 @@ impl CausalBuffer {
     }
 
     /// Whether a message that isn't early, and can be delivered, would be taken next if it were kept: whether no early message of a
-    /// lower member can be delivered.
+    /// lower member can be delivered. Where it is `true`, the message is meant to be delivered or dropped next: what is known of
+    /// which messages wait counts it already. Nothing would be wrong otherwise, but more would be searched.
     pub fn comes_next(&mut self, message: &Message, counts: &Tag) -> bool
         requires fits { IsTrue (fits self.old.n message.now) }
         requires counts { length counts.now ≡ self.old.n }
@@ -360,7 +361,8 @@ impl CausalBuffer {
     }
 
     /// For how many steps there has to be room where a message that isn't early becomes so, and then what can be delivered is
-    /// taken: for no more than one where it is known that no other follows.
+    /// taken: 0 where none can be, 1 where it is known that no other follows or none is early, and else one for each early
+    /// message and one for it.
     pub fn most_steps(&mut self, message: &Message, counts: &Tag) -> usize
         requires fits { IsTrue (fits self.old.n message.now) }
         requires counts { length counts.now ≡ self.old.n }

@@ -97,7 +97,7 @@ const NO_WAIT: Wait = Wait {
 };
 
 impl Queue {
-    /// The queue with no message and with room for so many places.
+    /// The queue with no message and with room for so many places. `NoMemory` leaves nothing behind.
     pub fn create(alloc: Global, room: usize) -> Result<Queue, NoMemory>
         requires { room ≤ 65535 }
         ensures kept { IfOk result (λ queue. (member : ℕ) → IsQueue member queue) }

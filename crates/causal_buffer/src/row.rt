@@ -32,7 +32,7 @@ impl Model for Places {
 }
 
 impl Places {
-    /// No places, with room for so many.
+    /// No places, with room for so many. `NoMemory` leaves nothing behind.
     pub fn create(alloc: Global, room: usize) -> Result<Places, NoMemory>
         requires { room ≤ 65535 }
         ensures { IfOk result (λ p. p ≡ record { room = room; items = [] }) }

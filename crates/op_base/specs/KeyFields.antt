@@ -14,6 +14,7 @@ text_of k = take k.len k.bytes
 abbrev pub IsStored : Inside → Type 0
 IsStored k = IsTrue (is_key (text_of k)) × HasZerosBehind 32 k.len k.bytes
 
+-- the fields of a text
 abbrev pub stored : List ℕ → Inside
 stored text = record { len = length text; bytes = text ++ replicate (32 - length text) 0 }
 

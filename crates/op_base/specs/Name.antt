@@ -81,6 +81,7 @@ kinds = AwSet ∷ RwSet ∷ EwFlag ∷ DwFlag ∷ MvReg ∷ Counter ∷ RCounter
 abbrev pub kind_of : List ℕ → Option Kind
 kind_of bytes = find (λ kind. same_text (kind_word kind) bytes) kinds
 
+-- whether a byte is a colon
 abbrev pub is_colon : ℕ → Bool
 is_colon b = b == 58
 

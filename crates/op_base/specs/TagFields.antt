@@ -8,9 +8,11 @@ use Rattle.op_base.specs.declared.tag.Tag.TheInside.{Inside}
 abbrev pub IsPadded : Inside → Type 0
 IsPadded t = (1 ≤ t.n) × (t.n ≤ 16) × (length t.parts ≡ 16) × (drop t.n t.parts ≡ replicate (16 - t.n) 0)
 
+-- the numbers of the members
 abbrev pub numbers_of : Inside → List ℕ
 numbers_of t = take t.n t.parts
 
+-- the fields of so many numbers
 abbrev pub padded : List ℕ → Inside
 padded numbers = record { n = length numbers; parts = numbers ++ replicate (16 - length numbers) 0 }
 

@@ -12,6 +12,7 @@ use Rattle.op_base.specs.declared.operation.Op.TheVariants as op
 abbrev pub is_valid_id : ElementId → Bool
 is_valid_id id = nat_lt id.epoch 4294967296 && nat_lt id.origin 256 && nat_lt id.seq 4294967296
 
+-- whether a place in a list is the beginning, or the id of an element
 abbrev pub is_valid_place : Option ElementId → Bool
 is_valid_place None = true
 is_valid_place (Some id) = is_valid_id id

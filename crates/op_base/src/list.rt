@@ -35,7 +35,8 @@ impl<T> ListOf<T> {
         }
     }
 
-    /// The empty list, with room for so many elements. The room saves time, and contracts don't see it.
+    /// The empty list, with room for so many elements. The room saves time, and contracts don't see it. `NoMemory` leaves
+    /// nothing behind.
     pub fn with_capacity(alloc: Global, capacity: usize) -> Result<ListOf<T>, NoMemory>
         ensures { IfOk result (λ list. list ≡ []) }
     {
@@ -99,7 +100,7 @@ impl<T> ListOf<T> {
         Ok(())
     }
 
-    /// Puts copies of the elements at the end.
+    /// Puts copies of the elements at the end. `NoMemory` leaves the list as it was.
     pub fn extend_from_slice(&mut self, elements: &[T]) -> Result<(), NoMemory>
     where
         T: Copy,

@@ -1,10 +1,10 @@
-//! Want of memory, the one answer that a call may give at any time.
+//! Want of memory, as an error.
 
 use std::alloc::{AllocError, AllocFailed};
 use std::error::Error;
 use std::fmt;
 
-/// There is no memory for what was asked. The receiver of the call is as it was.
+/// There is no memory for what was asked. What a call leaves then, the call says.
 #[derive(Clone, Copy, Debug, PartialEq, Eq)]
 pub struct NoMemory;
 

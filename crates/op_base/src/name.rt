@@ -63,7 +63,7 @@ pub enum Kind {
 pub enum NameFault {
     /// There is no byte.
     Empty,
-    /// There are more bytes than a name may have.
+    /// There are more bytes than a name may have: 32 of a key, 4096 of a value.
     TooLong,
     /// The byte at this place, counted from 0, may not stand there. It is the first such byte.
     BadByte { at: usize },
@@ -198,7 +198,7 @@ impl Kind {
         }
     }
 
-    /// The kind whose word this is.
+    /// The kind whose word this is, or `None` where it is no kind's.
     pub fn read(bytes: &[u8]) -> Option<Kind>
         ensures { result ≡ kind_of bytes.now }
     {

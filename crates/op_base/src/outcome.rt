@@ -54,7 +54,8 @@ pub enum Step {
 /// What a query of an object answers.
 #[derive(Debug, PartialEq, Eq, Drop)]
 pub enum Answer {
-    /// The values of a set or a register, in byte order and each once.
+    /// The values of a set or a register, in byte order and each once; or those of a list, in its order, each as often as it is
+    /// shown.
     Values(ListOf<Value>),
     /// Whether a flag is on.
     Flag(bool),

@@ -37,7 +37,7 @@ impl Model for Tag {
 pub struct MessageId {
     /// The member that sent it.
     pub origin: u8,
-    /// How many messages the member had sent with it, from 1.
+    /// How many messages the member had sent in its epoch with it, from 1.
     pub seq: u32,
 }
 

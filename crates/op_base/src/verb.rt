@@ -72,7 +72,7 @@ const OPERATIONS: [(Kind, Verb); 22] = [
     (Kind::List, Verb::Clear),
 ];
 
-/// The operation of a code: the kind of its objects, and what is done to them.
+/// The operation of a code, 1 to 22: the kind of its objects, and what is done to them.
 pub fn operation_of(code: u8) -> (Kind, Verb)
     requires from { 1 ≤ code }
     requires to { code ≤ 22 }
@@ -100,7 +100,7 @@ impl Verb {
         }
     }
 
-    /// The verb whose word this is.
+    /// The verb whose word this is, or `None` where it is no verb's.
     pub fn read(bytes: &[u8]) -> Option<Verb>
         ensures { result ≡ verb_of_word bytes.now }
     {

@@ -46,6 +46,7 @@ impl Outbox {
     ghost use Rattle.outbox.specs.Standing.{SendsNext, DropsAfter};
 
     /// The empty outbox of a member of a store of `n` members with a window `w`, with the memory for all that it may hold.
+    /// `NoMemory` leaves nothing behind.
     pub fn create(alloc: Global, n: u8, w: u8) -> Result<Outbox, NoMemory>
         requires some { 1 ≤ n }
         requires few { n ≤ MOST_MEMBERS }

@@ -23,11 +23,12 @@ with_byte mark byte = ((mark * 16777619) % 2 ^ 32 + byte) % 2 ^ 32
 unfoldable pub mark_of_text : List ℕ → ℕ
 mark_of_text bytes = fold with_byte 0 (drop (length bytes - 32) bytes)
 
--- the mark of the value that an act names, or 0
+-- the mark of a value, or 0 where there is none
 abbrev pub mark_of_named : Option (List ℕ) → ℕ
 mark_of_named None = 0
 mark_of_named (Some value) = mark_of_text value
 
+-- the mark of the value that an act names, or 0 where it names none
 abbrev pub mark_of : Act → ℕ
 mark_of act = mark_of_named (value_of act)
 

@@ -9,7 +9,7 @@ use crate::rows::Rows;
 use op_base::{IdList, MessageId, NoMemory};
 use std::alloc::Global;
 
-/// The id of each entry beside its number.
+/// The id of each entry beside its number. `NoMemory` leaves nothing behind.
 pub fn numbered_ids(rows: &Rows, alloc: Global) -> Result<Vec<(u64, MessageId)>, NoMemory>
     requires { Each (λ r. r.1.origin < length r.1.tag) rows.now.rows }
     ensures { IfOk result (λ v. v.items ≡ map (λ r. (r.0, id_of (message_of r.1))) rows.now.rows) }
@@ -21,7 +21,7 @@ pub fn numbered_ids(rows: &Rows, alloc: Global) -> Result<Vec<(u64, MessageId)>,
     Ok(ids)
 }
 
-/// The ids of rows, without their numbers.
+/// The ids of rows, without their numbers. `NoMemory` leaves nothing behind.
 pub fn without_numbers(rows: &[(u64, MessageId)], alloc: Global) -> Result<IdList, NoMemory>
     ensures { IfOk result (λ ids. ids ≡ map (λ r. r.1) rows.now) }
 {

@@ -38,8 +38,8 @@ pub struct Polog {
     rows: Rows,
     /// What was stripped and waits to be handed out, the last to arrive first.
     leaving: Vec<(u64, Entry)>,
-    /// From which place on and up to which place the entries stood of the object that was asked for last. A search tries
-    /// these places first.
+    /// Where a search looks first: from which place on and up to which place the entries stood of the object of which one was
+    /// pruned or put in last. Others may stand there by now.
     last: (usize, usize),
 }
 
@@ -57,7 +57,8 @@ impl Model for Polog {
 }
 
 impl Polog {
-    /// An empty log of a store of `n` members, with room for `w` entries of each. `NoMemory` leaves nothing behind.
+    /// An empty log of a store of `n` members, with room for `n * w` entries, whoever sent them. `NoMemory` leaves nothing
+    /// behind.
     pub fn create(alloc: Global, n: u8, w: u8) -> Result<Polog, NoMemory>
         requires some { 1 ≤ n }
         requires few { n ≤ 16 }

@@ -39,7 +39,7 @@ impl Model for Rows {
 }
 
 impl Rows {
-    /// No rows, with room for so many.
+    /// No rows, with room for so many. `NoMemory` leaves nothing behind.
     pub fn create(alloc: Global, room: usize) -> Result<Rows, NoMemory>
         ensures { IfOk result (λ t. t ≡ record { room = room; rows = [] }) }
     {

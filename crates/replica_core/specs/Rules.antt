@@ -63,6 +63,7 @@ abbrev pub local_of : Result Message Local → Local
 local_of (Ok m) = local.Sent m
 local_of (Err answer) = answer
 
+-- the same of a no-op
 abbrev pub beat_of : Result Message Beat → Beat
 beat_of (Ok m) = beat.Sent m
 beat_of (Err answer) = answer

@@ -71,8 +71,8 @@ pub record IsStepOf (w : ℕ) (s : State) (step : Step) (new : Replica) : Type 0
 abbrev pub behind : List Step → List Step × State → List Step × State
 behind before made = (before ++ made.0, made.1)
 
--- behind steps that there were, those of a state are the ones that were made, and then those of a state that the fields stand for
--- now
+-- of the steps of a state the first are made: behind those that there were before, what is made and the steps of the state after
+-- it are all of them. The fields stand for that state now
 pub record HasMade (w : ℕ) (s : State) (before made : List Step) (now : Replica) : Type 0 where
   pub after : State
   pub stands : StandsFor now after

@@ -75,7 +75,8 @@ impl Replica {
         true
     }
 
-    /// The room in which this replica can begin the next epoch as member `me` of `n` members, for `turn`. This one stays.
+    /// The room in which this replica can begin the next epoch as member `me` of `n` members, for `turn`. This one stays, and
+    /// `NoMemory` leaves nothing behind.
     pub fn room(&self, alloc: Global, me: u8, n: u8) -> Result<EpochRoom, NoMemory>
         requires numbers { IsTrue (are_numbers me n self.now.w self.now.limit) }
         ensures me { IfOk result (λ room. room.me ≡ me) }
@@ -159,7 +160,8 @@ impl Replica {
     }
 
     /// The replica that begins the next epoch as member `me` of `n` members: it has what this one has settled, its lists, and no
-    /// message of that epoch. It takes the memory for all but more items and elements. This one stays.
+    /// message of that epoch. It takes the memory for all but more items and elements. This one stays, and `NoMemory` leaves nothing
+    /// behind.
     pub fn next(&self, alloc: Global, me: u8, n: u8) -> Result<Replica, NoMemory>
         requires numbers { IsTrue (are_numbers me n self.now.w self.now.limit) }
         requires settled { (s : State) → StandsFor self.now s → IsTrue (is_all_stable s.history.present) }

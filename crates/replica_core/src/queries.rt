@@ -77,7 +77,7 @@ impl Replica {
     }
 
     /// What an object is, whatever its kind: the values of a set or a register in byte order, those of a list in its order,
-    /// whether a flag is on, or the value of a counter.
+    /// whether a flag is on, or the value of a counter. `NoMemory` leaves nothing behind.
     pub fn answer(&self, alloc: Global, object: &ObjectId) -> Result<Answer, NoMemory>
         ensures answer { IfOk result (λ a. (s : State) → StandsFor self.now s → a ≡ answer object.now (events s.history)) }
     {

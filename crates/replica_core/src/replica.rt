@@ -27,11 +27,11 @@ pub struct Replica {
     pub me: u8,
     /// How many members the store has.
     pub n: u8,
-    /// How many of its own operations may be unstable at once.
+    /// How many of its own operations may be unstable at once, 1 to 64.
     pub w: u8,
-    /// How many messages it may send.
+    /// How many messages it may send in an epoch, 1 to 1000000.
     pub limit: u32,
-    /// The epoch that it is in.
+    /// The epoch that it is in, 0 to 65535.
     pub epoch: u32,
     /// How many messages of each member were delivered in this epoch.
     pub counts: Tag,
@@ -59,7 +59,9 @@ pub struct Replica {
 impl Replica {
     ghost use Rattle.replica_core.specs.Rules.{StandsFor};
 
-    /// A replica that has no message yet, in epoch 0. It takes the memory for all but its items and lists.
+    /// A replica that has no message yet, in epoch 0. It takes the memory for all but its items and lists. It is `BadNumbers`
+    /// exactly where the numbers aren't those of a member of a store, and else `NoMemory` may come; neither leaves anything
+    /// behind.
     pub fn create(alloc: Global, me: u8, n: u8, w: u8, limit: u32) -> Result<Replica, CreateFault>
         ensures bad_numbers { IsErrOf result CreateFault.BadNumbers ↔ (are_numbers me n w limit ≡ false) }
         ensures me { IfOk result (λ r. r.me ≡ me) }

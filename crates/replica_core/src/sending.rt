@@ -163,7 +163,7 @@ impl Replica {
         self.window.own_unstable(self.me, true) == causal_model::most_noops(self.n, self.w)
     }
 
-    /// Whether the member has sent all the messages that it may.
+    /// Whether the member has sent all the messages that it may in this epoch.
     pub fn has_ended(&self) -> bool
         ensures { (s : State) → StandsFor self.now s → result ≡ (count_of s.history.present.messages self.now.me == self.now.limit) }
     {

@@ -30,7 +30,8 @@ use type_rules::StoreRule;
 
 /// Takes out of log and items what a message covers, puts the message into the log where its kind keeps it, and its element
 /// into a list where it has one, and moves what is stable now from the log into items and lists. Then the items' marks are
-/// settled. `before` has the stable counts without the message, and `stable` those with it.
+/// settled. `before` has the stable counts without the message, and `stable` those with it. The operation is taken out of the
+/// message where it is logged, put into a list or applied.
 pub fn settle(
     log: &mut Polog,
     items: &mut Items,

@@ -7,6 +7,7 @@ use Rattle.stability_matrix.specs.declared.matrix.Matrix.TheInside.{Inside}
 abbrev pub rows_of : Inside → List (List ℕ)
 rows_of m = take m.n m.rows
 
+-- what contracts see
 abbrev pub known_of : Inside → Known
 known_of m = record { me = m.me; rows = rows_of m }
 

@@ -13,8 +13,8 @@ use std::marker::Model;
 /// What member `me` of a store knows that each member has: a row for each. Contracts see `me` and the rows.
 ///
 /// The least of each column is kept. A message of another member may move all of them, so all are computed together then,
-/// row by row; where no entry that it moves was or becomes a least, all stay. An own one moves the column of the own member
-/// alone.
+/// row by row; where no entry that it moves was or becomes a least, all stay. The next own one moves the
+/// column of the own member alone.
 #[derive(Debug, Drop)]
 pub struct Matrix {
     n: u8,

@@ -17,7 +17,7 @@ use Rattle.stable_state.specs.Standing.{AreSettledOf, AreAbsorbed, AreMoved}
 abbrev pub NoOpCoversNothing : Type 0
 NoOpCoversNothing = (h : History) (m : Message) (s : Shelved) → m.op ≡ op.NoOp → AreSettledOf h s → AreAbsorbed h m 0 s
 
--- where a message is not of a counter, nothing is applied at once
+-- where a message is of another kind than counter, nothing is applied at once
 abbrev pub OthersAreNotApplied : Type 0
 OthersAreNotApplied = (h : History) (m : Message) (s : Shelved) → ((u : Update) → m.op ≡ op.Update u → u.object.kind ≢ Counter)
     → AreAbsorbed h m (length (stripped_of h m)) s → AreMoved h m s

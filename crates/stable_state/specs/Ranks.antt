@@ -21,7 +21,7 @@ rank_of object value = record { first = big_number 16 (item_text object value); 
 abbrev pub rank_cmp : Rank → Rank → Ordering
 rank_cmp rank other = ordering_then (nat_cmp rank.first other.first) (nat_cmp rank.second other.second)
 
--- an object has a key that is one, a value is one, and the first bytes of its item's text are bytes
+-- the key of an object is valid, and the value, where there is one; and the first bytes of their item's text are below 256
 pub record IsNamed (object : ObjectId) (value : Option (List ℕ)) : Type 0 where
   pub key : IsTrue (is_key object.key)
   pub valid : ForSome value (λ v. IsTrue (is_value v))

@@ -81,7 +81,7 @@ impl Items {
         is_in_range(&update.act, cell)
     }
 
-    /// Lets exactly what an update covers go. It takes no memory, and touches its object's items alone.
+    /// Lets exactly what an update covers go. It takes no memory, and changes no other object's items.
     pub fn cover(&mut self, update: &Update)
         ensures cells { (object : ObjectId) (value : Option (List ℕ)) → cell_in (shown self.new).items object value
             ≡ cell_uncovered object value (op.Update update.now) (cell_in (shown self.old).items object value) }

@@ -2,7 +2,7 @@
 
 ghost use Rattle.stable_state.specs.Laws.{NoOpCoversNothing, OthersAreNotApplied, AbsorbedSumsFit, AppliedSumsFit};
 
-/// A message that is a no-op leaves the items, and one that is not of a counter leaves them once the log's entries are in.
+/// A message that is a no-op leaves the items, and one of another kind than `counter` leaves them once the log's entries are in.
 pub fn other_messages_leave_items()
     ensures noop { NoOpCoversNothing }
     ensures other { OthersAreNotApplied }

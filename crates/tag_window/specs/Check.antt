@@ -53,5 +53,6 @@ abbrev pub crook_by : ℕ → ℕ → Window → Message → List ℕ → List �
 crook_by n w window m last stable =
     first_some (regress_in n m last ∷ first_some (map (unclosed_in n window m last) (members n)) ∷ overrun_in w window m stable ∷ noop_overrun_in (noop_window n w) window m stable ∷ [])
 
+-- the same by the window's own numbers
 abbrev pub crook_in : Window → Message → List ℕ → List ℕ → Option Crook
 crook_in window m last stable = crook_by (length window.held) window.w window m last stable

@@ -10,9 +10,9 @@ use std::marker::Model;
 
 /// A queue that has its whole room from the start.
 ///
-/// What it holds stands behind places that are free again. Once these are as many as it holds, all moves to the front: so at
-/// most one is moved for each one that goes, and of a block with much room only as much is touched as is twice what was held
-/// at once. The block has twice the room, so that there is no other reason to move.
+/// What it holds stands behind places that are free again. Where these are as many as it holds when more is put in, all moves
+/// to the front: so at most one is moved for each one that goes, and of a block with much room only as much is touched as is
+/// twice what was held at once. The block has twice the room, so that there is no other reason to move.
 #[derive(Drop)]
 pub struct Block {
     room: usize,
@@ -33,7 +33,7 @@ impl Model for Block {
 }
 
 impl Block {
-    /// The empty queue with room for so many.
+    /// The empty queue with room for so many. `NoMemory` leaves nothing behind.
     pub fn create(alloc: Global, room: usize) -> Result<Block, NoMemory>
         requires { room ≤ 65535 }
         ensures { IfOk result (λ b. b ≡ record { room = room; items = [] }) }

@@ -32,7 +32,7 @@ impl Model for Queue {
 }
 
 impl Queue {
-    /// The empty queue of a member of a store of so many, with its room.
+    /// The empty queue of a member of a store of so many, with its room. `NoMemory` leaves nothing behind.
     pub fn create(alloc: Global, n: u8, origin: u8, room: usize) -> Result<Queue, NoMemory>
         requires member { origin < n }
         requires small { room ≤ 65535 }
