@@ -1,14 +1,21 @@
 -- A test that parts lists one behind the other.
 use Rattle.std.proofs.Common.{◌≡◌, ℕ, zero, suc, ◌+◌, ◌-◌, ◌<◌, ◌≤◌, Bool, true, false, List, [], ◌∷◌, ◌++◌, length, get_or, take, All, refl, ap, sym, ◌∙◌, inl, inr, arith, length-append}
-use Rattle.std.specs.Prelude.{Some, slice_get, Vec}
-use Rattle.std.specs.List.{concat, AllWithin}
-use Rattle.std.specs.declared.alloc.Global.{Global}
+use Rattle.std.specs.Prelude.{HoldsAt}
+use Rattle.std.specs.List.{concat}
 use Rattle.std.specs.List.Sorted.{IsPartitionPoint, IsPartitionedBy}
 use Rattle.std.proofs.lemmas.Bool.{cases_lt, both_ways, false_from_ne_true}
-use Rattle.std.proofs.lemmas.List.{get_or_append_left, get_or-append-add, take_all, get_or-map, length-map}
+use Rattle.std.proofs.lemmas.List.{get_or_append_left, get_or-append-add, get_or_default, take_all}
 use Rattle.stable_state.specs.Chunks.{first_passes}
-use Rattle.stable_state.specs.ChunkFields.{parts_of}
 use Rattle.stable_state.proofs.Ends.{start_le, start_more, starts_rise}
+
+-- a test that parts a list does so where the item ahead passes and the one there doesn't
+pub point_at : {A : Type 0} (p : A → Bool) (xs : List A) (place : ℕ) → IsPartitionedBy p xs → place ≤ length xs
+    → (0 < place → HoldsAt (λ x. p x ≡ true) xs (place - 1)) → (place < length xs → HoldsAt (λ x. p x ≡ false) xs place)
+    → IsPartitionPoint (λ x. p x ≡ true) (λ x. p x ≡ false) xs place
+point_at p xs place parted within ahead there = (
+  λ k d from less. parted k (place - 1) d (omega (arith, less)) (omega (arith, less, within)) (ahead (omega (arith, less)) d),
+  λ k d from less. false_from_ne_true (p (get_or xs k d)) (λ t. both_ways (p (get_or xs place d)) (there (omega (arith, from, less)) d) (parted place k d from less t)),
+)
 
 -- the slots of a chunk stand side by side
 pub slot_at : (parts : List (List ℕ)) (k j d : ℕ) → k < length parts → j < length (get_or parts k []) → get_or (concat parts) (length (concat (take k parts)) + j) d ≡ get_or (get_or parts k []) j d
@@ -20,14 +27,9 @@ slot_at (part ∷ parts) (suc k) j d l within =
     let sum : length (part ++ concat (take k parts)) + j ≡ length part + (length (concat (take k parts)) + j) = omega (arith, length-append part (concat (take k parts))) in
     ap (λ n. get_or (part ++ concat parts) n d) sum ∙ get_or-append-add part (concat parts) (length (concat (take k parts)) + j) d ∙ slot_at parts k j d (omega (arith, l)) within
 
-first_at : (p : ℕ → Bool) (part : List ℕ) (d : ℕ) → 0 < length part → first_passes p part ≡ p (get_or part 0 d)
+pub first_at : (p : ℕ → Bool) (part : List ℕ) (d : ℕ) → 0 < length part → first_passes p part ≡ p (get_or part 0 d)
 first_at p [] d some = absurd (omega (arith, some))
 first_at p (slot ∷ part) d some = refl
-
--- what the first slot that is read tells
-pub first_of : (p : ℕ → Bool) (part : List ℕ) (slot : ℕ) → Some slot ≡ slice_get part 0 → p slot ≡ first_passes p part
-first_of p [] slot is = cc
-first_of p (first ∷ part) slot is = cc
 
 some_parts : (parts : List (List ℕ)) → 0 < length (concat parts) → 0 < length parts
 some_parts [] some = some
@@ -46,9 +48,13 @@ module _ (p : ℕ → Bool) (parts : List (List ℕ)) (some : All (λ part. 0 < 
   pub start_within : (k : ℕ) → k < length parts → length (concat (take k parts)) < length (concat parts)
   start_within k l = omega (arith, start_more parts k l, start_le parts (suc k), some k [] l)
 
-  pub firsts_parted : IsPartitionedBy p (concat parts) → (i j : ℕ) → i ≤ j → j < length parts → first_passes p (get_or parts j []) ≡ true → first_passes p (get_or parts i []) ≡ true
-  firsts_parted parted i j le l passes =
-      first_is i 0 (omega (arith, le, l)) ∙ parted (length (concat (take i parts))) (length (concat (take j parts))) 0 (starts_rise parts i j le) (start_within j l) (sym (first_is j 0 l) ∙ passes)
+  -- the chunks are parted by their first slots
+  pub firsts_parted : IsPartitionedBy p (concat parts) → IsPartitionedBy (first_passes p) parts
+  firsts_parted parted i j d le less passes =
+      let within : i < length parts = omega (arith, le, less) in
+      ap (first_passes p) (get_or_default parts i d [] within) ∙ first_is i 0 within
+      ∙ parted (length (concat (take i parts))) (length (concat (take j parts))) 0 (starts_rise parts i j le) (start_within j less)
+      (sym (first_is j 0 less) ∙ sym (ap (first_passes p) (get_or_default parts j d [] less)) ∙ passes)
 
   -- where no first slot passes, none does
   pub none_passes : IsPartitionedBy p (concat parts) → ((k : ℕ) → k < length parts → first_passes p (get_or parts k []) ≡ false)
@@ -94,19 +100,3 @@ module _ (p : ℕ → Bool) (parts : List (List ℕ)) (some : All (λ part. 0 < 
       let start = length (concat (take q parts)) in
       let inside : start + j < length (concat parts) = omega (arith, within, start_more parts q l, start_le parts (suc q)) in
       ap p (sym (slot_at parts q i d l (omega (arith, le, within)))) ∙ parted (start + i) (start + j) d (omega (arith, le)) inside (ap p (slot_at parts q j d l within) ∙ t)
-
--- ---- the same of chunks
-
--- what is known of the first slots of some chunks
-pub firsts_of : (answer : Bool) (p : ℕ → Bool) (lists : List (Vec ℕ Global)) (low high : ℕ) → AllWithin (λ list. first_passes p list.items ≡ answer) lists low high
-    → (k : ℕ) → low ≤ k → k < high → k < length lists → first_passes p (get_or (parts_of lists) k []) ≡ answer
-firsts_of answer p [] low high all k from less l = absurd (omega (arith, l))
-firsts_of answer p (list ∷ lists) low high all k from less l =
-    ap (first_passes p) (get_or-map (λ v. v.items) (list ∷ lists) k list [] l) ∙ all k list from less
-
-pub lists_parted : (p : ℕ → Bool) (lists : List (Vec ℕ Global)) → All (λ part. 0 < length part) (parts_of lists) → IsPartitionedBy p (concat (parts_of lists))
-    → IsPartitionedBy (λ list. first_passes p list.items) lists
-lists_parted p lists some parted i j d le l t =
-    let within : j < length (parts_of lists) = omega (arith, l, length-map lists (λ v. v.items)) in
-    let at : (k : ℕ) → k < length lists → first_passes p (get_or (parts_of lists) k []) ≡ first_passes p (get_or lists k d).items = λ k less. ap (first_passes p) (get_or-map (λ v. v.items) lists k d [] less) in
-    sym (at i (omega (arith, le, l))) ∙ firsts_parted p (parts_of lists) some parted i j le within (at j l ∙ t)

@@ -8,7 +8,7 @@ use Rattle.std.specs.Option.{option_cmp}
 use Rattle.std.specs.Ordering.{is_lt, is_gt, is_eq, ordering_then, ordering_reverse}
 use Rattle.std.specs.declared.cmp.Ordering.{Ordering}
 use Rattle.std.specs.declared.cmp.Ordering.TheVariants.{Less, Equal, Greater}
-use Rattle.std.proofs.lemmas.Bool.{both_ways, cases_eq, cases_lt, false_from_ne_true, not-true, not-false}
+use Rattle.std.proofs.lemmas.Bool.{both_ways, cases_eq, cases_lt, not-true, not-false}
 use Rattle.std.proofs.lemmas.Cmp.{upto, on_total, then_total, nat_cmp_total, nat_list_cmp_total}
 use Rattle.std.proofs.lemmas.List.{length-map, get_or_default, get_or-take, get_or-drop}
 use Rattle.std.proofs.lemmas.List.Elements.{All-cons}
@@ -24,6 +24,7 @@ use Rattle.causal_model.proofs.Cells.Places.{places_total}
 use Rattle.slab.specs.Slab.{Slab, get, ContainsKey}
 use Rattle.stable_state.specs.Places.{is_before, is_up_to, IsParted, RisesWithOneAt, IsGapFor, IsSpan}
 use Rattle.stable_state.specs.Slots.{no_item, item_in, items_in}
+use Rattle.stable_state.proofs.Parting.{point_at}
 use Rattle.stable_state.proofs.Slots.{held_item, item_at_place}
 
 abbrev pub IsLess : Item → Item → Type 0
@@ -89,23 +90,15 @@ module _ (items : List Item) (rise : Rise items) where
         ap not (upto objects_total x.object y.object object (first_not_greater (object_cmp x.object y.object) (option_cmp text_cmp x.value y.value) (rise i j d less within)) (not-true (is_gt (object_cmp y.object object)) t))
   ]
 
--- a test that parts items does so where the item ahead passes and the one there doesn't
-parted_at : (p : Item → Bool) (items : List Item) (place : ℕ) → IsPartitionedBy p items → place ≤ length items
-    → (0 < place → HoldsAt (λ item. p item ≡ true) items (place - 1)) → (place < length items → HoldsAt (λ item. p item ≡ false) items place) → IsParted p items place
-parted_at p items place parted within ahead there = (
-  λ k d from less. parted k (place - 1) d (omega (arith, less)) (omega (arith, less, within)) (ahead (omega (arith, less)) d),
-  λ k d from less. false_from_ne_true (p (get_or items k d)) (λ t. both_ways (p (get_or items place d)) (there (omega (arith, from, less)) d) (parted place k d from less t)),
-)
-
 pub parted_there : (items : List Item) (place : ℕ) → Rise items → place ≤ length items → (object : ObjectId) (value : Option (List ℕ))
     → (0 < place → HoldsAt (λ item. is_before object value item ≡ true) items (place - 1))
     → (place < length items → HoldsAt (λ item. is_before object value item ≡ false) items place) → IsParted (is_before object value) items place
-parted_there items place rise within object value = parted_at (is_before object value) items place (before_parts items rise object value) within
+parted_there items place rise within object value = point_at (is_before object value) items place (before_parts items rise object value) within
 
 pub up_to_there : (items : List Item) (place : ℕ) → Rise items → place ≤ length items → (object : ObjectId)
     → (0 < place → HoldsAt (λ item. is_up_to object item ≡ true) items (place - 1))
     → (place < length items → HoldsAt (λ item. is_up_to object item ≡ false) items place) → IsParted (is_up_to object) items place
-up_to_there items place rise within object = parted_at (is_up_to object) items place (up_to_parts items rise object) within
+up_to_there items place rise within object = point_at (is_up_to object) items place (up_to_parts items rise object) within
 
 -- what is before an object is up to it
 pub before_is_up_to : (object : ObjectId) (item : Item) → is_before object None item ≡ true → is_up_to object item ≡ true

@@ -253,23 +253,37 @@ impl Chunks {
         ensures partitioned { (p : ℕ → Bool) → ComputesKey P.FnMut p test → IsPartitionedBy p (concat self.now.parts)
             → IsPartitionPoint (λ slot. p slot ≡ true) (λ slot. p slot ≡ false) (concat self.now.parts) result.place }
     {
-        let behind = self.lists.partition_point(
-            |list: &Vec<usize>| -> bool
-                requires { P.IsAlwaysCallable test }
-                ensures { (p : ℕ → Bool) → ComputesKey P.FnMut p test → result ≡ first_passes p list.now.items }
-            {
-                match list.first() {
-                    Some(slot) => test(slot),
-                    None => false,
-                }
-            },
-        );
+        let behind = self.begun(&test);
         if behind == 0 {
             return Spot { place: 0, chunk: 0 };
         }
         let chunk = behind - 1;
-        let place = self.start(chunk) + self.lists[chunk].partition_point(test);
+        let place = self.start(chunk) + passed(self.part(chunk), &test);
         Spot { place, chunk }
+    }
+
+    /// How many of the chunks begin with a slot that passes a test, where those that do stand before the others. No chunk is
+    /// empty.
+    #[inline(always)]
+    fn begun<P: Fn(&usize) -> bool>(&self, test: &P) -> usize
+        requires callable { P.IsAlwaysCallable test.now }
+        requires some { All (λ part. 0 < length part) self.now.parts }
+        ensures few { length (concat self.now.parts) < 2 ^ 64 }
+        ensures bound { result ≤ length self.now.parts }
+        ensures partitioned { (p : ℕ → Bool) → ComputesKey P.FnMut p test.now → IsPartitionedBy (first_passes p) self.now.parts
+            → IsPartitionPoint (λ part. first_passes p part ≡ true) (λ part. first_passes p part ≡ false) self.now.parts result }
+    {
+        let mut from = 0;
+        let mut to = self.count();
+        while from < to {
+            let middle = from + (to - from) / 2;
+            if test(&self.part(middle)[0]) {
+                from = middle + 1;
+            } else {
+                to = middle;
+            }
+        }
+        from
     }
 
     /// Puts a slot into a chunk that has room for it.
@@ -336,6 +350,27 @@ impl Chunks {
         self.ends.remove(chunk);
         self.free.push_reserved(self.lists.remove(chunk));
     }
+}
+
+/// How many of some slots pass a test, where those that pass stand before the others.
+#[inline(always)]
+fn passed<P: Fn(&usize) -> bool>(slots: &[usize], test: &P) -> usize
+    requires { P.IsAlwaysCallable test.now }
+    ensures bound { result ≤ length slots.now }
+    ensures partitioned { (p : ℕ → Bool) → ComputesKey P.FnMut p test.now → IsPartitionedBy p slots.now
+        → IsPartitionPoint (λ slot. p slot ≡ true) (λ slot. p slot ≡ false) slots.now result }
+{
+    let mut from = 0;
+    let mut to = slots.len();
+    while from < to {
+        let middle = from + (to - from) / 2;
+        if test(&slots[middle]) {
+            from = middle + 1;
+        } else {
+            to = middle;
+        }
+    }
+    from
 }
 
 /// Puts an element into a list that has room for it.

@@ -150,9 +150,10 @@ impl Items {
         ItemSpan::new(&self.shelf, from, to)
     }
 
-    /// Equal items. `NoMemory` leaves nothing behind.
+    /// Equal items, none of them touched. `NoMemory` leaves nothing behind.
     pub fn copy(&self, alloc: Global) -> Result<Items, NoMemory>
-        ensures { IfOk result (λ copy. (shown copy).items ≡ (shown self.now).items) }
+        ensures items { IfOk result (λ copy. (shown copy).items ≡ (shown self.now).items) }
+        ensures untouched { IfOk result (λ copy. (shown copy).touched ≡ []) }
     {
         let shelf = self.shelf.copy(alloc)?;
         Ok(Items { shelf })
@@ -202,14 +203,17 @@ impl Items {
         ensures marked { IsMarkTouched (shown self.new) update.object (value_of update.act) }
         ensures spare { (shown self.old).spare ≤ (shown self.new).spare + 1 }
     {
-        let Update { object, act } = update;
-        match self.shelf.find(self.shelf.hint(), &object, value_of(&act)) {
+        match self
+            .shelf
+            .find(self.shelf.hint(), &update.object, value_of(&update.act))
+        {
             Ok(spot) => {
-                let cell = with_act(&act, self.shelf.at_near(spot).cell);
+                let cell = with_act(&update.act, self.shelf.at_near(spot).cell);
                 self.replace(spot, cell);
             }
             Err(gap) => {
-                let cell = with_act(&act, NO_CELL);
+                let cell = with_act(&update.act, NO_CELL);
+                let Update { object, act } = update;
                 let value = into_value(act);
                 self.put(
                     gap,

@@ -100,7 +100,8 @@ impl Shelf {
 
     /// A shelf with equal items, none of them touched. `NoMemory` leaves nothing behind.
     pub fn copy(&self, alloc: Global) -> Result<Shelf, NoMemory>
-        ensures { IfOk result (λ copy. copy.items ≡ self.now.items) }
+        ensures items { IfOk result (λ copy. copy.items ≡ self.now.items) }
+        ensures untouched { IfOk result (λ copy. copy.touched ≡ []) }
     {
         let mut slots = Slab::with_capacity(alloc, self.order.len())?;
         let order = copy_order(alloc, &self.slots, &self.order, &mut slots)?;
@@ -207,6 +208,7 @@ impl Shelf {
     }
 
     /// How many of the items are before what is looked for. A place is looked at first.
+    #[inline(always)]
     fn spot(&self, near: Spot, sought: &Sought<'_>) -> Spot
         ensures within { result.place ≤ length self.now.items }
         ensures place { IsParted (is_before sought.now.object.now (option_copied sought.now.value)) self.now.items result.place }
@@ -218,6 +220,7 @@ impl Shelf {
     }
 
     /// The same, where it is a place that is looked at first, or the next. Items often come in their order.
+    #[inline(always)]
     fn spot_near(&self, near: Spot, sought: &Sought<'_>) -> Option<Spot>
         ensures within { IfSome result (λ spot. spot.place ≤ length self.now.items) }
         ensures place { IfSome result (λ spot. IsParted (is_before sought.now.object.now (option_copied sought.now.value)) self.now.items spot.place) }
@@ -237,6 +240,7 @@ impl Shelf {
     }
 
     /// Whether the item at a spot's place, if there is one, isn't before what is looked for.
+    #[inline(always)]
     fn is_up_to(&self, spot: Spot, sought: &Sought<'_>) -> bool
         ensures rise { Rise self.now.items }
         ensures few { length self.now.items < 2 ^ 64 }
@@ -250,6 +254,7 @@ impl Shelf {
     }
 
     /// Whether the item ahead of a spot's place, if there is one, is before what is looked for.
+    #[inline(always)]
     fn is_behind(&self, spot: Spot, sought: &Sought<'_>) -> bool
         requires { spot.place ≤ length self.now.items }
         ensures { result ≡ true → 0 < spot.place
@@ -426,6 +431,7 @@ fn is_up_to(item: &Ranked, object: &ObjectId) -> bool
 }
 
 /// How many of the items in slots are before what is looked for. The items rise.
+#[inline(never)]
 fn place_of(slots: &Slab<Ranked>, order: &Order, sought: &Sought<'_>) -> Spot
     requires held { All (ContainsKey slots.now) order.now.items }
     requires rise { Rise (items_in slots.now order.now.items) }

@@ -13,7 +13,7 @@ use Rattle.replica_core.proofs.replica.Replica.next.Goals.{In_ok-copy-2}
 stands_next : (c : In_ok-copy-2) (s : State) → StandsFor c.args.self.now s
     → Standing (next_fields (fields_of c.args.self.now) c.args.me c.args.n c.zero.result c.new.result c.in_ok-parts.parts (shown c.in_ok-copy.field-0) (lists_shown c.in_ok-copy-2.field-0)) (regrouped c.args.n c.args.me s)
 stands_next c s stands =
-    regroups (fields_of c.args.self.now) c.args.me c.args.n _ _ c.in_ok-parts.parts _ _ s stands c.requires.numbers c.requires.early (c.requires.settled s stands) c.zero.ensures c.new.ensures.known (c.in_ok-parts.ensures c.args.me) c.in_ok-copy.ensures c.in_ok-copy-2.ensures
+    regroups (fields_of c.args.self.now) c.args.me c.args.n _ _ c.in_ok-parts.parts _ _ s stands c.requires.numbers c.requires.early (c.requires.settled s stands) c.zero.ensures c.new.ensures.known (c.in_ok-parts.ensures c.args.me) c.in_ok-copy.ensures.items c.in_ok-copy-2.ensures
 
 pub invariant_of-result : goal.invariant_of-result
 invariant_of-result c = record {

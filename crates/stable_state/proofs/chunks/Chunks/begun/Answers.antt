@@ -1,0 +1,62 @@
+use Rattle.std.proofs.Common.{◌≡◌, ℕ, ◌+◌, ◌-◌, ◌/◌, ◌<◌, ◌∷◌, [], List, Bool, get_or, length, ap, sym, ◌∙◌, arith}
+use Rattle.std.proofs.lemmas.List.{get_or_default}
+use Rattle.stable_state.specs.Chunks.{first_passes}
+use Rattle.stable_state.proofs.Parting.{point_at, first_at}
+use Rattle.stable_state.proofs.chunks.Chunks.begun.Goals as goal
+
+pub loop-from-init : goal.loop-from-init
+loop-from-init g c = (omega arith, omega (arith, c.count-to.ensures.value), λ p computes. (λ some. absurd (omega (arith, some)), λ less. absurd (omega (arith, less, c.count-to.ensures.value))))
+
+pub part-requires : goal.part-requires
+part-requires g c = omega (arith, c.loop-from.invariant.1, c.loop-from-test.true)
+
+-- what the test tells is told of the chunk in the middle
+told : (p : ℕ → Bool) (parts : List (List ℕ)) (middle : ℕ) (part d : List ℕ) → middle < length parts → part ≡ get_or parts middle [] → 0 < length (get_or parts middle [])
+    → first_passes p (get_or parts middle d) ≡ p (get_or part 0 0)
+told p parts middle part d within is some =
+    ap (first_passes p) (get_or_default parts middle d [] within) ∙ first_at p (get_or parts middle []) 0 some ∙ ap (λ xs. p (get_or xs 0 0)) (sym is)
+
+pub loop-from-preserved-then-test : goal.loop-from-preserved-then-test
+loop-from-preserved-then-test g c =
+    let parts = c.args.self.now.parts in
+    let middle = c.loop-from.from + (c.loop-from.to - c.loop-from.from) / 2 in
+    let within : middle < length parts = omega (arith, c.loop-from-test.true, c.loop-from.invariant.1) in
+    let call = (g.met.P.FnMut.1.post_iff _ _ _).0 c.test.ensures in
+    let same : middle + 1 - 1 ≡ middle = omega arith in (
+      omega (arith, c.loop-from-test.true),
+      c.loop-from.invariant.1,
+      λ p computes. (
+        λ some d. ap (λ k. first_passes p (get_or parts k d)) same ∙ told p parts middle c.part.result.now d within c.part.ensures (c.requires.some middle [] within)
+            ∙ sym (computes.at (_ ∷ []) _ _ call.1).0 ∙ c.if-test.true,
+        (c.loop-from.invariant.2 p computes).1,
+      ),
+    )
+
+pub loop-from-preserved : goal.loop-from-preserved
+loop-from-preserved g c =
+    let parts = c.args.self.now.parts in
+    let middle = c.loop-from.from + (c.loop-from.to - c.loop-from.from) / 2 in
+    let call = (g.met.P.FnMut.1.post_iff _ _ _).0 c.test.ensures in (
+      omega (arith, c.loop-from-test.true),
+      omega (arith, c.loop-from-test.true, c.loop-from.invariant.1),
+      λ p computes. (
+        (c.loop-from.invariant.2 p computes).0,
+        λ less d. told p parts middle c.part.result.now d less c.part.ensures (c.requires.some middle [] less)
+            ∙ sym (computes.at (_ ∷ []) _ _ call.1).0 ∙ c.if-test.false,
+      ),
+    )
+
+pub returns-clause-few : goal.returns-clause-few
+returns-clause-few g c = omega (arith, c.count-to.ensures.few, c.count-to.ensures.slots)
+
+pub returns-clause-bound : goal.returns-clause-bound
+returns-clause-bound g c = omega (arith, c.loop-from.invariant.0, c.loop-from.invariant.1)
+
+pub returns-clause-partitioned : goal.returns-clause-partitioned
+returns-clause-partitioned g c =
+    λ p computes parted.
+    let parts = c.args.self.now.parts in
+    let known = c.loop-from.invariant.2 p computes in
+    let met : c.loop-from.from ≡ c.loop-from.to = omega (arith, c.loop-from.invariant.0, c.loop-from-test.false) in
+    point_at (first_passes p) parts c.loop-from.from parted (omega (arith, c.loop-from.invariant.0, c.loop-from.invariant.1)) known.0
+    (λ less d. ap (λ k. first_passes p (get_or parts k d)) met ∙ known.1 (omega (arith, less, met)) d)
