@@ -352,7 +352,8 @@ impl Chunks {
     }
 }
 
-/// How many of some slots pass a test, where those that pass stand before the others.
+/// How many of some slots pass a test, where those that pass stand before the others. A loop of its own, as that over chunks:
+/// the library's `partition_point` does the same, and took up to a fifth more instructions of a search.
 #[inline(always)]
 fn passed<P: Fn(&usize) -> bool>(slots: &[usize], test: &P) -> usize
     requires { P.IsAlwaysCallable test.now }
