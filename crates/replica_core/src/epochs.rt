@@ -1,6 +1,6 @@
 //! The end of an epoch: a replica goes on as a member of a store with other members, with what it has settled.
 
-ghost use Rattle.std.specs.Prelude.{◌≡◌, ℕ, ◌<◌, ◌≤◌, ◌+◌, IsTrue, IfOk};
+ghost use Rattle.std.specs.Prelude.{◌≡◌, ℕ, ◌<◌, ◌≤◌, ◌+◌, IsTrue, IsOk, IfOk, None};
 ghost use Rattle.op_base.specs.declared.tag.TheConstants.{MOST_MEMBERS};
 ghost use Rattle.causal_model.specs.declared.room.TheConstants.{MOST_WINDOW};
 ghost use Rattle.causal_model.specs.History.{is_all_stable};
@@ -76,12 +76,13 @@ impl Replica {
     }
 
     /// The room in which this replica can begin the next epoch as member `me` of `n` members, for `turn`. This one stays, and
-    /// `NoMemory` leaves nothing behind.
+    /// `NoMemory` leaves nothing behind; it doesn't come where the store will have as many members as it has.
     pub fn room(&self, alloc: Global, me: u8, n: u8) -> Result<EpochRoom, NoMemory>
         requires numbers { IsTrue (are_numbers me n self.now.w self.now.limit) }
         ensures me { IfOk result (λ room. room.me ≡ me) }
         ensures n { IfOk result (λ room. room.n ≡ n) }
         ensures empty { IfOk result (IsRoomFor self.now.n me n self.now.w) }
+        ensures own { n ≡ self.now.n → IsOk result × IfOk result (λ room. room.parts ≡ None) }
     {
         if n == self.n {
             return Ok(EpochRoom { me, n, parts: None });
