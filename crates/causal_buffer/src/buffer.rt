@@ -361,8 +361,8 @@ impl CausalBuffer {
     }
 
     /// For how many steps there has to be room where a message that isn't early becomes so, and then what can be delivered is
-    /// taken: 0 where none can be, 1 where it is known that no other follows or none is early, and else one for each early
-    /// message and one for it.
+    /// taken: no fewer than these steps are. It is 1 where none is early, or it is known that no other follows; 0 where others
+    /// are early and it is known that none can be delivered; and else one for each early message and one for it.
     pub fn most_steps(&mut self, message: &Message, counts: &Tag) -> usize
         requires fits { IsTrue (fits self.old.n message.now) }
         requires counts { length counts.now ≡ self.old.n }
