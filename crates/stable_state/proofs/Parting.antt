@@ -17,6 +17,27 @@ point_at p xs place parted within ahead there = (
   λ k d from less. false_from_ne_true (p (get_or xs k d)) (λ t. both_ways (p (get_or xs place d)) (there (omega (arith, from, less)) d) (parted place k d from less t)),
 )
 
+-- a search has come to two places: what stands ahead of the one passes, and what stands at the other fails
+abbrev pub IsNarrowed : {A : Type 0} → (A → Bool) → List A → ℕ → ℕ → Type 0
+IsNarrowed p xs from to = (0 < from → HoldsAt (λ x. p x ≡ true) xs (from - 1)) × (to < length xs → HoldsAt (λ x. p x ≡ false) xs to)
+
+module _ {A : Type 0} (p : A → Bool) (xs : List A) (from to : ℕ) (narrowed : IsNarrowed p xs from to) where
+  -- it goes on behind what passes
+  pub narrowed_up : (middle : ℕ) → HoldsAt (λ x. p x ≡ true) xs middle → IsNarrowed p xs (middle + 1) to
+  narrowed_up middle passes =
+      let same : middle + 1 - 1 ≡ middle = omega arith in
+      (λ some d. ap (λ k. p (get_or xs k d)) same ∙ passes d, narrowed.1)
+
+  -- or up to what fails
+  pub narrowed_down : (middle : ℕ) → HoldsAt (λ x. p x ≡ false) xs middle → IsNarrowed p xs from middle
+  narrowed_down middle fails = (narrowed.0, λ less. fails)
+
+  -- and ends where the two places meet
+  pub narrowed_point : IsPartitionedBy p xs → to ≤ length xs → from ≡ to → IsPartitionPoint (λ x. p x ≡ true) (λ x. p x ≡ false) xs from
+  narrowed_point parted within met =
+      point_at p xs from parted (omega (arith, within, met)) narrowed.0
+      (λ less d. ap (λ k. p (get_or xs k d)) met ∙ narrowed.1 (omega (arith, less, met)) d)
+
 -- the slots of a chunk stand side by side
 pub slot_at : (parts : List (List ℕ)) (k j d : ℕ) → k < length parts → j < length (get_or parts k []) → get_or (concat parts) (length (concat (take k parts)) + j) d ≡ get_or (get_or parts k []) j d
 slot_at [] k j d l within = absurd (omega (arith, l))

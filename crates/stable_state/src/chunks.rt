@@ -268,6 +268,7 @@ impl Chunks {
     fn begun<P: Fn(&usize) -> bool>(&self, test: &P) -> usize
         requires callable { P.IsAlwaysCallable test.now }
         requires some { All (λ part. 0 < length part) self.now.parts }
+        // so a place among all slots fits its number
         ensures few { length (concat self.now.parts) < 2 ^ 64 }
         ensures bound { result ≤ length self.now.parts }
         ensures partitioned { (p : ℕ → Bool) → ComputesKey P.FnMut p test.now → IsPartitionedBy (first_passes p) self.now.parts

@@ -1,7 +1,7 @@
 use Rattle.std.proofs.Common.{◌≡◌, ℕ, ◌+◌, ◌-◌, ◌/◌, ◌<◌, ◌∷◌, [], List, Bool, get_or, length, ap, sym, ◌∙◌, arith}
 use Rattle.std.proofs.lemmas.List.{get_or_default}
 use Rattle.stable_state.specs.Chunks.{first_passes}
-use Rattle.stable_state.proofs.Parting.{point_at, first_at}
+use Rattle.stable_state.proofs.Parting.{first_at, narrowed_up, narrowed_down, narrowed_point}
 use Rattle.stable_state.proofs.chunks.Chunks.begun.Goals as goal
 
 pub loop-from-init : goal.loop-from-init
@@ -21,29 +21,23 @@ loop-from-preserved-then-test g c =
     let parts = c.args.self.now.parts in
     let middle = c.loop-from.from + (c.loop-from.to - c.loop-from.from) / 2 in
     let within : middle < length parts = omega (arith, c.loop-from-test.true, c.loop-from.invariant.1) in
-    let call = (g.met.P.FnMut.1.post_iff _ _ _).0 c.test.ensures in
-    let same : middle + 1 - 1 ≡ middle = omega arith in (
+    let call = (g.met.P.FnMut.1.post_iff _ _ _).0 c.test.ensures in (
       omega (arith, c.loop-from-test.true),
       c.loop-from.invariant.1,
-      λ p computes. (
-        λ some d. ap (λ k. first_passes p (get_or parts k d)) same ∙ told p parts middle c.part.result.now d within c.part.ensures (c.requires.some middle [] within)
-            ∙ sym (computes.at (_ ∷ []) _ _ call.1).0 ∙ c.if-test.true,
-        (c.loop-from.invariant.2 p computes).1,
-      ),
+      λ p computes. narrowed_up (first_passes p) parts c.loop-from.from c.loop-from.to (c.loop-from.invariant.2 p computes) middle
+          (λ d. told p parts middle c.part.result.now d within c.part.ensures (c.requires.some middle [] within) ∙ sym (computes.at (_ ∷ []) _ _ call.1).0 ∙ c.if-test.true),
     )
 
 pub loop-from-preserved : goal.loop-from-preserved
 loop-from-preserved g c =
     let parts = c.args.self.now.parts in
     let middle = c.loop-from.from + (c.loop-from.to - c.loop-from.from) / 2 in
+    let within : middle < length parts = omega (arith, c.loop-from-test.true, c.loop-from.invariant.1) in
     let call = (g.met.P.FnMut.1.post_iff _ _ _).0 c.test.ensures in (
       omega (arith, c.loop-from-test.true),
-      omega (arith, c.loop-from-test.true, c.loop-from.invariant.1),
-      λ p computes. (
-        (c.loop-from.invariant.2 p computes).0,
-        λ less d. told p parts middle c.part.result.now d less c.part.ensures (c.requires.some middle [] less)
-            ∙ sym (computes.at (_ ∷ []) _ _ call.1).0 ∙ c.if-test.false,
-      ),
+      omega (arith, within),
+      λ p computes. narrowed_down (first_passes p) parts c.loop-from.from c.loop-from.to (c.loop-from.invariant.2 p computes) middle
+          (λ d. told p parts middle c.part.result.now d within c.part.ensures (c.requires.some middle [] within) ∙ sym (computes.at (_ ∷ []) _ _ call.1).0 ∙ c.if-test.false),
     )
 
 pub returns-clause-few : goal.returns-clause-few
@@ -54,9 +48,5 @@ returns-clause-bound g c = omega (arith, c.loop-from.invariant.0, c.loop-from.in
 
 pub returns-clause-partitioned : goal.returns-clause-partitioned
 returns-clause-partitioned g c =
-    λ p computes parted.
-    let parts = c.args.self.now.parts in
-    let known = c.loop-from.invariant.2 p computes in
-    let met : c.loop-from.from ≡ c.loop-from.to = omega (arith, c.loop-from.invariant.0, c.loop-from-test.false) in
-    point_at (first_passes p) parts c.loop-from.from parted (omega (arith, c.loop-from.invariant.0, c.loop-from.invariant.1)) known.0
-    (λ less d. ap (λ k. first_passes p (get_or parts k d)) met ∙ known.1 (omega (arith, less, met)) d)
+    λ p computes parted. narrowed_point (first_passes p) c.args.self.now.parts c.loop-from.from c.loop-from.to (c.loop-from.invariant.2 p computes) parted c.loop-from.invariant.1
+    (omega (arith, c.loop-from.invariant.0, c.loop-from-test.false))
