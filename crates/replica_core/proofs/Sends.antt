@@ -13,7 +13,7 @@ use Rattle.causal_model.specs.Stability.{unstable_operations, unstable_noops, no
 use Rattle.causal_model.specs.declared.outcome.Beat.TheVariants as beat
 use Rattle.causal_model.specs.declared.outcome.Local.TheVariants as local
 use Rattle.causal_model.proofs.Delivery.Limits.{counts_are_within}
-use Rattle.replica_core.specs.Rules.{IsDraft}
+use Rattle.replica_core.specs.Rules.{IsDraft, StandsFor, fields_of}
 use Rattle.replica_core.specs.Standing.{Fields, Standing}
 use Rattle.replica_core.specs.declared.replica.Replica.{Replica}
 use Rattle.replica_core.proofs.Stands.{chapter_of, carried_of}
@@ -46,6 +46,13 @@ module _ (n w limit me : ℕ) (messages : List Message) (full all : Bool) (is_al
   beats_by_tests due is_due is_full =
       ap (λ due. if not due then beat.Quiet else if full then beat.Held else if all then beat.End else beat.Sent (own_message n me messages op.NoOp)) is_due
       ∙ ap₂ (λ full all. if not (is_noop_due me messages) then beat.Quiet else if full then beat.Held else if all then beat.End else beat.Sent (own_message n me messages op.NoOp)) is_full is_all
+
+-- so at a replica: what is answered where the window is full or all was sent, and that an update is sent where neither holds
+pub answered_by_tests : (r : Replica) (s : State) → StandsFor r s → (u : Update) (full all : Bool)
+    → full ≡ (unstable_operations r.n r.me s.history.present.messages r.me == r.w) → all ≡ (count_of s.history.present.messages r.me == r.limit)
+    → (if full then local.Busy else if all then local.End else local.Sent (own_message r.n r.me s.history.present.messages (op.Update u))) ≡ (local_rule r.w r.limit u s).0
+answered_by_tests r s stands u full all is_full is_all =
+    sends_by_tests r.n r.w r.limit r.me s.history.present.messages full all is_all u is_full ∙ sends_in_state (fields_of r) s stands u
 
 -- what the rule gives with a valid operation can be sent next
 pub is_draft : (r : Replica) (s : State) (o : Op) (m : Message) → m.op ≡ o → RuleGives r.n r.w r.limit r.me s.history.present.messages m o → IsTrue (is_valid o) → IsDraft r m s

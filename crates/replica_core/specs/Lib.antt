@@ -7,6 +7,7 @@ pub mod Settling
 pub mod Reach
 pub mod Ready
 pub mod Steps
+pub mod Unsent
 pub use Rattle.causal_model.specs.Counts
 pub use Rattle.causal_model.specs.Chapter
 pub use Rattle.causal_model.specs.History

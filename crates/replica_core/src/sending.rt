@@ -1,20 +1,46 @@
 //! Sending operations and no-ops: a message is drafted, and then it is committed.
 
-ghost use Rattle.std.specs.Prelude.{◌≡◌, ◌<◌, ◌==◌, All, IsTrue, IfOk, OnOk, OnErr, true, false};
+ghost use Rattle.std.specs.Prelude.{◌≡◌, ◌<◌, ◌==◌, All, IsTrue, IfOk, IfNone, IfSome, OnOk, OnErr, true, false};
 ghost use Rattle.std.specs.Result.{IfErr};
 ghost use Rattle.op_base.specs.Message.{fits};
+ghost use Rattle.op_base.specs.declared.operation.Op.TheVariants as op;
+ghost use Rattle.op_base.specs.declared.operation.Update.{Update as AnUpdate};
 ghost use Rattle.causal_model.specs.Counts.{count_of, next_tag, is_carried};
 ghost use Rattle.causal_model.specs.Follows.{Follows};
 ghost use Rattle.causal_model.specs.Sending.{own_message, local_messages, beat_messages, is_sent, is_beat, local_rule, beat_rule};
 ghost use Rattle.causal_model.specs.Stability.{unstable_operations, unstable_noops, noop_window};
 ghost use Rattle.causal_model.specs.State.{State, with_own};
 ghost use Rattle.causal_model.specs.States.{IsState};
+ghost use Rattle.causal_model.specs.declared.outcome.Local.TheVariants as local;
+ghost use Rattle.replica_core.specs.Unsent.{told};
 
 use crate::replica::Replica;
 use crate::step::Sender;
 use causal_model::{Beat, Local};
 use op_base::{CopyRoom, Message, NoMemory, Op, Tag, Update, updates_are_valid};
 use std::alloc::Global;
+
+/// Why a member can't send an update.
+#[derive(Clone, Copy)]
+enum Unsent {
+    /// As many own operations are unstable as the window has.
+    Busy,
+    /// The member has sent all the messages that it may in this epoch.
+    End,
+}
+
+impl Unsent {
+    /// What is answered.
+    #[inline(always)]
+    fn told(self) -> Local
+        ensures { result ≡ told self }
+    {
+        match self {
+            Unsent::Busy => Local::Busy,
+            Unsent::End => Local::End,
+        }
+    }
+}
 
 impl Replica {
     ghost use Rattle.replica_core.specs.Ready.{IsReadyToCommit};
@@ -77,11 +103,8 @@ impl Replica {
         ensures draft { IfOk result (λ m. (s : State) → StandsFor self.now s → IsDraft self.now m s) }
         ensures fits { IfOk result (λ m. IsTrue (fits self.now.n m)) }
     {
-        if self.is_busy() {
-            return Err(Local::Busy);
-        }
-        if self.has_ended() {
-            return Err(Local::End);
+        if let Some(unsent) = self.unsent() {
+            return Err(unsent.told());
         }
         let Ok(room) = update.room(alloc) else {
             return Err(Local::NoMemory);
@@ -89,6 +112,40 @@ impl Replica {
         let update = update.copied(room);
         updates_are_valid(&update);
         Ok(self.next_message(Op::Update(update)))
+    }
+
+    /// The message by which an update would be sent now, as `draft` gives it, where the update is handed over: it takes no memory,
+    /// and moves the update where `draft` copies it.
+    ///
+    /// It is always inlined, as `draft` is.
+    #[inline(always)]
+    pub fn draft_of(&self, update: Update) -> Result<Message, Local>
+        ensures answer { (s : State) → StandsFor self.now s → local_of result ≡ (local_rule self.now.w self.now.limit update s).0 }
+        ensures unsent { IfErr result (λ answer. is_sent answer ≡ false) }
+        ensures draft { IfOk result (λ m. (s : State) → StandsFor self.now s → IsDraft self.now m s) }
+        ensures fits { IfOk result (λ m. IsTrue (fits self.now.n m)) }
+    {
+        if let Some(unsent) = self.unsent() {
+            return Err(unsent.told());
+        }
+        updates_are_valid(&update);
+        Ok(self.next_message(Op::Update(update)))
+    }
+
+    /// Why no update can be sent now. `None` where one can be.
+    #[inline(always)]
+    fn unsent(&self) -> Option<Unsent>
+        ensures none { IfNone result ((s : State) (u : AnUpdate) → StandsFor self.now s → local.Sent (own_message self.now.n self.now.me s.history.present.messages (op.Update u)) ≡ (local_rule self.now.w self.now.limit u s).0) }
+        ensures more { IfNone result ((s : State) → StandsFor self.now s → count_of s.history.present.messages self.now.me < self.now.limit) }
+        ensures some { IfSome result (λ why. (s : State) (u : AnUpdate) → StandsFor self.now s → told why ≡ (local_rule self.now.w self.now.limit u s).0) }
+    {
+        if self.is_busy() {
+            Some(Unsent::Busy)
+        } else if self.has_ended() {
+            Some(Unsent::End)
+        } else {
+            None
+        }
     }
 
     /// The no-op that would be sent now, for `commit`; or what `beat` answers in its place: `Quiet`, `Held` or `End`. It takes

@@ -24,37 +24,37 @@ pub const NO_COMMAND: Reply = Reply::Bad(2);
 /// Runs a command. On `NoMemory` nothing is replied, and the world may stand in the midst of the command.
 ///
 /// Each command has a function of its own, so that none pays for what another has in its frame.
-pub fn reply_to(alloc: Global, world: &mut World, command: &Command) -> Result<Reply, NoMemory>
-    requires { IsWithin (length world.old.nodes.items) command.now }
-    ensures told { (plain : PlainWorld) → ShowsPlain world.old plain → Told plain command.now result world.new }
+pub fn reply_to(alloc: Global, world: &mut World, command: Command) -> Result<Reply, NoMemory>
+    requires { IsWithin (length world.old.nodes.items) command }
+    ensures told { (plain : PlainWorld) → ShowsPlain world.old plain → Told plain command result world.new }
     ensures entries { IfOk result HasItsEntries }
 {
     match command {
-        Command::Do { r, update } => send(alloc, world, *r, update),
-        Command::Ask { r, object } => ask(alloc, world, *r, object),
-        Command::Beat { r } => send_noop(alloc, world, *r),
-        Command::Give { r, k, s } => give(alloc, world, *r, *k, *s),
-        Command::Resend { r, k } => resend(alloc, world, *r, *k),
-        Command::Raw { r, bytes } => offer_bytes(alloc, world, *r, bytes),
+        Command::Do { r, update } => send(alloc, world, r, update),
+        Command::Ask { r, object } => ask(alloc, world, r, &object),
+        Command::Beat { r } => send_noop(alloc, world, r),
+        Command::Give { r, k, s } => give(alloc, world, r, k, s),
+        Command::Resend { r, k } => resend(alloc, world, r, k),
+        Command::Raw { r, bytes } => offer_bytes(alloc, world, r, &bytes),
         Command::Settle => settle(alloc, world),
-        Command::Members { n } => change_members(alloc, world, *n),
-        Command::Ids { r, object } => list_ids(alloc, world, *r, object),
-        Command::Tombs { r, object } => Ok(Reply::Tombs(world.tombs(*r, object))),
-        Command::Log { r } => list_log(alloc, world, *r),
-        Command::Size { r } => Ok(size_reply(world, *r)),
-        Command::Stable { r } => Ok(stable_reply(world, *r)),
-        Command::Seen { r } => Ok(seen_reply(world, *r)),
-        Command::Noops { r } => Ok(Reply::Noops(world.noops(*r))),
-        Command::Lags { r } => Ok(Reply::Lags(world.lags(*r))),
+        Command::Members { n } => change_members(alloc, world, n),
+        Command::Ids { r, object } => list_ids(alloc, world, r, &object),
+        Command::Tombs { r, object } => Ok(Reply::Tombs(world.tombs(r, &object))),
+        Command::Log { r } => list_log(alloc, world, r),
+        Command::Size { r } => Ok(size_reply(world, r)),
+        Command::Stable { r } => Ok(stable_reply(world, r)),
+        Command::Seen { r } => Ok(seen_reply(world, r)),
+        Command::Noops { r } => Ok(Reply::Noops(world.noops(r))),
+        Command::Lags { r } => Ok(Reply::Lags(world.lags(r))),
         Command::Stop { .. } => Ok(NO_COMMAND),
     }
 }
 
 /// Replica `r` sends an update.
 #[inline(never)]
-fn send(alloc: Global, world: &mut World, r: u8, update: &Update) -> Result<Reply, NoMemory>
+fn send(alloc: Global, world: &mut World, r: u8, update: Update) -> Result<Reply, NoMemory>
     requires { r < length world.old.nodes.items }
-    ensures told { (plain : PlainWorld) → ShowsPlain world.old plain → Told plain (Command.Do r update.now) result world.new }
+    ensures told { (plain : PlainWorld) → ShowsPlain world.old plain → Told plain (Command.Do r update) result world.new }
     ensures entries { IfOk result HasItsEntries }
 {
     local_reply(world.send(alloc, r, update))

@@ -136,7 +136,7 @@ fn run_store_line(
     match read_line(alloc, line, members(world)) {
         Line::Skip => Ok(()),
         Line::Bad(fault) => put_reply(&Reply::Bad(fault), out),
-        Line::Run(command) => run_command(alloc, world, &command, out),
+        Line::Run(command) => run_command(alloc, world, command, out),
         Line::NoMemory => Err(NoMemory),
     }
 }
@@ -146,12 +146,12 @@ fn run_store_line(
 fn run_command(
     alloc: Global,
     world: &mut World,
-    command: &Command,
+    command: Command,
     out: &mut Text,
 ) -> Result<(), NoMemory>
-    requires { IsWithin (length world.old.nodes.items) command.now }
-    ensures text { (plain : PlainWorld) → ShowsPlain world.old plain → OnOk result (out.new ≡ out.old ++ reply_text (command_at command.now plain).0) }
-    ensures world { (plain : PlainWorld) → ShowsPlain world.old plain → OnOk result (ShowsPlain world.new (command_at command.now plain).1) }
+    requires { IsWithin (length world.old.nodes.items) command }
+    ensures text { (plain : PlainWorld) → ShowsPlain world.old plain → OnOk result (out.new ≡ out.old ++ reply_text (command_at command plain).0) }
+    ensures world { (plain : PlainWorld) → ShowsPlain world.old plain → OnOk result (ShowsPlain world.new (command_at command plain).1) }
     ensures err { OnErr result (out.new ≡ out.old) }
 {
     let replied = reply_to(alloc, world, command);

@@ -45,11 +45,11 @@ impl World {
         send(alloc, node, frames, update)
     }
 
-    /// Sends an update at replica `r` as `local` does, and tells the message by its id: so it isn't copied once more. Every refusal
-    /// leaves the world as it was, and memory is wanted only where it would send.
-    pub fn send(&mut self, alloc: Global, r: u8, update: &Update) -> Brief
+    /// Sends an update at replica `r` as `local` does, but is handed the update, and tells the message by its id: so neither is
+    /// copied once more. Every refusal leaves the world as it was, and memory is wanted only where it would send.
+    pub fn send(&mut self, alloc: Global, r: u8, update: Update) -> Brief
         requires { r < length self.old.nodes.items }
-        ensures answer { (answer : Local) × (result ≡ brief answer) × Follows ShowsPlain Local.NoMemory is_sent (local_at r update.now) self.old answer self.new }
+        ensures answer { (answer : Local) × (result ≡ brief answer) × Follows ShowsPlain Local.NoMemory is_sent (local_at r update) self.old answer self.new }
         ensures honest { ShowsHonest self.old → ShowsHonest self.new }
         ensures members { length self.new.nodes.items ≡ length self.old.nodes.items }
         ensures untouched { is_sent_briefly result ≡ false → result ≢ Brief.NoMemory → recorders_of self.new.nodes.items ≡ recorders_of self.old.nodes.items }
@@ -57,7 +57,7 @@ impl World {
     {
         let node = &mut self.nodes[r as usize];
         let frames = &mut self.sent[r as usize];
-        updates_are_valid(update);
+        updates_are_valid(&update);
         send_briefly(alloc, node, frames, update)
     }
 
@@ -103,18 +103,18 @@ fn send(
     }
 }
 
-/// Sends an update at a node as `send` does, and tells the message by its id.
+/// Sends an update at a node as `send` does, but is handed it, and tells the message by its id.
 fn send_briefly(
     alloc: Global,
     node: &mut Node<Journal>,
     frames: &mut Vec<ByteList>,
-    update: &Update,
+    update: Update,
 ) -> Brief
-    ensures sends { (answer : Local) × (result ≡ brief answer) × SendsUpdate update.now node.old frames.old.items answer node.new frames.new.items }
+    ensures sends { (answer : Local) × (result ≡ brief answer) × SendsUpdate update node.old frames.old.items answer node.new frames.new.items }
     ensures same { SameNode node.old node.new }
     ensures once { AsksOnceAtMost node.old.journal.asked node.new.journal.asked }
 {
-    match node.inner.draft(alloc, update) {
+    match node.inner.draft_of(update) {
         Ok(message) => {
             let id = message.id();
             match commit(alloc, node, frames, message) {

@@ -10,4 +10,4 @@ use Rattle.script_net.proofs.reply.send.Goals as goal
 pub returns-clause-told : goal.returns-clause-told
 returns-clause-told c plain shows =
     let made = c.send.ensures.answer in
-    follows_told ShowsPlain local_reply local.NoMemory refl (local_at c.args.r c.args.update.now) plain made.0 c.send.new.self c.local_reply.result (c.local_reply.ensures.told made.0 made.1) c.args.world.now shows is_sent made.2
+    follows_told ShowsPlain local_reply local.NoMemory refl (local_at c.args.r c.args.update) plain made.0 c.send.new.self c.local_reply.result (c.local_reply.ensures.told made.0 made.1) c.args.world.now shows is_sent made.2

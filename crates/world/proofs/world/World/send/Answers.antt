@@ -24,9 +24,9 @@ index_mut-frames-requires c =
 
 pub invariant_of-self : goal.invariant_of-self
 invariant_of-self c = let sends = c.send_briefly.ensures.sends in record {
-  shows = ∥∥₁_map c.args.self.now.shows (λ x. some_is_left local.NoMemory is_sent (local_at c.args.r c.args.update.now x.0) x.0 sends.0 _
+  shows = ∥∥₁_map c.args.self.now.shows (λ x. some_is_left local.NoMemory is_sent (local_at c.args.r c.args.update x.0) x.0 sends.0 _
       (replies_local (λ row. row.items) c.args.self.now.nodes.items c.args.self.now.sent.items x.0 x.1 c.args.r c.index_mut-node.result.now c.send_briefly.new.node c.index_mut-frames.result.now c.send_briefly.new.frames
-      (record { low = c.requires; at = c.index_mut-node.ensures.value }) c.send_briefly.ensures.same c.index_mut-frames.ensures.value c.args.update.now sends.0 c.updates_are_valid.ensures sends.2.framed sends.2.answers));
+      (record { low = c.requires; at = c.index_mut-node.ensures.value }) c.send_briefly.ensures.same c.index_mut-frames.ensures.value c.args.update sends.0 c.updates_are_valid.ensures sends.2.framed sends.2.answers));
 }
 
 pub returns-clause-answer : goal.returns-clause-answer
@@ -35,14 +35,14 @@ returns-clause-answer c =
       sends.0,
       sends.1,
       λ plain shows. replies_local (λ row. row.items) c.args.self.now.nodes.items c.args.self.now.sent.items plain shows c.args.r c.index_mut-node.result.now c.send_briefly.new.node c.index_mut-frames.result.now c.send_briefly.new.frames
-          (record { low = c.requires; at = c.index_mut-node.ensures.value }) c.send_briefly.ensures.same c.index_mut-frames.ensures.value c.args.update.now sends.0 c.updates_are_valid.ensures sends.2.framed sends.2.answers,
+          (record { low = c.requires; at = c.index_mut-node.ensures.value }) c.send_briefly.ensures.same c.index_mut-frames.ensures.value c.args.update sends.0 c.updates_are_valid.ensures sends.2.framed sends.2.answers,
     )
 
 pub returns-clause-honest : goal.returns-clause-honest
 returns-clause-honest c =
     let made = returns-clause-answer c in
-    follows_keeps local.NoMemory (local_at c.args.r c.args.update.now) IsHonest (ShowsPlain c.args.self.now) _ made.0 is_sent
-    (λ plain shows honest. (commands_keep_honest plain (world_command.sends_at c.args.r c.args.update.now) honest (member_shown c.args.self.now.nodes.items _ plain shows c.args.r c.requires, c.updates_are_valid.ensures) refl).0)
+    follows_keeps local.NoMemory (local_at c.args.r c.args.update) IsHonest (ShowsPlain c.args.self.now) _ made.0 is_sent
+    (λ plain shows honest. (commands_keep_honest plain (world_command.sends_at c.args.r c.args.update) honest (member_shown c.args.self.now.nodes.items _ plain shows c.args.r c.requires, c.updates_are_valid.ensures) refl).0)
     made.2
 
 pub returns-clause-untouched : goal.returns-clause-untouched
