@@ -1,5 +1,5 @@
 -- That memory was taken for all that a message will make of a replica's fields.
-use Rattle.std.specs.Prelude.{◌≡◌, ◌+◌, ◌≤◌, false, [], length, Vec, vec_capacity, IsTrue}
+use Rattle.std.specs.Prelude.{◌≡◌, ℕ, ◌+◌, ◌≤◌, false, length, Vec, vec_capacity, IsTrue}
 use Rattle.std.specs.declared.alloc.Global.{Global}
 use Rattle.op_base.specs.CopyRooms.{IsCopyRoomFor}
 use Rattle.op_base.specs.Message.{fits}
@@ -30,14 +30,18 @@ pub record IsReadyToCommit (r : Replica) (m : Message) (taken : CopyRoom) : Type
   pub copy : IsCopyRoomFor taken m.op
   pub room : HasRoomFor r m
 
--- a message of the store is neither old nor early already nor far, and there is room for it, and for the steps that are made once
--- it is early
-pub record IsReadyToAccept (r : Replica) (m : Message) (taken : Vec Step Global) : Type 0 where
+-- a message of the store is neither old nor early already nor far, and the items and lists have room for it
+pub record CanBeAccepted (r : Replica) (m : Message) : Type 0 where
   pub fits : IsTrue (fits r.n m)
   pub carried : IsTrue (is_carried r.limit m)
   pub new : is_old r.me r.counts m ≡ false
   pub apart : is_again r.buffer.early m ≡ false
   pub near : is_far r.buffer.n r.buffer.w r.me r.counts m ≡ false
-  pub none : taken.items ≡ []
-  pub made : (s : State) → StandsFor r s → length (steps r.w (with_early s m)).0 ≤ vec_capacity taken
   pub room : HasRoomFor r m
+
+-- it can be accepted, and behind other steps there is room for those that are made once it is early, of which there are so many at
+-- most
+pub record IsReadyToAccept (r : Replica) (m : Message) (most : ℕ) (taken : Vec Step Global) : Type 0 where
+  pub message : CanBeAccepted r m
+  pub made : (s : State) → StandsFor r s → length (steps r.w (with_early s m)).0 ≤ most
+  pub behind : length taken.items + most ≤ vec_capacity taken

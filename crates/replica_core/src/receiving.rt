@@ -8,6 +8,7 @@ ghost use Rattle.causal_model.specs.Counts.{is_carried, is_deliverable};
 ghost use Rattle.causal_model.specs.Early.{is_again, put_early};
 ghost use Rattle.causal_model.specs.Follows.{Follows};
 ghost use Rattle.causal_model.specs.Receiving.{is_old, is_far, next_of, next_early, with_early, refusal_by_id, refusal_of, is_accepted, receive_rule};
+ghost use Rattle.causal_model.specs.Receiving.{steps as steps_of};
 ghost use Rattle.causal_model.specs.State.{State};
 ghost use Rattle.list_type.specs.Shown.{shown as lists_shown};
 ghost use Rattle.stable_state.specs.Shown.{shown};
@@ -22,7 +23,7 @@ use op_base::{Message, MessageId, NoMemory, Op, Step, StepList, Tag};
 use std::alloc::Global;
 
 impl Replica {
-    ghost use Rattle.replica_core.specs.Ready.{IsReadyToAccept};
+    ghost use Rattle.replica_core.specs.Ready.{CanBeAccepted, IsReadyToAccept};
     ghost use Rattle.replica_core.specs.Rules.{StandsFor, SameSettings, Unchanged, IsBounded};
     ghost use Rattle.replica_core.specs.Steps.{HasStepped, HasMade, HasAdded, HasRoomToStep, IsNextOf, IsStepOf};
 
@@ -84,51 +85,54 @@ impl Replica {
         ensures refused { OnErr result (Unchanged self.old self.new) }
         ensures bounded { IsBounded self.new }
     {
-        let steps = self.reserve_accept(alloc, &message)?;
-        Ok(self.accept_reserved(message, steps))
+        let mut steps = Vec::new(alloc);
+        let most = self.reserve_accept(&message, &mut steps)?;
+        self.accept_reserved(message, most, &mut steps);
+        Ok(StepList::from_vec(steps))
     }
 
-    /// Takes all memory for a message that `refusal` doesn't refuse to be taken in, as `accept_reserved` does, and hands out that
-    /// for the steps. `NoMemory` leaves the replica as it was.
+    /// Takes all memory for a message that `refusal` doesn't refuse to be taken in, as `accept_reserved` does, and that behind
+    /// other steps for those that follow; how many these are at most. `NoMemory` leaves the replica as it was, and the steps.
     pub fn reserve_accept(
         &mut self,
-        alloc: Global,
         message: &Message,
-    ) -> Result<Vec<Step>, NoMemory>
+        steps: &mut Vec<Step>,
+    ) -> Result<usize, NoMemory>
         requires fits { IsTrue (fits self.old.n message.now) }
         requires carried { IsTrue (is_carried self.old.limit message.now) }
         requires unrefused { (s : State) → StandsFor self.old s → refusal_of self.old.w s message.now ≡ None }
-        ensures ready { IfOk result (λ steps. IsReadyToAccept self.new message.now steps) }
+        ensures ready { IfOk result (λ most. IsReadyToAccept self.new message.now most steps.new) }
         ensures unchanged { Unchanged self.old self.new }
+        ensures steps { steps.new.items ≡ steps.old.items }
     {
         let most = self.buffer.most_steps(message, &self.counts);
-        let steps = Vec::with_capacity(alloc, most)?;
+        steps.reserve(most)?;
         self.items.reserve(self.log.len() + self.buffer.len() + 1)?;
         self.reserve_element(message)?;
-        Ok(steps)
+        Ok(most)
     }
 
-    /// Takes in a message for which `reserve_accept` took memory, and makes the steps that follow: none, where there is room for no
-    /// more. Where it is next at once, it never becomes early.
-    pub fn accept_reserved(&mut self, message: Message, mut steps: Vec<Step>) -> StepList
-        requires ready { IsReadyToAccept self.old message steps }
-        ensures steps { (s : State) → StandsFor self.old s → HasStepped self.old.w (with_early s message) result self.new }
+    /// Takes in a message for which `reserve_accept` took memory, makes the steps that follow, of which there are so many at most,
+    /// and puts them behind those that there are. Where it is next at once, it never becomes early.
+    pub fn accept_reserved(&mut self, message: Message, most: usize, steps: &mut Vec<Step>)
+        requires ready { IsReadyToAccept self.old message most steps.old }
+        ensures steps { (s : State) → StandsFor self.old s → HasAdded self.old.w (with_early s message) steps.old.items steps.new.items self.new }
         ensures settings { SameSettings self.old self.new }
     {
-        self.take_in(message, &mut steps);
-        if steps.len() == steps.capacity() {
-            return StepList::from_vec(steps);
+        let all = steps.len() + most;
+        self.take_in(message, steps);
+        if steps.len() < all {
+            self.make_steps(steps);
         }
-        self.make_steps(&mut steps);
-        StepList::from_vec(steps)
     }
 
-    /// Takes in a message for which `reserve_accept` took memory. Where it is next at once, its step is made; else it is early
-    /// then.
+    /// Takes in a message for which `reserve_accept` took memory. Where it is next at once, its step is made, and put behind those
+    /// that there are; else it is early then.
     #[inline(always)]
     fn take_in(&mut self, mut message: Message, steps: &mut Vec<Step>)
-        requires ready { IsReadyToAccept self.old message steps.old }
-        ensures made { (s : State) → StandsFor self.old s → HasMade self.old.w (with_early s message) [] steps.new.items self.new }
+        requires message { CanBeAccepted self.old message }
+        requires room { (s : State) → StandsFor self.old s → length steps.old.items + length (steps_of self.old.w (with_early s message)).0 ≤ vec_capacity steps.old }
+        ensures made { (s : State) → StandsFor self.old s → HasMade self.old.w (with_early s message) steps.old.items steps.new.items self.new }
         ensures capacity { vec_capacity steps.new ≡ vec_capacity steps.old }
         ensures settings { SameSettings self.old self.new }
     {

@@ -14,7 +14,7 @@ use Rattle.causal_model.specs.declared.note.Note.TheVariants.{Kept}
 use Rattle.causal_model.proofs.States.Journals.{receiving_replays, legal_grows}
 use Rattle.causal_model.proofs.States.Outcomes.{notes_of_accepted}
 use Rattle.replica_core.specs.Rules.{StandsFor, Unchanged}
-use Rattle.replica_core.specs.Steps.{HasStepped}
+use Rattle.replica_core.specs.Steps.{HasAdded}
 use Rattle.replica_core.proofs.Stands.{unchanged_stands}
 use Rattle.replica_core.specs.declared.replica.Replica.{Replica}
 use Rattle.replica_node.specs.Nodes.{state_by}
@@ -40,11 +40,12 @@ nothing_goes_on old new first before after same kept legal stands = record {
   stands = subst (λ notes. StandsFor new (state_by first notes)) (sym kept) (unchanged_stands old new (state_by first before) same stands);
 }
 
--- the steps are those of the state also where room was taken before
-pub stepped_with_room : (old ready new : Replica) (s : State) (m : Message) (made : List Step) → Unchanged old ready → StandsFor old s
-    → ((s : State) → StandsFor ready s → HasStepped ready.w (with_early s m) made new) → HasStepped old.w (with_early s m) made new
-stepped_with_room old ready new s m made same stands stepped =
-    subst (λ w. HasStepped w (with_early s m) made new) same.settings.w (stepped s (unchanged_stands old ready s same stands))
+-- the steps are those of the state also where room was taken before, behind those that there were
+pub added_with_room : (old ready new : Replica) (s : State) (m : Message) (before taken all : List Step) → Unchanged old ready → taken ≡ before → StandsFor old s
+    → ((s : State) → StandsFor ready s → HasAdded ready.w (with_early s m) taken all new) → HasAdded old.w (with_early s m) before all new
+added_with_room old ready new s m before taken all same kept stands added =
+    subst (λ before. HasAdded old.w (with_early s m) before all new) kept
+    (subst (λ w. HasAdded w (with_early s m) taken all new) same.settings.w (added s (unchanged_stands old ready s same stands)))
 
 -- a message that isn't refused, with its steps, is a group, and its notes make of the state what accepting it does
 module _ (r : Replica) (s : State) (m : Message) (stands : StandsFor r s) (fit : IsTrue (fits r.n m)) (carried : IsTrue (is_carried r.limit m)) (unrefused : refusal_of r.w s m ≡ None) where

@@ -11,7 +11,8 @@ ghost use Rattle.causal_model.specs.History.{events};
 ghost use Rattle.causal_model.specs.KeptElements.{tombs_of};
 ghost use Rattle.causal_model.specs.Journal.{IsLegal, step_note, local_notes, beat_notes, receive_notes};
 ghost use Rattle.causal_model.specs.Query.{answer};
-ghost use Rattle.causal_model.specs.Receiving.{refusal_of, steps, with_early, is_accepted, receive_rule};
+ghost use Rattle.causal_model.specs.Receiving.{refusal_of, with_early, is_accepted, receive_rule};
+ghost use Rattle.causal_model.specs.Receiving.{steps as steps_of};
 ghost use Rattle.causal_model.specs.Sending.{local_messages, beat_messages, is_sent, is_beat, local_rule, beat_rule};
 ghost use Rattle.causal_model.specs.State.{State};
 ghost use Rattle.causal_model.specs.declared.note.Note.{Note as ANote};
@@ -183,8 +184,35 @@ impl<R: Recorder> Node<R> {
         requires fits { IsTrue (fits self.old.inner.n message) }
         requires carried { IsTrue (is_carried self.old.inner.limit message) }
         requires unrefused { (s : State) → StandsFor self.old.inner s → refusal_of self.old.inner.w s message ≡ None }
-        ensures steps { IfOk result (λ made. made ≡ (steps self.old.inner.w (with_early (state_by self.old.first (R.notes self.old.journal)) message)).0) }
+        ensures steps { IfOk result (λ made. made ≡ (steps_of self.old.inner.w (with_early (state_by self.old.first (R.notes self.old.journal)) message)).0) }
         ensures noted { IfOk result (λ made. R.notes self.new.journal ≡ R.notes self.old.journal ++ notes.Kept message ∷ map step_note made) }
+        ensures kept { OnErr result (R.notes self.new.journal ≡ R.notes self.old.journal) }
+        ensures settings { SameSettings self.old.inner self.new.inner }
+        ensures first { self.new.first ≡ self.old.first }
+        ensures refused { OnErr result (Unchanged self.old.inner self.new.inner) }
+        ensures once { AsksOnceAtMost (R.asked self.old.journal) (R.asked self.new.journal) }
+        ensures asked { OnOk result (R.asked self.new.journal ≡ R.asked self.old.journal + 1) }
+    {
+        let mut steps = Vec::new(alloc);
+        self.accept_behind(alloc, message, &mut steps)?;
+        Ok(StepList::from_vec(steps))
+    }
+
+    /// Takes in a message as `accept` does, and puts the steps that follow behind those that there are: so they need no list of
+    /// their own. `NoMemory` leaves the node as it was, and the steps, and the journal with no less room. It asks the journal for
+    /// room once at most.
+    pub fn accept_behind(
+        &mut self,
+        alloc: Global,
+        message: Message,
+        steps: &mut Vec<Step>,
+    ) -> Result<(), NoMemory>
+        requires fits { IsTrue (fits self.old.inner.n message) }
+        requires carried { IsTrue (is_carried self.old.inner.limit message) }
+        requires unrefused { (s : State) → StandsFor self.old.inner s → refusal_of self.old.inner.w s message ≡ None }
+        ensures steps { OnOk result (steps.new.items ≡ steps.old.items ++ (steps_of self.old.inner.w (with_early (state_by self.old.first (R.notes self.old.journal)) message)).0) }
+        ensures stays { OnErr result (steps.new.items ≡ steps.old.items) }
+        ensures noted { OnOk result (R.notes self.new.journal ≡ R.notes self.old.journal ++ notes.Kept message ∷ map step_note (steps_of self.old.inner.w (with_early (state_by self.old.first (R.notes self.old.journal)) message)).0) }
         ensures kept { OnErr result (R.notes self.new.journal ≡ R.notes self.old.journal) }
         ensures settings { SameSettings self.old.inner self.new.inner }
         ensures first { self.new.first ≡ self.old.first }
@@ -194,15 +222,17 @@ impl<R: Recorder> Node<R> {
     {
         let room = message.op.room(alloc)?;
         self.journal.reserve(alloc, most_notes(&self.inner))?;
-        let steps = self.inner.reserve_accept(alloc, &message)?;
+        let before = steps.len();
+        let most = self.inner.reserve_accept(&message, steps)?;
         put(
             &mut self.journal,
             &mut self.length,
             Note::Kept(message.copied(room)),
         );
-        let steps = self.inner.accept_reserved(message, steps);
-        put_steps(&mut self.journal, &mut self.length, steps.as_slice());
-        Ok(steps)
+        self.inner.accept_reserved(message, most, steps);
+        let (_, made) = steps.split_at(before);
+        put_steps(&mut self.journal, &mut self.length, made);
+        Ok(())
     }
 
     /// What an object is, by all events of the history that the journal tells.

@@ -161,8 +161,7 @@ fn offer_one(
         return Ok(());
     }
     let message = message.copy(alloc)?;
-    let steps = node.accept(alloc, message)?;
+    node.accept_behind(alloc, message, &mut made.steps)?;
     made.kept = true;
-    made.steps.extend_from_slice(steps.as_slice())?;
     Ok(())
 }

@@ -41,7 +41,7 @@ invariant_of-self-2 c =
     let r = c.args.self.now in
     let f = record (fields_of r) { buffer = c.most_steps-most.new.self } in
     let stands = subst (λ b. ∥ StandsForSome (record (fields_of r) { buffer = b }) ∥₁) (sym c.most_steps-most.ensures.unchanged) r.stands in
-    record { numbers = r.numbers; stands = with_room_in f stands (shown c.reserve.new.self) (lists_shown r.lists) c.reserve.ensures.items c.reserve.ensures.spare refl (omega arith) }
+    record { numbers = r.numbers; stands = with_room_in f stands (shown c.reserve-2.new.self) (lists_shown r.lists) c.reserve-2.ensures.items c.reserve-2.ensures.spare refl (omega arith) }
 
 -- once there is room for items and elements, nothing else changed
 room_taken : (c : In_ok-reserve_element) → Unchanged c.args.self.now c.reserve_element.new.self
@@ -52,8 +52,8 @@ room_taken c = unchanged_after _ _ _ (record {
   window = refl;
   buffer = c.most_steps-most.ensures.unchanged;
   log = refl;
-  items = c.reserve.ensures.items;
-  spare = c.reserve.ensures.spare;
+  items = c.reserve-2.ensures.items;
+  spare = c.reserve-2.ensures.spare;
   lists = refl;
   lists_spare = omega arith;
   outbox = refl;
@@ -74,21 +74,22 @@ returns-clause-ready c =
     let same = c.reserve_element.ensures.unchanged in
     let early = ap (λ (b : Buffer). length b.early) same.buffer in
     record {
-      fits = subst (λ n. IsTrue (fits n m)) (sym taken.settings.n) c.requires.fits;
-      carried = subst (λ limit. IsTrue (is_carried limit m)) (sym taken.settings.limit) c.requires.carried;
-      new = ap₂ (λ me counts. is_old me counts m) taken.settings.me taken.counts ∙ new_in r m c.requires.unrefused;
-      apart = ap (λ (b : Buffer). is_again b.early m) taken.buffer ∙ apart_in r m c.requires.unrefused;
-      near = (λ i. is_far (taken.buffer i).n (taken.buffer i).w (taken.settings.me i) (taken.counts i) m) ∙ near_in r m c.requires.unrefused;
-      none = c.in_ok-steps.ensures.items;
+      message = record {
+        fits = subst (λ n. IsTrue (fits n m)) (sym taken.settings.n) c.requires.fits;
+        carried = subst (λ limit. IsTrue (is_carried limit m)) (sym taken.settings.limit) c.requires.carried;
+        new = ap₂ (λ me counts. is_old me counts m) taken.settings.me taken.counts ∙ new_in r m c.requires.unrefused;
+        apart = ap (λ (b : Buffer). is_again b.early m) taken.buffer ∙ apart_in r m c.requires.unrefused;
+        near = (λ i. is_far (taken.buffer i).n (taken.buffer i).w (taken.settings.me i) (taken.counts i) m) ∙ near_in r m c.requires.unrefused;
+        room = record {
+          items = omega (arith, c.in_ok-reserve-2.ensures.room, c.len.ensures, c.len-2.ensures, c.reserve_element.ensures.items, early, ap (λ (l : Log). length l.entries) same.log);
+          lists = c.in_ok-reserve_element.ensures.room;
+        };
+      };
       made = λ s stands.
           let counts = sym taken.counts ∙ stands.counts in
           let members = sym (ap length counts ∙ length-counts s.history.present.n s.history.present.messages) in
-          let most = c.most_steps-most.ensures.most c.reserve_element.new.self.w s members counts (sym stands.buffer.early ∙ ap (λ (b : Buffer). b.early) taken.buffer) in
-          omega (arith, most, c.in_ok-steps.ensures.capacity);
-      room = record {
-        items = omega (arith, c.in_ok-reserve.ensures.room, c.len.ensures, c.len-2.ensures, c.reserve_element.ensures.items, early, ap (λ (l : Log). length l.entries) same.log);
-        lists = c.in_ok-reserve_element.ensures.room;
-      };
+          c.most_steps-most.ensures.most c.reserve_element.new.self.w s members counts (sym stands.buffer.early ∙ ap (λ (b : Buffer). b.early) taken.buffer);
+      behind = omega (arith, c.in_ok-reserve.ensures);
     }
 
 pub returns-clause-unchanged : goal.returns-clause-unchanged

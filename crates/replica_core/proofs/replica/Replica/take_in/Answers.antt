@@ -1,10 +1,9 @@
-use Rattle.std.proofs.Common.{◌≡◌, false, IsTrue, List, [], ◌∷◌, ◌++◌, length, vec_capacity, sym, ap, subst, ◌∙◌, refl, arith}
+use Rattle.std.proofs.Common.{◌≡◌, false, IsTrue, length, vec_capacity, sym, ap, subst, ◌∙◌, refl, arith}
 use Rattle.std.proofs.Math.Logic.{∥∥₁_elim, ∥∥₁_map}
 use denote.Struct.Props.{props}
 use Rattle.op_base.specs.Message.{fits}
-use Rattle.op_base.specs.declared.outcome.Step.{Step}
 use Rattle.causal_model.specs.Early.{is_again, put_early}
-use Rattle.causal_model.specs.Receiving.{is_far, steps, with_early}
+use Rattle.causal_model.specs.Receiving.{is_far, with_early}
 use Rattle.causal_model.specs.State.{State}
 use Rattle.causal_buffer.specs.Buffer.{Buffer, with_messages, AreAhead, AreNear}
 use Rattle.causal_buffer.specs.Standing.{KeepsEarly, KeepKeepsState}
@@ -22,7 +21,7 @@ use Rattle.replica_core.proofs.replica.Replica.take_in.Goals as goal
 use Rattle.replica_core.proofs.replica.Replica.take_in.Goals.{Start, After-keep, Then-comes_next}
 
 fit : (c : Start) → IsTrue (fits c.args.self.now.buffer.n c.args.message)
-fit c = subst (λ n. IsTrue (fits n c.args.message)) (sym (buffer_n_in (fields_of c.args.self.now) c.args.self.now.stands)) c.requires.ready.fits
+fit c = subst (λ n. IsTrue (fits n c.args.message)) (sym (buffer_n_in (fields_of c.args.self.now) c.args.self.now.stands)) c.requires.message.fits
 
 pub comes_next-requires-clause-fits : goal.comes_next-requires-clause-fits
 comes_next-requires-clause-fits c = fit (goal.at.comes_next-requires-clause-fits c).Start
@@ -39,7 +38,7 @@ is_next : (c : Then-comes_next) (s : State) → StandsFor c.args.self.now s → 
 is_next c s stands now is =
     let r = c.args.self.now in
     let m = c.args.message in
-    let ready = c.requires.ready in
+    let ready = c.requires.message in
     comes_as_next (fields_of r) s m stands (keep_keeps_state r.me r.counts m r.buffer (fit (goal.at-Then-comes_next c).Start) ready.new ready.apart ready.near) ready.carried ready.apart (c.comes_next.ensures.next.0 c.if-comes_next.true) now
     (is ∙ ap (λ b. record (fields_of r) { buffer = b }) c.comes_next.ensures.unchanged)
 
@@ -54,20 +53,20 @@ take-requires-clause-next c =
     ∥∥₁_map c.args.self.now.stands (λ x. (with_early x.0 c.args.message, is_next here x.0 x.1 _ refl))
 
 pub take-requires-clause-spare : goal.take-requires-clause-spare
-take-requires-clause-spare c = omega (arith, c.requires.ready.room.items, ap (λ (b : Buffer). length b.early) c.comes_next.ensures.unchanged)
+take-requires-clause-spare c = omega (arith, c.requires.message.room.items, ap (λ (b : Buffer). length b.early) c.comes_next.ensures.unchanged)
 
 pub take-requires-clause-lists_spare : goal.take-requires-clause-lists_spare
-take-requires-clause-lists_spare c = omega (arith, c.requires.ready.room.lists, ap (λ (b : Buffer). insertions b.early) c.comes_next.ensures.unchanged)
+take-requires-clause-lists_spare c = omega (arith, c.requires.message.room.lists, ap (λ (b : Buffer). insertions b.early) c.comes_next.ensures.unchanged)
 
 pub push_reserved-requires : goal.push_reserved-requires
 push_reserved-requires c =
     let here = (goal.at.push_reserved-requires c).Then-comes_next in
     let r = c.args.self.now in
     let m = c.args.message in
-    let ready = c.requires.ready in
+    let ready = c.requires.message in
     ∥∥₁_elim r.stands (search props) (λ x.
     let is = c.take.ensures.step (with_early x.0 m) (is_next here x.0 x.1 _ refl) in
-    let room = next_has_room r.w (with_early x.0 m) is.message c.args.steps.now.items (vec_capacity c.args.steps.now) is.next (omega (arith, ready.made x.0 x.1, ap length ready.none)) in
+    let room = next_has_room r.w (with_early x.0 m) is.message c.args.steps.now.items (vec_capacity c.args.steps.now) is.next (c.requires.room x.0 x.1) in
     omega (arith, room, c.args.steps.now.ok.0))
 
 pub returns-then-comes_next-clause-made : goal.returns-then-comes_next-clause-made
@@ -75,8 +74,8 @@ returns-then-comes_next-clause-made c = λ s stands.
     let w = c.args.self.now.w in
     let early = with_early s c.args.message in
     let here = (goal.at.returns-then-comes_next-clause-made c).Then-comes_next in
-    let one : [] ++ c.take.result ∷ [] ≡ c.push_reserved.new.self.items = ap (λ made. made ++ c.take.result ∷ []) (sym c.requires.ready.none) ∙ sym c.push_reserved.ensures.items in
-    subst (λ made. HasMade w early [] made c.take.new.self) one (first_is_made w early c.take.result c.take.new.self (c.take.ensures.step early (is_next here s stands _ refl)))
+    let before = c.args.steps.now.items in
+    subst (λ made. HasMade w early before made c.take.new.self) (sym c.push_reserved.ensures.items) (first_is_made w early before c.take.result c.take.new.self (c.take.ensures.step early (is_next here s stands _ refl)))
 
 -- ---- it isn't, and becomes early
 
@@ -94,10 +93,10 @@ keep-requires-clause-counts c =
     omega (arith, length-counts_in (fields_of r) r.stands, buffer_n_in (fields_of r) r.stands, ap (λ (b : Buffer). b.n) c.comes_next.ensures.unchanged)
 
 pub keep-requires-clause-apart : goal.keep-requires-clause-apart
-keep-requires-clause-apart c = subst (λ (b : Buffer). is_again b.early c.args.message ≡ false) (sym c.comes_next.ensures.unchanged) c.requires.ready.apart
+keep-requires-clause-apart c = subst (λ (b : Buffer). is_again b.early c.args.message ≡ false) (sym c.comes_next.ensures.unchanged) c.requires.message.apart
 
 pub keep-requires-clause-near : goal.keep-requires-clause-near
-keep-requires-clause-near c = subst (λ (b : Buffer). is_far b.n b.w c.args.self.now.me c.args.self.now.counts c.args.message ≡ false) (sym c.comes_next.ensures.unchanged) c.requires.ready.near
+keep-requires-clause-near c = subst (λ (b : Buffer). is_far b.n b.w c.args.self.now.me c.args.self.now.counts c.args.message ≡ false) (sym c.comes_next.ensures.unchanged) c.requires.message.near
 
 pub keep-requires-clause-held_ahead : goal.keep-requires-clause-held_ahead
 keep-requires-clause-held_ahead c =
@@ -116,7 +115,7 @@ kept c s stands =
     let m = c.args.message in
     let same = c.comes_next.ensures.unchanged in
     kept_stands (fields_of r) s stands m c.keep.new.self (c.keep.ensures.early ∙ ap (λ (b : Buffer). with_messages b (put_early m b.early)) same)
-    (subst (λ b. KeepsEarly m b c.keep.new.self) same c.keep.ensures.stands) (subst (KeepKeepsState r.me r.counts m) same c.keep.ensures.is_state) c.requires.ready.carried c.requires.ready.room.items c.requires.ready.room.lists
+    (subst (λ b. KeepsEarly m b c.keep.new.self) same c.keep.ensures.stands) (subst (KeepKeepsState r.me r.counts m) same c.keep.ensures.is_state) c.requires.message.carried c.requires.message.room.items c.requires.message.room.lists
 
 pub invariant_of-self-else-comes_next : goal.invariant_of-self-else-comes_next
 invariant_of-self-else-comes_next c =
@@ -127,8 +126,4 @@ pub returns-else-comes_next-clause-made : goal.returns-else-comes_next-clause-ma
 returns-else-comes_next-clause-made c = λ s stands.
     let w = c.args.self.now.w in
     let early = with_early s c.args.message in
-    record {
-      after = early;
-      stands = kept (goal.at.returns-else-comes_next-clause-made c).After-keep s stands;
-      is = ap (λ (made : List Step). (made ++ (steps w early).0, (steps w early).1)) (sym c.requires.ready.none);
-    }
+    record { after = early; stands = kept (goal.at.returns-else-comes_next-clause-made c).After-keep s stands; is = refl }
