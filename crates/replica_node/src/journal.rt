@@ -1,8 +1,9 @@
 //! A journal: a recorder that keeps its list.
 
-ghost use Rattle.std.specs.Prelude.{◌≡◌, ◌+◌, ◌<◌, [], ◌∷◌, ◌++◌, IfOk, OnOk, vec_len, vec_capacity};
+ghost use Rattle.std.specs.Prelude.{◌≡◌, ◌+◌, ◌≤◌, [], ◌∷◌, ◌++◌, IfOk, OnOk};
 
 use crate::count::AskCount;
+use crate::noting::{note_kept, note_sent};
 use crate::recorder::Recorder;
 use causal_model::Note;
 use op_base::NoMemory;
@@ -47,35 +48,29 @@ impl Journal {
     pub fn copy(&self, alloc: Global) -> Result<Journal, NoMemory>
         ensures { IfOk result (λ copy. copy.notes ≡ self.now.notes) }
     {
-        let mut notes = Vec::with_capacity(alloc, self.notes.len())?;
+        let mut copy = Journal {
+            notes: Vec::with_capacity(alloc, self.notes.len())?,
+            asked: AskCount::none(),
+        };
         for note in &self.notes {
-            put_copy(&mut notes, note, alloc)?;
+            put_copy(&mut copy, note, alloc)?;
         }
-        let asked = AskCount::none();
-        Ok(Journal { notes, asked })
+        Ok(copy)
     }
 }
 
-/// Puts an equal note behind notes that have room for it. The memory for a message's copy is taken first, so that the copy is
-/// made where it will stand.
-fn put_copy(notes: &mut Vec<Note>, note: &Note, alloc: Global) -> Result<(), NoMemory>
-    requires room { vec_len notes.old < vec_capacity notes.old }
-    ensures copied { OnOk result (notes.new.items ≡ notes.old.items ++ note.now ∷ []) }
-    ensures len { OnOk result (vec_len notes.new ≡ vec_len notes.old + 1) }
-    ensures capacity { vec_capacity notes.new ≡ vec_capacity notes.old }
+/// Notes what another note tells, in a journal that has room for it. The memory for a message's copy is taken first.
+fn put_copy(journal: &mut Journal, note: &Note, alloc: Global) -> Result<(), NoMemory>
+    requires room { 1 ≤ journal.old.spare }
+    ensures copied { OnOk result (journal.new.notes ≡ journal.old.notes ++ note.now ∷ []) }
+    ensures spare { OnOk result (journal.old.spare ≤ journal.new.spare + 1) }
 {
     match note {
-        Note::Sent(message) => {
-            let room = message.op.room(alloc)?;
-            notes.push_reserved(Note::Sent(message.copied(room)));
-        }
-        Note::Kept(message) => {
-            let room = message.op.room(alloc)?;
-            notes.push_reserved(Note::Kept(message.copied(room)));
-        }
-        Note::Took(id) => notes.push_reserved(Note::Took(*id)),
-        Note::Crook(id) => notes.push_reserved(Note::Crook(*id)),
-        Note::Regroup { epoch, n, me } => notes.push_reserved(Note::Regroup {
+        Note::Sent(message) => note_sent(journal, message, message.op.room(alloc)?),
+        Note::Kept(message) => note_kept(journal, message, message.op.room(alloc)?),
+        Note::Took(id) => journal.note(Note::Took(*id)),
+        Note::Crook(id) => journal.note(Note::Crook(*id)),
+        Note::Regroup { epoch, n, me } => journal.note(Note::Regroup {
             epoch: *epoch,
             n: *n,
             me: *me,

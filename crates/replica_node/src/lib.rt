@@ -9,6 +9,7 @@ mod count;
 mod epochs;
 mod journal;
 mod node;
+mod noting;
 mod recorder;
 
 pub use count::AskCount;

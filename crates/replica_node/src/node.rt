@@ -2,6 +2,7 @@
 
 ghost use Rattle.std.specs.Prelude.{◌≡◌, ◌≢◌, ◌↔◌, ◌+◌, ◌^◌, ◌<◌, ◌≤◌, ◌++◌, ◌∷◌, [], List, map, All, IfOk, OnErr, IsTrue, IsErrOf, OnOk, true, false, None};
 ghost use Rattle.std.specs.Prelude.{length as length_of};
+ghost use Rattle.op_base.specs.CopyRooms.{IsCopyRoomFor};
 ghost use Rattle.op_base.specs.Message.{fits};
 ghost use Rattle.op_base.specs.declared.name.Kind.TheVariants as kinds;
 ghost use Rattle.causal_model.specs.Counts.{is_carried};
@@ -22,9 +23,10 @@ ghost use Rattle.replica_core.specs.Rules.{StandsFor, SameSettings, Unchanged, I
 ghost use Rattle.replica_node.specs.Nodes.{state_by, IsCount};
 ghost use Rattle.replica_node.specs.Rules.{noting, AsksOnceAtMost};
 
+use crate::noting::{note_kept, note_sent};
 use crate::recorder::Recorder;
 use causal_model::{Beat, Local, Note, Receive};
-use op_base::{Answer, ElementIdList, Message, NoMemory, ObjectId, Step, StepList, Update};
+use op_base::{Answer, CopyRoom, ElementIdList, Message, NoMemory, ObjectId, Step, StepList, Update};
 use replica_core::{CreateFault, Replica};
 use std::alloc::Global;
 
@@ -145,11 +147,7 @@ impl<R: Recorder> Node<R> {
         let room = message.op.room(alloc)?;
         self.journal.reserve(alloc, 1)?;
         let own = self.inner.reserve_commit(alloc, &message)?;
-        put(
-            &mut self.journal,
-            &mut self.length,
-            Note::Sent(message.copied(room)),
-        );
+        put_sent(&mut self.journal, &mut self.length, &message, room);
         self.inner.commit_reserved(message, own);
         Ok(())
     }
@@ -224,11 +222,7 @@ impl<R: Recorder> Node<R> {
         self.journal.reserve(alloc, most_notes(&self.inner))?;
         let before = steps.len();
         let most = self.inner.reserve_accept(&message, steps)?;
-        put(
-            &mut self.journal,
-            &mut self.length,
-            Note::Kept(message.copied(room)),
-        );
+        put_kept(&mut self.journal, &mut self.length, &message, room);
         self.inner.accept_reserved(message, most, steps);
         let (_, made) = steps.split_at(before);
         put_steps(&mut self.journal, &mut self.length, made);
@@ -314,6 +308,37 @@ pub fn put<R: Recorder>(journal: &mut R, length: &mut u64, note: Note)
     ensures counted { IsCount length.new (R.notes journal.new) }
 {
     journal.note(note);
+    *length += 1;
+}
+
+/// Puts the note of a message that is sent at the end, and counts it.
+#[inline(always)]
+fn put_sent<R: Recorder>(journal: &mut R, length: &mut u64, message: &Message, room: CopyRoom)
+    requires spare { 1 ≤ R.spare journal.old }
+    requires few { length.old < 2 ^ 63 }
+    requires counted { IsCount length.old (R.notes journal.old) }
+    requires room { IsCopyRoomFor room message.now.op }
+    ensures noted { R.notes journal.new ≡ R.notes journal.old ++ notes.Sent message.now ∷ [] }
+    ensures asked { R.asked journal.new ≡ R.asked journal.old }
+    ensures counted { IsCount length.new (R.notes journal.new) }
+{
+    note_sent(journal, message, room);
+    *length += 1;
+}
+
+/// Puts the note of a message that is accepted at the end, and counts it.
+#[inline(always)]
+fn put_kept<R: Recorder>(journal: &mut R, length: &mut u64, message: &Message, room: CopyRoom)
+    requires spare { 1 ≤ R.spare journal.old }
+    requires few { length.old < 2 ^ 63 }
+    requires counted { IsCount length.old (R.notes journal.old) }
+    requires room { IsCopyRoomFor room message.now.op }
+    ensures noted { R.notes journal.new ≡ R.notes journal.old ++ notes.Kept message.now ∷ [] }
+    ensures spare { R.spare journal.old ≤ R.spare journal.new + 1 }
+    ensures asked { R.asked journal.new ≡ R.asked journal.old }
+    ensures counted { IsCount length.new (R.notes journal.new) }
+{
+    note_kept(journal, message, room);
     *length += 1;
 }
 

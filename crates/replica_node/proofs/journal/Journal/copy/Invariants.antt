@@ -1,6 +1,5 @@
-use Rattle.std.proofs.Common.{◌≡◌, ◌≤◌, length, take}
-use Rattle.std.specs.Prelude.{vec_len, vec_capacity}
+use Rattle.std.proofs.Common.{◌≡◌, ◌+◌, ◌≤◌, length, take}
 use Rattle.replica_node.proofs.journal.Journal.copy.Given as goal
 
 abbrev pub invariant-loop-note : goal.invariant-loop-note
-invariant-loop-note l = (l.notes.items ≡ take l.note-index l.note-items) × (vec_len l.notes ≡ l.note-index) × (length l.note-items ≤ vec_capacity l.notes)
+invariant-loop-note l = (l.copy.notes ≡ take l.note-index l.note-items) × (length l.note-items ≤ l.copy.spare + l.note-index)
