@@ -375,17 +375,19 @@ fn passed<P: Fn(&usize) -> bool>(slots: &[usize], test: &P) -> usize
     from
 }
 
-/// Puts an element into a list that has room for it.
-fn put_in<T: Drop>(list: &mut Vec<T>, place: usize, element: T)
+/// Puts an element into a list that has room for it. What is behind moves at once, which it doesn't by the library's `insert`.
+fn put_in<T>(list: &mut Vec<T>, place: usize, element: T)
     requires within { place ≤ vec_len list.old }
     requires room { vec_len list.old < vec_capacity list.old }
     ensures items { list.new.items ≡ insert list.old.items place element }
     ensures len { vec_len list.new ≡ vec_len list.old + 1 }
     ensures capacity { vec_capacity list.old ≤ vec_capacity list.new }
 {
-    let Ok(()) = list.insert(place, element) else {
-        unreachable!()
-    };
+    let behind = place < list.len();
+    list.push_reserved(element);
+    if behind {
+        list[place..].rotate_right(1);
+    }
 }
 
 /// Takes the slots out of a list that stand at places from the first up to, and not with, the second.
