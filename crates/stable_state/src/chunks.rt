@@ -277,7 +277,7 @@ impl Chunks {
         let mut from = 0;
         let mut to = self.count();
         while from < to {
-            let middle = from + (to - from) / 2;
+            let middle = (from + to) / 2;
             if test(&self.part(middle)[0]) {
                 from = middle + 1;
             } else {
@@ -365,7 +365,7 @@ fn passed<P: Fn(&usize) -> bool>(slots: &[usize], test: &P) -> usize
     let mut from = 0;
     let mut to = slots.len();
     while from < to {
-        let middle = from + (to - from) / 2;
+        let middle = (from + to) / 2;
         if test(&slots[middle]) {
             from = middle + 1;
         } else {

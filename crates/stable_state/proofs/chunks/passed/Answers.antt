@@ -1,4 +1,4 @@
-use Rattle.std.proofs.Common.{◌+◌, ◌-◌, ◌/◌, ◌<◌, ◌∷◌, [], length, ap, sym, ◌∙◌, arith}
+use Rattle.std.proofs.Common.{◌+◌, ◌/◌, ◌<◌, ◌∷◌, [], length, ap, sym, ◌∙◌, arith}
 use Rattle.std.proofs.lemmas.List.{get_or_default}
 use Rattle.stable_state.proofs.Parting.{narrowed_up, narrowed_down, narrowed_point}
 use Rattle.stable_state.proofs.chunks.passed.Goals as goal
@@ -12,7 +12,7 @@ bounds-slots-middle g c = omega (arith, c.loop-from.invariant.1, c.loop-from-tes
 pub loop-from-preserved-then-test : goal.loop-from-preserved-then-test
 loop-from-preserved-then-test g c =
     let slots = c.args.slots.now in
-    let middle = c.loop-from.from + (c.loop-from.to - c.loop-from.from) / 2 in
+    let middle = (c.loop-from.from + c.loop-from.to) / 2 in
     let within : middle < length slots = omega (arith, c.loop-from-test.true, c.loop-from.invariant.1) in
     let call = (g.met.P.FnMut.1.post_iff _ _ _).0 c.test.ensures in (
       omega (arith, c.loop-from-test.true),
@@ -24,7 +24,7 @@ loop-from-preserved-then-test g c =
 pub loop-from-preserved : goal.loop-from-preserved
 loop-from-preserved g c =
     let slots = c.args.slots.now in
-    let middle = c.loop-from.from + (c.loop-from.to - c.loop-from.from) / 2 in
+    let middle = (c.loop-from.from + c.loop-from.to) / 2 in
     let within : middle < length slots = omega (arith, c.loop-from-test.true, c.loop-from.invariant.1) in
     let call = (g.met.P.FnMut.1.post_iff _ _ _).0 c.test.ensures in (
       omega (arith, c.loop-from-test.true),

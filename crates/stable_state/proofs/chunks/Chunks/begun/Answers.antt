@@ -1,4 +1,4 @@
-use Rattle.std.proofs.Common.{◌≡◌, ℕ, ◌+◌, ◌-◌, ◌/◌, ◌<◌, ◌∷◌, [], List, Bool, get_or, length, ap, sym, ◌∙◌, arith}
+use Rattle.std.proofs.Common.{◌≡◌, ℕ, ◌+◌, ◌/◌, ◌<◌, ◌∷◌, [], List, Bool, get_or, length, ap, sym, ◌∙◌, arith}
 use Rattle.std.proofs.lemmas.List.{get_or_default}
 use Rattle.stable_state.specs.Chunks.{first_passes}
 use Rattle.stable_state.proofs.Parting.{first_at, narrowed_up, narrowed_down, narrowed_point}
@@ -19,7 +19,7 @@ told p parts middle part d within is some =
 pub loop-from-preserved-then-test : goal.loop-from-preserved-then-test
 loop-from-preserved-then-test g c =
     let parts = c.args.self.now.parts in
-    let middle = c.loop-from.from + (c.loop-from.to - c.loop-from.from) / 2 in
+    let middle = (c.loop-from.from + c.loop-from.to) / 2 in
     let within : middle < length parts = omega (arith, c.loop-from-test.true, c.loop-from.invariant.1) in
     let call = (g.met.P.FnMut.1.post_iff _ _ _).0 c.test.ensures in (
       omega (arith, c.loop-from-test.true),
@@ -31,7 +31,7 @@ loop-from-preserved-then-test g c =
 pub loop-from-preserved : goal.loop-from-preserved
 loop-from-preserved g c =
     let parts = c.args.self.now.parts in
-    let middle = c.loop-from.from + (c.loop-from.to - c.loop-from.from) / 2 in
+    let middle = (c.loop-from.from + c.loop-from.to) / 2 in
     let within : middle < length parts = omega (arith, c.loop-from-test.true, c.loop-from.invariant.1) in
     let call = (g.met.P.FnMut.1.post_iff _ _ _).0 c.test.ensures in (
       omega (arith, c.loop-from-test.true),
