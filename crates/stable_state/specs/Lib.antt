@@ -13,5 +13,6 @@ pub mod Settling
 pub mod View
 pub mod Laws
 pub mod Shown
+pub mod Near
 pub mod Ranks
 pub mod RankFields

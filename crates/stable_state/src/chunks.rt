@@ -5,6 +5,7 @@ ghost use Rattle.std.specs.List.{concat, insert, remove, remove_range};
 ghost use Rattle.std.specs.List.Sorted.{IsPartitionPoint, IsPartitionedBy};
 ghost use Rattle.std.specs.Fn.{ComputesKey};
 ghost use Rattle.stable_state.specs.Chunks.{IsHome, first_passes};
+ghost use Rattle.stable_state.specs.Near.{is_near};
 
 use op_base::NoMemory;
 use std::alloc::Global;
@@ -49,6 +50,13 @@ impl Spot {
             place: self.place - 1,
             chunk: self.chunk,
         }
+    }
+
+    /// Whether its place is that of another spot, or the next: so far a look at the other first goes.
+    pub fn is_near(self, other: Spot) -> bool
+        ensures { result ≡ is_near self other }
+    {
+        self.place >= other.place && self.place - other.place <= 1
     }
 }
 

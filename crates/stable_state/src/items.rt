@@ -107,7 +107,7 @@ impl Items {
             }
             (Kind::Counter | Kind::List, _) => None,
             (Kind::RCounter, _) if !matches!(update.act, Act::Clear) => None,
-            _ => Some(self.object_span(&update.object)),
+            _ => Some(self.object_span(self.shelf.hint_to_go(), &update.object)),
         }
     }
 
@@ -115,18 +115,19 @@ impl Items {
     fn place_span(&self, object: &ObjectId, value: Option<&Value>) -> (Spot, usize)
         ensures { ArePicked (is_place object.now (option_copied value.entry)) (shown self.now).items result.0.place result.1 }
     {
-        match self.shelf.find(self.shelf.hint(), object, value) {
+        match self.shelf.find(self.shelf.hint_to_go(), object, value) {
             Ok(spot) => (spot, spot.place + 1),
             Err(gap) => (gap.spot, gap.spot.place),
         }
     }
 
-    /// The places of an object's items: where the first is, and the one behind the last.
-    fn object_span(&self, object: &ObjectId) -> (Spot, usize)
+    /// The places of an object's items: where the first is, and the one behind the last. A spot is looked at first, if one is
+    /// given.
+    fn object_span(&self, near: Option<Spot>, object: &ObjectId) -> (Spot, usize)
         ensures picked { ArePicked (λ other value. same_object object.now other) (shown self.now).items result.0.place result.1 }
         ensures span { IsSpan object.now (shown self.now).items result.0.place result.1 }
     {
-        self.shelf.span(object)
+        self.shelf.span(near, object)
     }
 
     /// The places of an object's items: the first, and the one behind the last.
@@ -134,7 +135,7 @@ impl Items {
         ensures picked { ArePicked (λ other value. same_object object.now other) (shown self.now).items result.0 result.1 }
         ensures span { IsSpan object.now (shown self.now).items result.0 result.1 }
     {
-        let (from, to) = self.object_span(object);
+        let (from, to) = self.object_span(None, object);
         (from.place, to)
     }
 
@@ -203,10 +204,11 @@ impl Items {
         ensures marked { IsMarkTouched (shown self.new) update.object (value_of update.act) }
         ensures spare { (shown self.old).spare ≤ (shown self.new).spare + 1 }
     {
-        match self
-            .shelf
-            .find(self.shelf.hint(), &update.object, value_of(&update.act))
-        {
+        match self.shelf.find(
+            self.shelf.hint_to_come(),
+            &update.object,
+            value_of(&update.act),
+        ) {
             Ok(spot) => {
                 let cell = with_act(&update.act, self.shelf.at_near(spot).cell);
                 self.replace(spot, cell);
@@ -328,7 +330,7 @@ impl ItemView for Items {
     ghost items = { λ all. all.shelf.items };
 
     fn cell(&self, object: &ObjectId, value: Option<&Value>) -> Cell {
-        match self.shelf.find(self.shelf.hint(), object, value) {
+        match self.shelf.find(self.shelf.hint_to_come(), object, value) {
             Ok(spot) => self.shelf.at_near(spot).cell,
             Err(_) => NO_CELL,
         }

@@ -10,6 +10,7 @@ mod items;
 mod laws;
 mod order;
 mod rank;
+mod recent;
 mod shelf;
 mod view;
 

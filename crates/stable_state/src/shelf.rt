@@ -18,6 +18,7 @@ ghost use Rattle.stable_state.specs.Touched.{is_touched, StayTouched, KeepTouche
 use crate::chunks::{CHUNK, Spot};
 use crate::order::Order;
 use crate::rank::{Rank, Ranked, Sought};
+use crate::recent::Recent;
 use op_base::{Cell, Item, NoMemory, ObjectId, Value};
 use slab::Slab;
 use std::alloc::Global;
@@ -32,9 +33,6 @@ pub struct Gap {
     pub rank: Rank,
 }
 
-/// The first place.
-const FIRST: Spot = Spot { place: 0, chunk: 0 };
-
 /// Settled items in their one order. Each stands in a slot that doesn't move, and a list of slots has the order.
 /// Contracts see the items, which of them were touched, and how many more can be put among them without memory. `reserve`
 /// and `copy` alone take memory.
@@ -46,8 +44,8 @@ pub struct Shelf {
     // The slots that were given a cell with an off mark, one entry each time, until they are taken from here. An item that
     // is let go stays in it by its slot.
     touched: Vec<usize>,
-    // Where an item came, changed or went last, which is looked at first for the next.
-    hint: Spot,
+    // Where items stood of late, which is looked at first for the next.
+    recent: Recent,
 }
 
 impl Model for Shelf {
@@ -71,7 +69,7 @@ impl Shelf {
             slots: Slab::new(alloc),
             order: Order::new(alloc),
             touched: Vec::new(alloc),
-            hint: FIRST,
+            recent: Recent::new(),
         }
     }
 
@@ -109,7 +107,7 @@ impl Shelf {
             slots,
             order,
             touched: Vec::new(alloc),
-            hint: FIRST,
+            recent: Recent::new(),
         })
     }
 
@@ -164,9 +162,14 @@ impl Shelf {
         &self.slots[self.order.at_near(spot)]
     }
 
-    /// Where an item came, changed or went last, which is a good place to look at first. Any spot would do.
-    pub fn hint(&self) -> Spot {
-        self.hint
+    /// Where to look first for what is to go, if anywhere. Any spot would do.
+    pub fn hint_to_go(&self) -> Option<Spot> {
+        self.recent.to_go()
+    }
+
+    /// The same for what is to come or to change.
+    pub fn hint_to_come(&self) -> Option<Spot> {
+        self.recent.to_come()
     }
 
     /// A place, with its chunk where an item stands there.
@@ -178,14 +181,19 @@ impl Shelf {
         } else {
             Spot {
                 place,
-                chunk: self.hint.chunk,
+                chunk: self.recent.last().chunk,
             }
         }
     }
 
     /// The place of the item of an object and a value, or `Err` with where it would stand. A spot is looked at first.
     #[inline(always)]
-    pub fn find(&self, near: Spot, object: &ObjectId, value: Option<&Value>) -> Result<Spot, Gap>
+    pub fn find(
+        &self,
+        near: Option<Spot>,
+        object: &ObjectId,
+        value: Option<&Value>,
+    ) -> Result<Spot, Gap>
         ensures within { IfOk result (λ spot. spot.place < length self.now.items) }
         ensures few { length self.now.items < 2 ^ 64 }
         ensures found { IfOk result
@@ -207,15 +215,27 @@ impl Shelf {
         }
     }
 
-    /// How many of the items are before what is looked for. A place is looked at first.
+    /// How many of the items are before what is looked for. A place is looked at first, if one is given.
     #[inline(always)]
-    fn spot(&self, near: Spot, sought: &Sought<'_>) -> Spot
+    fn spot(&self, near: Option<Spot>, sought: &Sought<'_>) -> Spot
         ensures within { result.place ≤ length self.now.items }
         ensures place { IsParted (is_before sought.now.object.now (option_copied sought.now.value)) self.now.items result.place }
     {
-        if let Some(spot) = self.spot_near(near, sought) {
-            return spot;
+        match near {
+            Some(near) => match self.spot_near(near, sought) {
+                Some(spot) => spot,
+                None => self.spot_afar(sought),
+            },
+            None => self.spot_afar(sought),
         }
+    }
+
+    /// The same, where no place is looked at first.
+    #[inline(always)]
+    fn spot_afar(&self, sought: &Sought<'_>) -> Spot
+        ensures within { result.place ≤ length self.now.items }
+        ensures place { IsParted (is_before sought.now.object.now (option_copied sought.now.value)) self.now.items result.place }
+    {
         place_of(&self.slots, &self.order, sought)
     }
 
@@ -263,11 +283,11 @@ impl Shelf {
         spot.place == 0 || is_before(self.ranked_near(spot.previous()), sought)
     }
 
-    /// The places of an object's items: the first, and the one behind the last.
-    pub fn span(&self, object: &ObjectId) -> (Spot, usize)
+    /// The places of an object's items: the first, and the one behind the last. A spot is looked at first, if one is given.
+    pub fn span(&self, near: Option<Spot>, object: &ObjectId) -> (Spot, usize)
         ensures { IsSpan object.now self.now.items result.0.place result.1 }
     {
-        let from = place_of(&self.slots, &self.order, &Sought::new(object, None));
+        let from = self.spot(near, &Sought::new(object, None));
         (from, self.end(from, object))
     }
 
@@ -276,6 +296,7 @@ impl Shelf {
     fn end(&self, from: Spot, object: &ObjectId) -> usize
         requires within { from.place ≤ length self.now.items }
         requires before { IsParted (is_before object.now None) self.now.items from.place }
+        ensures rise { Rise self.now.items }
         ensures within { result ≤ length self.now.items }
         ensures place { IsParted (is_up_to object.now) self.now.items result }
     {
@@ -321,10 +342,10 @@ impl Shelf {
         }
         let chunk = self.order.insert(gap.spot, slot);
         self.slots.insert_reserved(Ranked::new(gap.rank, item));
-        self.hint = Spot {
+        self.recent.come(Spot {
             place: gap.spot.place,
             chunk,
-        };
+        });
     }
 
     /// Lets the items go that stand at places from the first up to, and not with, the second. The others keep their
@@ -336,7 +357,7 @@ impl Shelf {
         ensures touched { KeepTouched self.old self.new }
         ensures spare { self.old.spare ≤ self.new.spare }
     {
-        self.hint = from;
+        self.recent.go(from);
         if from.place < to {
             self.take_out(from.place, to, from.chunk);
         }
@@ -371,7 +392,7 @@ impl Shelf {
             add(&mut self.touched, slot);
         }
         write_cell(&mut self.slots, slot, cell);
-        self.hint = spot;
+        self.recent.come(spot);
     }
 
     /// How many times an item was touched.
@@ -402,7 +423,7 @@ impl Shelf {
     {
         let ranked = self.slots.get(self.touched[self.touched.len() - 1])?;
         let item = ranked.item();
-        match self.find(self.hint, &item.object, item.value.as_ref()) {
+        match self.find(Some(self.recent.last()), &item.object, item.value.as_ref()) {
             Ok(spot) => Some(spot.place),
             Err(_) => None,
         }

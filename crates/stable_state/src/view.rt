@@ -45,7 +45,7 @@ impl ItemView for ItemSpan<'_> {
 
     fn cell(&self, object: &ObjectId, value: Option<&Value>) -> Cell {
         let near = self.shelf.spot_at(self.from);
-        let Ok(spot) = self.shelf.find(near, object, value) else {
+        let Ok(spot) = self.shelf.find(Some(near), object, value) else {
             return NO_CELL;
         };
         if (self.from..self.to).contains(&spot.place) {

@@ -25,4 +25,4 @@ pub returns : goal.returns
 returns c =
     let s = c.self.inside in
     let point = point_moves (is_up_to c.args.object.now) s.slots s.order.items c.args.self.now.items c.place_behind.result (ap (λ shelved. shelved.items) c.self.view_is) c.place_behind.ensures.within c.place_behind.ensures.place in
-    record { within = point.0; place = point.1 }
+    record { rise = c.is_end.ensures.rise; within = point.0; place = point.1 }

@@ -14,7 +14,7 @@ use Rattle.stable_state.proofs.shelf.Shelf.insert.Goals as goal
 use Rattle.stable_state.proofs.shelf.Shelf.insert.Goals.{then-item, else-item}
 
 -- what the fields are where the branches meet
-record Noted (c : goal.After-self-1) : Type 0 where
+record Noted (c : goal.After-come) : Type 0 where
   slots : c.if-item.self-inside.slots ≡ c.self.inside.slots
   order : c.if-item.self-inside.order ≡ c.self.inside.order
   more : (slot : ℕ) → Contains c.self.inside.touched.items slot → Contains c.if-item.self-inside.touched.items slot
@@ -22,7 +22,7 @@ record Noted (c : goal.After-self-1) : Type 0 where
   room : vec_capacity c.self.inside.touched ≤ vec_capacity c.if-item.self-inside.touched
   len : length c.if-item.self-inside.touched.items ≤ length c.self.inside.touched.items + 1
 
-noted : (c : goal.After-self-1) → Noted c
+noted : (c : goal.After-come) → Noted c
 noted c =
     let s = c.self.inside in
     let slot = c.vacant_key-slot.result in
@@ -47,17 +47,17 @@ noted c =
       }
     ]
 
-changes : (c : goal.After-self-1) → Updates c.self.inside.slots c.insert_reserved.new.self c.vacant_key-slot.result (Some c.args.item)
+changes : (c : goal.After-come) → Updates c.self.inside.slots c.insert_reserved.new.self c.vacant_key-slot.result (Some c.args.item)
 changes c =
     let new = c.insert_reserved.new.self in
     let key = c.insert_reserved.ensures.key ∙ ap (λ slots. slots.vacant_key) (noted c).slots ∙ sym c.vacant_key-slot.ensures.value in
     subst (λ slots. Updates slots new c.vacant_key-slot.result (Some c.args.item)) (noted c).slots
     (subst (λ k. Updates c.if-item.self-inside.slots new k (Some c.args.item)) key (subst (λ item. Updates c.if-item.self-inside.slots new c.insert_reserved.result (Some item)) c.new.ensures c.insert_reserved.ensures.updates))
 
-within : (c : goal.After-self-1) → c.args.gap.spot.place ≤ length c.self.inside.order.items
+within : (c : goal.After-come) → c.args.gap.spot.place ≤ length c.self.inside.order.items
 within c = omega (arith, c.requires.within, ap (λ shelved. length shelved.items) c.self.view_is, length-map c.self.inside.order.items (item_in c.self.inside.slots))
 
-order_is : (c : goal.After-self-1) → c.insert-chunk.new.self.items ≡ insert c.self.inside.order.items c.args.gap.spot.place c.vacant_key-slot.result
+order_is : (c : goal.After-come) → c.insert-chunk.new.self.items ≡ insert c.self.inside.order.items c.args.gap.spot.place c.vacant_key-slot.result
 order_is c = c.insert-chunk.ensures.items ∙ ap (λ order. insert order.items c.args.gap.spot.place c.vacant_key-slot.result) (noted c).order
 
 pub invariant_of-self : goal.invariant_of-self

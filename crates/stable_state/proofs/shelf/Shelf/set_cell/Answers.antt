@@ -15,15 +15,15 @@ use Rattle.stable_state.proofs.Touched.{touched_in, touched_moves, touched-push}
 use Rattle.stable_state.proofs.shelf.Shelf.set_cell.Goals as goal
 use Rattle.stable_state.proofs.shelf.Shelf.set_cell.Goals.{then-cell, else-cell}
 
-within : (c : goal.After-spot-1) → c.args.spot.place < length c.self.inside.order.items
+within : (c : goal.After-come) → c.args.spot.place < length c.self.inside.order.items
 within c = omega (arith, c.requires.within, ap (λ shelved. length shelved.items) c.self.view_is, length-map c.self.inside.order.items (item_in c.self.inside.slots))
 
 -- the slots with the item's new cell
-abbrev renewed : goal.After-spot-1 → Slab Item
+abbrev renewed : goal.After-come → Slab Item
 renewed c = written c.self.inside.slots c.self.inside.order.items c.args.spot.place c.at_near-slot.result c.args.cell c.self.invariant (within c) (sym c.at_near-slot.ensures)
 
 -- what the fields are where the branches meet
-record Noted (c : goal.After-spot-1) : Type 0 where
+record Noted (c : goal.After-come) : Type 0 where
   slots : c.if-cell.self-inside.slots ≡ c.self.inside.slots
   order : c.if-cell.self-inside.order ≡ c.self.inside.order
   more : (slot : ℕ) → Contains c.self.inside.touched.items slot → Contains c.if-cell.self-inside.touched.items slot
@@ -32,7 +32,7 @@ record Noted (c : goal.After-spot-1) : Type 0 where
   room : vec_capacity c.self.inside.touched ≤ vec_capacity c.if-cell.self-inside.touched
   len : length c.if-cell.self-inside.touched.items ≤ length c.self.inside.touched.items + 1
 
-noted : (c : goal.After-spot-1) → Noted c
+noted : (c : goal.After-come) → Noted c
 noted c =
     let s = c.self.inside in
     let slot = c.at_near-slot.result in
@@ -59,7 +59,7 @@ noted c =
       }
     ]
 
-written_is : (c : goal.After-spot-1) → c.write_cell.new.slots ≡ renewed c
+written_is : (c : goal.After-come) → c.write_cell.new.slots ≡ renewed c
 written_is c =
     let s = c.self.inside in
     let slot = c.at_near-slot.result in
@@ -81,7 +81,7 @@ returns-clause-items c =
     ∙ ap (λ shelved. with_cell c.args.spot.place c.args.cell shelved.items) c.self.view_is
 
 -- what was touched is so still
-touched_still : (c : goal.After-spot-1) (object : ObjectId) (value : Option (List ℕ)) → is_touched c.args.self.now.touched object value ≡ true → is_touched (touched_in c.write_cell.new.slots c.if-cell.self-inside.touched.items) object value ≡ true
+touched_still : (c : goal.After-come) (object : ObjectId) (value : Option (List ℕ)) → is_touched c.args.self.now.touched object value ≡ true → is_touched (touched_in c.write_cell.new.slots c.if-cell.self-inside.touched.items) object value ≡ true
 touched_still c object value t =
     let s = c.self.inside in
     touched_moves object value s.slots c.write_cell.new.slots s.touched.items c.if-cell.self-inside.touched.items (noted c).more (λ slot at.

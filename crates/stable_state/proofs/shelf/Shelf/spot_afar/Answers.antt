@@ -2,7 +2,7 @@ use Rattle.std.proofs.Common.{ap}
 use Rattle.std.specs.Prelude.{option_copied}
 use Rattle.stable_state.specs.Places.{is_before}
 use Rattle.stable_state.proofs.Places.{point_moves}
-use Rattle.stable_state.proofs.shelf.Shelf.spot.Goals as goal
+use Rattle.stable_state.proofs.shelf.Shelf.spot_afar.Goals as goal
 
 pub returns : goal.returns
 returns c =
