@@ -176,7 +176,7 @@ pub slots_few : (lists : List (Vec ℕ Global)) → All IsChunk lists → length
 slots_few lists chunks =
     omega (arith, slots_le (parts_of lists) (All-map (λ part. length part ≤ 256) (λ v. v.items) lists (All-weaker IsChunk (λ v. length v.items ≤ 256) (λ v chunk. chunk.short) lists chunks)), length-map lists (λ v. v.items))
 
-pub ends_fit : (lists : List (Vec ℕ Global)) → All IsChunk lists → length lists ≤ 2 ^ 40 → All (λ end. end + 1 < 2 ^ 64) (ends_from 0 (parts_of lists))
+pub ends_fit : (lists : List (Vec ℕ Global)) → All IsChunk lists → length lists ≤ 2 ^ 23 → All (λ end. end + 1 < 2 ^ 32) (ends_from 0 (parts_of lists))
 ends_fit lists chunks few k d l =
     let within : k < length (parts_of lists) = omega (arith, l, length_ends 0 (parts_of lists)) in
     omega (arith, end_is (parts_of lists) k d within, start_le (parts_of lists) (suc k), slots_few lists chunks, few)

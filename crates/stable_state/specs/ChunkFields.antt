@@ -27,7 +27,7 @@ pub record IsChunked (s : Inside) : Type 0 where
   pub lists : All IsChunk s.lists.items
   pub free : All IsFree s.free.items
   pub ends : s.ends.items ≡ ends_from 0 (parts_of s.lists.items)
-  pub few : length s.lists.items + length s.free.items ≤ 2 ^ 40
+  pub few : length s.lists.items + length s.free.items ≤ 2 ^ 23
   pub lists_room : length s.lists.items + length s.free.items ≤ vec_capacity s.lists
   pub ends_room : length s.lists.items + length s.free.items ≤ vec_capacity s.ends
   pub free_room : length s.lists.items + length s.free.items ≤ vec_capacity s.free

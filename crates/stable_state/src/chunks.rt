@@ -17,8 +17,8 @@ pub const CHUNK: usize = 256;
 /// How many slots are in each half of a chunk that is parted.
 pub const HALF: usize = 128;
 
-/// More chunks than there is memory for.
-const MOST: usize = 1 << 40;
+/// The most chunks: so the place at which one ends has 32 bits, and more of them are moved at once.
+const MOST: usize = 1 << 23;
 
 /// A place, and the chunk in which it is looked for first, which may be any.
 #[derive(Clone, Copy, Drop)]
@@ -67,7 +67,7 @@ pub struct Chunks {
     // The chunks in use.
     lists: Vec<Vec<usize>>,
     // The place at which each of them ends.
-    ends: Vec<usize>,
+    ends: Vec<u32>,
     // Empty chunks.
     free: Vec<Vec<usize>>,
 }
@@ -119,7 +119,7 @@ impl Chunks {
     /// How many chunks are in use.
     pub fn count(&self) -> usize
         ensures value { result ≡ length self.now.parts }
-        ensures few { length self.now.parts + self.now.free ≤ 2 ^ 40 }
+        ensures few { length self.now.parts + self.now.free ≤ 2 ^ 23 }
         ensures slots { length (concat self.now.parts) ≤ 256 * length self.now.parts }
     {
         self.lists.len()
@@ -137,7 +137,7 @@ impl Chunks {
         ensures { result ≡ length (concat self.now.parts) }
     {
         match self.ends.last() {
-            Some(end) => *end,
+            Some(end) => *end as usize,
             None => 0,
         }
     }
@@ -155,7 +155,7 @@ impl Chunks {
         requires { chunk < length self.now.parts }
         ensures { result ≡ length (concat (take chunk self.now.parts)) }
     {
-        self.ends[chunk] - self.lists[chunk].len()
+        self.ends[chunk] as usize - self.lists[chunk].len()
     }
 
     /// The first chunk that doesn't end before a place.
@@ -164,7 +164,7 @@ impl Chunks {
         requires within { place ≤ length (concat self.now.parts) }
         ensures { IsHome self.now.parts place result }
     {
-        self.ends.partition_point(|end| *end < place)
+        self.ends.partition_point(|end| (*end as usize) < place)
     }
 
     /// The same, where the spot's chunk is looked at first.
@@ -300,7 +300,7 @@ impl Chunks {
         requires chunk { chunk < length self.old.parts }
         requires at { at ≤ length (slice_index_or self.old.parts chunk []) }
         requires room { length (slice_index_or self.old.parts chunk []) < 256 }
-        ensures few { length self.new.parts + self.new.free ≤ 2 ^ 40 }
+        ensures few { length self.new.parts + self.new.free ≤ 2 ^ 23 }
         ensures value { self.new ≡ record self.old { parts = slice_set self.old.parts chunk (insert (slice_index_or self.old.parts chunk []) at slot) } }
     {
         put_in(&mut self.lists[chunk], at, slot);
@@ -315,7 +315,7 @@ impl Chunks {
         ensures { self.new ≡ record self.old { parts = slice_set self.old.parts chunk (remove_range (slice_index_or self.old.parts chunk []) from to) } }
     {
         cut_out(&mut self.lists[chunk], from, to);
-        lower_from(&mut self.ends, chunk, to - from);
+        lower_from(&mut self.ends, chunk, (to - from) as u32);
     }
 
     /// Parts a chunk into its first `HALF` slots and the others, which go into a free chunk.
@@ -330,7 +330,7 @@ impl Chunks {
         let mut upper = self.free.take_last();
         let end = self.ends[chunk];
         let moved = halve(&mut self.lists[chunk], &mut upper);
-        put_in(&mut self.ends, chunk, end - moved);
+        put_in(&mut self.ends, chunk, end - moved as u32);
         put_in(&mut self.lists, chunk + 1, upper);
     }
 
@@ -340,13 +340,13 @@ impl Chunks {
         requires short { length slots.now ≤ 256 }
         ensures parts { self.new.parts ≡ self.old.parts ++ slots.now ∷ [] }
         ensures free { self.new.free + 1 ≡ self.old.free }
-        ensures few { length self.new.parts + self.new.free ≤ 2 ^ 40 }
+        ensures few { length self.new.parts + self.new.free ≤ 2 ^ 23 }
     {
         let end = self.len() + slots.len();
         let mut list = self.free.take_last();
         fill(&mut list, slots);
         self.lists.push_reserved(list);
-        self.ends.push_reserved(end);
+        self.ends.push_reserved(end as u32);
     }
 
     /// Frees a chunk that is empty.
@@ -440,9 +440,9 @@ fn fill(list: &mut Vec<usize>, slots: &[usize])
 }
 
 /// Raises each end from a place on by one.
-fn raise_from(ends: &mut Vec<usize>, from: usize)
+fn raise_from(ends: &mut Vec<u32>, from: usize)
     requires within { from ≤ vec_len ends.old }
-    requires fits { All (λ end. end + 1 < 2 ^ 64) ends.old.items }
+    requires fits { All (λ end. end + 1 < 2 ^ 32) ends.old.items }
     ensures items { ends.new.items ≡ take from ends.old.items ++ map (λ end. end + 1) (drop from ends.old.items) }
     ensures capacity { vec_capacity ends.new ≡ vec_capacity ends.old }
 {
@@ -450,7 +450,7 @@ fn raise_from(ends: &mut Vec<usize>, from: usize)
 }
 
 /// Lowers each end from a place on.
-fn lower_from(ends: &mut Vec<usize>, from: usize, by: usize)
+fn lower_from(ends: &mut Vec<u32>, from: usize, by: u32)
     requires within { from ≤ vec_len ends.old }
     requires above { All (λ end. by ≤ end) (drop from ends.old.items) }
     ensures items { ends.new.items ≡ take from ends.old.items ++ map (λ end. end - by) (drop from ends.old.items) }
@@ -460,8 +460,8 @@ fn lower_from(ends: &mut Vec<usize>, from: usize, by: usize)
 }
 
 /// Raises each number by one.
-fn raise(ends: &mut [usize])
-    requires { All (λ end. end + 1 < 2 ^ 64) ends.old }
+fn raise(ends: &mut [u32])
+    requires { All (λ end. end + 1 < 2 ^ 32) ends.old }
     ensures { ends.new ≡ map (λ end. end + 1) ends.old }
 {
     for end in ends.iter_mut() {
@@ -470,7 +470,7 @@ fn raise(ends: &mut [usize])
 }
 
 /// Lowers each number.
-fn lower(ends: &mut [usize], by: usize)
+fn lower(ends: &mut [u32], by: u32)
     requires { All (λ end. by ≤ end) ends.old }
     ensures { ends.new ≡ map (λ end. end - by) ends.old }
 {

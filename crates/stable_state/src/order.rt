@@ -235,7 +235,7 @@ fn put(chunks: &mut Chunks, spot: Spot, slot: usize) -> usize
     ensures parts { let part = slice_index_or chunks.old.parts result [] in let start = length (concat (take result chunks.old.parts)) in
         chunks.new.parts ≡ slice_set chunks.old.parts result (insert part (spot.place - start) slot) }
     ensures free { chunks.new.free ≡ chunks.old.free }
-    ensures few { length chunks.new.parts + chunks.new.free ≤ 2 ^ 40 }
+    ensures few { length chunks.new.parts + chunks.new.free ≤ 2 ^ 23 }
 {
     let chunk = chunks.chunk_of(spot);
     let at = spot.place - chunks.start(chunk);

@@ -1,17 +1,23 @@
 use Rattle.std.specs.Prelude.{Some}
-use Rattle.std.proofs.Common.{◌≡◌, ◌+◌, [], ◌∷◌, ◌++◌, All, length, ap, sym, subst, ◌∙◌, arith, length-append}
+use Rattle.std.proofs.Common.{◌≡◌, ℕ, ◌+◌, ◌^◌, ◌<◌, ◌≤◌, [], ◌∷◌, ◌++◌, All, length, ap, sym, subst, ◌∙◌, arith, length-append}
 use Rattle.std.specs.List.{concat}
 use Rattle.std.proofs.lemmas.List.{length-map, map-append}
 use Rattle.std.proofs.lemmas.List.Elements.{All-push, All-pop}
-use Rattle.stable_state.specs.Chunks.{ends_from}
-use Rattle.stable_state.specs.ChunkFields.{parts_of, IsChunk, IsFree}
+use Rattle.stable_state.specs.Chunks.{Chunked, ends_from}
+use Rattle.stable_state.specs.ChunkFields.{parts_of, chunked, IsChunk, IsFree, IsChunked}
+use Rattle.stable_state.specs.declared.chunks.Chunks.TheInside.{Inside}
 use Rattle.stable_state.proofs.Ends.{length_ends, ends_append, slots_few}
 use Rattle.stable_state.proofs.chunks.Chunks.append.Goals as goal
 
+-- with a chunk more, the last still ends at a place of 32 bits
+fits : (s : Inside) (v : Chunked) (len more : ℕ) → IsChunked s → chunked s ≡ v → len ≡ length (concat v.parts) → more ≤ 256 → len + more < 2 ^ 32
+fits s v len more held is all short = omega (arith, all, short, slots_few s.lists.items held.lists, held.few, ap (λ v. length (concat v.parts)) is)
+
 pub overflow_add-end : goal.overflow_add-end
-overflow_add-end c =
-    let s = c.self.inside in
-    omega (arith, c.len.ensures, c.requires.short, slots_few s.lists.items c.self.invariant.lists, c.self.invariant.few, ap (λ v. length (concat v.parts)) c.self.view_is)
+overflow_add-end c = omega (arith, fits c.self.inside c.args.self.now c.len.result (length c.args.slots.now) c.self.invariant c.self.view_is c.len.ensures c.requires.short)
+
+pub overflow_cast-end : goal.overflow_cast-end
+overflow_cast-end c = omega (arith, fits c.self.inside c.args.self.now c.len.result (length c.args.slots.now) c.self.invariant c.self.view_is c.len.ensures c.requires.short)
 
 pub fill-requires : goal.fill-requires
 fill-requires c =

@@ -16,8 +16,8 @@ raise_from-requires-clause-within c =
 pub raise_from-requires-clause-fits : goal.raise_from-requires-clause-fits
 raise_from-requires-clause-fits c =
     let s = c.self.inside in
-    let few : length s.lists.items ≤ 2 ^ 40 = omega (arith, c.self.invariant.few) in
-    subst (All (λ end. end + 1 < 2 ^ 64)) (sym c.self.invariant.ends) (ends_fit s.lists.items c.self.invariant.lists few)
+    let few : length s.lists.items ≤ 2 ^ 23 = omega (arith, c.self.invariant.few) in
+    subst (All (λ end. end + 1 < 2 ^ 32)) (sym c.self.invariant.ends) (ends_fit s.lists.items c.self.invariant.lists few)
 
 pub invariant_of-self : goal.invariant_of-self
 invariant_of-self c =
