@@ -18,6 +18,10 @@ use Rattle.polog.specs.Order.{Each, Pairwise}
 -- ---- places in a list
 
 module _ {A : Type 0} where
+  pub any-of : (xs : List A) → 0 < length xs → A
+  any-of [] some = absurd (omega (arith, some))
+  any-of (x ∷ xs) some = x
+
   pub each-at : (P : A → Type 0) (xs : List A) → Each P xs → (k : ℕ) (d : A) → k < length xs → P (get_or xs k d)
   each-at P [] each k d l = absurd (omega (arith, l))
   each-at P (x ∷ xs) each zero d l = each.0
@@ -40,6 +44,12 @@ module _ {A : Type 0} where
   get-other [] i d e l = absurd (omega (arith, l))
   get-other (x ∷ xs) zero d e l = refl
   get-other (x ∷ xs) (suc i) d e l = get-other xs i d e (omega (arith, l))
+
+  pub pairwise-at : (R : A → A → Type 0) (xs : List A) → Pairwise R xs → (i j : ℕ) (d : A) → i < j → j < length xs → R (get_or xs i d) (get_or xs j d)
+  pairwise-at R [] pairs i j d l m = absurd (omega (arith, m))
+  pairwise-at R (x ∷ xs) pairs i zero d l m = absurd (omega (arith, l))
+  pairwise-at R (x ∷ xs) pairs zero (suc j) d l m = each-at (R x) xs pairs.0 j d (omega (arith, m))
+  pairwise-at R (x ∷ xs) pairs (suc i) (suc j) d l m = pairwise-at R xs pairs.1 i j d (omega (arith, l)) (omega (arith, m))
 
   -- where each later item that passes makes each earlier one pass, no item that passes comes after one that fails
   pub passes-first : (p : A → Bool) (xs : List A) → Pairwise (λ a b. p b ≡ true → p a ≡ true) xs → (i j : ℕ) (d : A) → i ≤ j → j < length xs → p (get_or xs j d) ≡ true → p (get_or xs i d) ≡ true
@@ -155,3 +165,26 @@ other-above a b h = same-is-eq a b ∙ not_tied_above (object_cmp a b) h
 
 pub same-between : (a b : ObjectId) → is_lt (object_cmp a b) ≡ false → is_le (object_cmp a b) ≡ true → same_object a b ≡ true
 same-between a b h t = same-is-eq a b ∙ tied_between (object_cmp a b) h t
+
+lower_unless_tied : (o : Ordering) → is_le o ≡ true → is_eq o ≡ false → is_lt o ≡ true
+lower_unless_tied Less h t = refl
+lower_unless_tied Equal h t = sym t
+lower_unless_tied Greater h t = h
+
+higher_unless_tied : (o : Ordering) → is_lt o ≡ false → is_eq o ≡ false → is_le o ≡ false
+higher_unless_tied Less h t = h
+higher_unless_tied Equal h t = t
+higher_unless_tied Greater h t = refl
+
+-- what stands no higher than an object and isn't of it stands below it
+pub other-is-below : (a b c : ObjectId) → object_cmp b c ≡ Equal → is_le (object_cmp a b) ≡ true → same_object a c ≡ false → is_lt (object_cmp a c) ≡ true
+other-is-below a b c tied le other =
+    lower_unless_tied (object_cmp a c) (through-from a b c le (ap is_le tied)) (sym (same-is-eq a c) ∙ other)
+
+-- what stands no lower than an object and isn't of it stands above it
+pub other-is-above : (a b c : ObjectId) → object_cmp a c ≡ Equal → is_le (object_cmp a b) ≡ true → same_object b c ≡ false → is_le (object_cmp b c) ≡ false
+other-is-above a b c tied le other =
+    higher_unless_tied (object_cmp b c) (not_below (is_lt (object_cmp b c)) refl) (sym (same-is-eq b c) ∙ other) where
+      not_below : (t : Bool) → is_lt (object_cmp b c) ≡ t → is_lt (object_cmp b c) ≡ false
+      not_below true up = absurd (false≢true (sym (ap is_lt tied) ∙ below-from a b c le up))
+      not_below false down = down

@@ -1,10 +1,12 @@
 -- Rows of a log: entries beside the numbers of their arrival, side by side by object.
 use Rattle.std.specs.Prelude.{◌≡◌, ◌≢◌, ℕ, ◌+◌, ◌-◌, ◌<◌, ◌≤◌, ◌⊎◌, Bool, true, false, List, ◌++◌, length, take, drop, slice_range, slice_index_or, Option, Some, None, IsTrue}
 use Rattle.std.specs.List.Sorted.{IsPermutation}
+use Rattle.std.specs.Ordering.{is_lt, is_le}
 use Rattle.std.specs.declared.cmp.Ordering.TheVariants.{Less, Equal}
 use Rattle.op_base.specs.Message.{fits}
 use Rattle.op_base.specs.Order.{object_cmp}
 use Rattle.op_base.specs.declared.message.Entry.{Entry}
+use Rattle.op_base.specs.declared.name.ObjectId.{ObjectId}
 use Rattle.causal_model.specs.Log.{message_of}
 use Rattle.polog.specs.Order.{Each, Pairwise, in_order, items_of}
 
@@ -32,6 +34,15 @@ abbrev pub StandsBefore : ℕ × Entry → ℕ × Entry → Type 0
 StandsBefore a b =
     ((object_cmp a.1.update.object b.1.update.object ≡ Less) ⊎ ((object_cmp a.1.update.object b.1.update.object ≡ Equal) × (a.0 < b.0)))
     × (a.0 ≢ b.0)
+
+-- of entries that are side by side by object, those of an object stand from one place up to another
+pub record IsSpan (object : ObjectId) (es : List Entry) (from to : ℕ) : Type 0 where
+  pub order : from ≤ to
+  pub places : to ≤ length es
+  pub below : Each (λ e. is_lt (object_cmp e.update.object object) ≡ true) (take from es)
+  pub not_below : Each (λ e. is_lt (object_cmp e.update.object object) ≡ false) (drop from es)
+  pub through : Each (λ e. is_le (object_cmp e.update.object object) ≡ true) (take to es)
+  pub above : Each (λ e. is_le (object_cmp e.update.object object) ≡ false) (drop to es)
 
 -- each entry of a store of n members beside its number, side by side by object, each number below the next one
 pub record IsLaid (n next : ℕ) (rs : List (ℕ × Entry)) : Type 0 where

@@ -4,6 +4,7 @@
 //! of Baquero, Almeida and Shoker (arXiv 1710.04469).
 #![tactic(auto)]
 
+mod guesses;
 mod ids;
 mod laws;
 mod marks;

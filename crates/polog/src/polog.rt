@@ -15,11 +15,12 @@ ghost use Rattle.polog.specs.Marks.{Reaches};
 ghost use Rattle.polog.specs.Order.{Pairwise};
 ghost use Rattle.polog.specs.Standing.{IsLogOf, KeepsPruned, KeepsLogged, KeepsTakenIn, KeepsStripped, KeepsHandingOut, KeepsStripping, AreLoggedOf, TellWhatIsLogged};
 
+use crate::guesses::{Guesses, slot_of};
 use crate::ids::{numbered_ids, without_numbers};
 use crate::marks::{Stamp, mark_of};
 use crate::reach::Reach;
 use crate::rows::Rows;
-use crate::search::{count_through, span};
+use crate::search::{span, span_of};
 use crate::sweep::{first_stable, keep_unstable, move_tail, sort, sort_falling, sweep_object};
 use causal_model::TypeRule;
 use op_base::{Entry, IdList, Message, NoMemory, ObjectId, Op, Tag};
@@ -38,9 +39,8 @@ pub struct Polog {
     rows: Rows,
     /// What was stripped and waits to be handed out, the last to arrive first.
     leaving: Vec<(u64, Entry)>,
-    /// Where a search looks first: from which place on and up to which place the entries stood of the object of which one was
-    /// pruned or put in last. Others may stand there by now.
-    last: (usize, usize),
+    /// Where a search for an object's entries looks first. Others may stand there by now.
+    guesses: Guesses,
 }
 
 impl Model for Polog {
@@ -73,7 +73,7 @@ impl Polog {
             next: 0,
             rows: Rows::create(alloc, room)?,
             leaving: Vec::with_capacity(alloc, room)?,
-            last: (0, 0),
+            guesses: Guesses::none(),
         })
     }
 
@@ -85,7 +85,7 @@ impl Polog {
         self.rows.cut(0, self.rows.len());
         self.leaving.clear();
         self.next = 0;
-        self.last = (0, 0);
+        self.guesses = Guesses::none();
     }
 
     /// How many entries there are.
@@ -133,9 +133,10 @@ impl Polog {
         }
         if let Op::Update(update) = &message.op {
             let mark = mark_of(update.act());
+            let slot = slot_of(&update.object);
             let swept = sweep_object(
                 &mut self.rows,
-                self.last,
+                self.guesses.at(slot),
                 message,
                 update,
                 rule,
@@ -143,7 +144,8 @@ impl Polog {
                 mark,
             );
             self.rows.cut(swept.kept, swept.to);
-            self.last = (swept.from, swept.kept);
+            self.guesses
+                .note(slot, swept.from, swept.to, swept.kept, self.rows.len());
         }
     }
 
@@ -163,9 +165,10 @@ impl Polog {
             return;
         };
         let mark = mark_of(update.act());
+        let slot = slot_of(&update.object);
         let swept = sweep_object(
             &mut self.rows,
-            self.last,
+            self.guesses.at(slot),
             message,
             update,
             rule,
@@ -173,6 +176,7 @@ impl Polog {
             mark,
         );
         if let Op::Update(update) = replace(&mut message.op, Op::NoOp) {
+            self.guesses.note(slot, swept.from, swept.to, swept.kept + 1, self.rows.len());
             let stamp = Stamp {
                 number: self.next,
                 mark,
@@ -184,7 +188,6 @@ impl Polog {
             };
             self.rows.splice(swept.kept, swept.to, stamp, entry);
             self.next += 1;
-            self.last = (swept.from, swept.kept + 1);
         }
     }
 
@@ -197,15 +200,20 @@ impl Polog {
         // where the log was pruned for the entry's message, the message is in it
         ensures logged { KeepsLogged entry self.old self.new }
     {
-        let at = count_through(self.rows.entries(), &entry.update.object, self.last.1);
+        let slot = slot_of(&entry.update.object);
+        let (from, at) = span_of(
+            self.rows.entries(),
+            &entry.update.object,
+            self.guesses.at(slot),
+        );
         let mark = mark_of(entry.update.act());
         let stamp = Stamp {
             number: self.next,
             mark,
         };
+        self.guesses.note(slot, from, at, at + 1, self.rows.len());
         self.rows.insert(at, stamp, entry);
         self.next += 1;
-        self.last.1 = at + 1;
     }
 
     /// Takes out all entries that are stable where these are the stable counts, in one pass and one move of what stays. They
@@ -263,7 +271,11 @@ impl Polog {
         // of a log of what a member delivered they are those of the object in it
         ensures of { AreLoggedOf object.now self.now result.now }
     {
-        span(self.rows.entries(), object, self.last)
+        span(
+            self.rows.entries(),
+            object,
+            self.guesses.at(slot_of(object)),
+        )
     }
 
     /// Every entry once, side by side by object in the order of objects, and those of one object in history order.

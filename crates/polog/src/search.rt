@@ -1,10 +1,12 @@
 //! Where an object's entries stand among entries that are side by side by object.
 
-ghost use Rattle.std.specs.Prelude.{◌≡◌, ◌≤◌, true, false, take, drop, length, filter, slice_range, IsTrue};
+ghost use Rattle.std.specs.Prelude.{◌≡◌, ◌<◌, ◌≤◌, true, false, take, drop, length, filter, slice_index_or, IsTrue};
 ghost use Rattle.std.specs.Ordering.{is_lt, is_le};
 ghost use Rattle.op_base.specs.Order.{object_cmp};
 ghost use Rattle.polog.specs.Value.{is_of};
+ghost use Rattle.op_base.specs.declared.message.Entry.{Entry};
 ghost use Rattle.polog.specs.Order.{Each, Pairwise};
+ghost use Rattle.polog.specs.Rows.{IsSpan};
 
 use op_base::{Entry, ObjectId};
 
@@ -28,43 +30,36 @@ fn stands_within(entry: &Entry, object: &ObjectId) -> bool
     entry.update.object.cmp(object).is_le()
 }
 
-/// Whether the entries before a place stand before an object's, and those from the place on don't.
-fn is_count_before(entries: &[Entry], object: &ObjectId, at: usize) -> bool
-    requires rise { Pairwise (λ a b. is_le (object_cmp a.update.object b.update.object) ≡ true) entries.now }
-    requires place { at ≤ length entries.now }
-    ensures before { IsTrue result → Each (λ e. is_lt (object_cmp e.update.object object.now) ≡ true) (take at entries.now) }
-    ensures after { IsTrue result → Each (λ e. is_lt (object_cmp e.update.object object.now) ≡ false) (drop at entries.now) }
+/// Whether an entry stands at a place and is of an object.
+fn is_at(entries: &[Entry], object: &ObjectId, at: usize) -> bool
+    ensures inside { IsTrue result → at < length entries.now }
+    ensures of { at < length entries.now → (d : Entry) → result ≡ is_of object.now (slice_index_or entries.now at d) }
 {
-    if at > 0 && !stands_before(&entries[at - 1], object) {
-        return false;
-    }
-    at == entries.len() || !stands_before(&entries[at], object)
+    at < entries.len() && entries[at].update.object.is_same(object)
 }
 
-/// Whether the entries before a place stand before an object's or are of it, and those from the place on stand after.
-fn is_count_through(entries: &[Entry], object: &ObjectId, at: usize) -> bool
-    requires rise { Pairwise (λ a b. is_le (object_cmp a.update.object b.update.object) ≡ true) entries.now }
-    requires place { at ≤ length entries.now }
-    ensures before { IsTrue result → Each (λ e. is_le (object_cmp e.update.object object.now) ≡ true) (take at entries.now) }
-    ensures after { IsTrue result → Each (λ e. is_le (object_cmp e.update.object object.now) ≡ false) (drop at entries.now) }
+/// Whether an object's entries, of which there are some, stand from one place up to another. Where their order tells it, it isn't
+/// looked at.
+fn is_span(entries: &[Entry], object: &ObjectId, from: usize, to: usize) -> bool
+    requires { Pairwise (λ a b. is_le (object_cmp a.update.object b.update.object) ≡ true) entries.now }
+    ensures { IsTrue result → IsSpan object.now entries.now from to }
 {
-    if at > 0 && !stands_within(&entries[at - 1], object) {
+    if from >= to || !is_at(entries, object, from) || !is_at(entries, object, to - 1) {
         return false;
     }
-    at == entries.len() || !stands_within(&entries[at], object)
+    if from > 0 && is_at(entries, object, from - 1) {
+        return false;
+    }
+    !is_at(entries, object, to)
 }
 
-/// How many entries stand before those of an object. The guess is tried first.
-pub fn count_before(entries: &[Entry], object: &ObjectId, guess: usize) -> usize
+/// How many entries stand before those of an object.
+pub fn count_before(entries: &[Entry], object: &ObjectId) -> usize
     requires { Pairwise (λ a b. is_le (object_cmp a.update.object b.update.object) ≡ true) entries.now }
     ensures bound { result ≤ length entries.now }
     ensures before { Each (λ e. is_lt (object_cmp e.update.object object.now) ≡ true) (take result entries.now) }
     ensures after { Each (λ e. is_lt (object_cmp e.update.object object.now) ≡ false) (drop result entries.now) }
 {
-    let guess = guess.min(entries.len());
-    if is_count_before(entries, object, guess) {
-        return guess;
-    }
     entries.partition_point(
         |entry: &Entry| -> bool
             ensures { result ≡ is_lt (object_cmp entry.now.update.object object.entry.now) }
@@ -72,17 +67,13 @@ pub fn count_before(entries: &[Entry], object: &ObjectId, guess: usize) -> usize
     )
 }
 
-/// How many entries stand before those of an object, or are of it. The guess is tried first.
-pub fn count_through(entries: &[Entry], object: &ObjectId, guess: usize) -> usize
+/// How many entries stand before those of an object, or are of it.
+pub fn count_through(entries: &[Entry], object: &ObjectId) -> usize
     requires { Pairwise (λ a b. is_le (object_cmp a.update.object b.update.object) ≡ true) entries.now }
     ensures bound { result ≤ length entries.now }
     ensures before { Each (λ e. is_le (object_cmp e.update.object object.now) ≡ true) (take result entries.now) }
     ensures after { Each (λ e. is_le (object_cmp e.update.object object.now) ≡ false) (drop result entries.now) }
 {
-    let guess = guess.min(entries.len());
-    if is_count_through(entries, object, guess) {
-        return guess;
-    }
     entries.partition_point(
         |entry: &Entry| -> bool
             ensures { result ≡ is_le (object_cmp entry.now.update.object object.entry.now) }
@@ -90,20 +81,17 @@ pub fn count_through(entries: &[Entry], object: &ObjectId, guess: usize) -> usiz
     )
 }
 
-/// From which place on and up to which place an object's entries stand. The guess is tried first.
+/// From which place on and up to which place an object's entries stand, or would stand. The guess is tried first.
 pub fn span_of(entries: &[Entry], object: &ObjectId, guess: (usize, usize)) -> (usize, usize)
     requires { Pairwise (λ a b. is_le (object_cmp a.update.object b.update.object) ≡ true) entries.now }
-    ensures order { result.0 ≤ result.1 }
-    ensures places { result.1 ≤ length entries.now }
-    ensures before { Each (λ e. is_of object.now e ≡ false) (take result.0 entries.now) }
-    ensures inside { slice_range entries.now result.0 result.1 ≡ filter (is_of object.now) entries.now }
-    ensures after { Each (λ e. is_of object.now e ≡ false) (drop result.1 entries.now) }
-    ensures through { Each (λ e. is_le (object_cmp e.update.object object.now) ≡ true) (take result.1 entries.now) }
-    ensures above { Each (λ e. is_le (object_cmp e.update.object object.now) ≡ false) (drop result.1 entries.now) }
+    ensures { IsSpan object.now entries.now result.0 result.1 }
 {
-    let from = count_before(entries, object, guess.0);
-    let guess = guess.1.saturating_sub(from);
-    (from, from + count_through(&entries[from..], object, guess))
+    let (from, to) = (guess.0, guess.1.min(entries.len()));
+    if is_span(entries, object, from, to) {
+        return (from, to);
+    }
+    let from = count_before(entries, object);
+    (from, from + count_through(&entries[from..], object))
 }
 
 /// The entries of an object. The guess is tried first.

@@ -15,15 +15,15 @@ use Rattle.polog.proofs.Laid.{length-arrived, by-object, laid-more, arrived-more
 use Rattle.polog.proofs.Standing.{logged-is}
 use Rattle.polog.proofs.polog.Polog.push.Goals as goal
 
-pub count_through-at-requires : goal.count_through-at-requires
-count_through-at-requires c =
+pub span_of-from-requires : goal.span_of-from-requires
+span_of-from-requires c =
     subst (Pairwise (λ (a b : Entry). is_le (object_cmp a.update.object b.update.object) ≡ true)) (sym c.entries.ensures)
     (by-object c.self.inside.rows.rows c.self.invariant.0.grouped)
 
 pub insert-requires-clause-place : goal.insert-requires-clause-place
 insert-requires-clause-place c =
     let many = ap length c.entries.ensures ∙ length-items c.self.inside.rows.rows in
-    omega (arith, c.count_through-at.ensures.bound, many)
+    omega (arith, c.span_of-from.ensures.places, many)
 
 pub insert-requires-clause-mark : goal.insert-requires-clause-mark
 insert-requires-clause-mark c = c.mark_of-mark.ensures ∙ ap mark_of c.act.ensures
@@ -35,11 +35,11 @@ insert-requires-clause-room c =
     let room : c.self.inside.rows.room ≡ c.args.self.now.room = ap (λ log. log.room) c.self.view_is in
     omega (arith, c.requires.room, length-arrived rows, seen, room)
 
-module _ (c : goal.After-self-2-1) where
-  laid : IsLaid c.self.inside.n (c.self.inside.next + 1) (insert c.self.inside.rows.rows c.count_through-at.result (c.self.inside.next, c.args.entry))
-  laid = laid-more c.self.inside.n c.self.inside.next c.count_through-at.result c.self.inside.rows.rows c.args.entry c.self.invariant.0
-      (subst (λ xs. Each (λ f. is_le (object_cmp f.update.object c.args.entry.update.object) ≡ true) (take c.count_through-at.result xs)) c.entries.ensures c.count_through-at.ensures.before)
-      (subst (λ xs. Each (λ f. is_le (object_cmp f.update.object c.args.entry.update.object) ≡ false) (drop c.count_through-at.result xs)) c.entries.ensures c.count_through-at.ensures.after)
+module _ (c : goal.After-self-1) where
+  laid : IsLaid c.self.inside.n (c.self.inside.next + 1) (insert c.self.inside.rows.rows c.span_of-from.result.1 (c.self.inside.next, c.args.entry))
+  laid = laid-more c.self.inside.n c.self.inside.next c.span_of-from.result.1 c.self.inside.rows.rows c.args.entry c.self.invariant.0
+      (subst (λ xs. Each (λ f. is_le (object_cmp f.update.object c.args.entry.update.object) ≡ true) (take c.span_of-from.result.1 xs)) c.entries.ensures c.span_of-from.ensures.through)
+      (subst (λ xs. Each (λ f. is_le (object_cmp f.update.object c.args.entry.update.object) ≡ false) (drop c.span_of-from.result.1 xs)) c.entries.ensures c.span_of-from.ensures.above)
       (subst (λ log. IsTrue (fits log.n (message_of c.args.entry))) (sym c.self.view_is) c.requires.fits)
 
   put : record { n = c.self.inside.n; room = c.insert.new.self.room; pushed = c.self.inside.next + 1; entries = arrived c.insert.new.self.rows; stripped = reverse (items_of c.self.inside.leaving.items) }
@@ -48,15 +48,15 @@ module _ (c : goal.After-self-2-1) where
       let made : Table → Log = λ t. record { n = c.self.inside.n; room = t.room; pushed = c.self.inside.next + 1; entries = arrived t.rows; stripped = reverse (items_of c.self.inside.leaving.items) } in
       let grown : List Entry → Log = λ es. record { n = c.self.inside.n; room = c.self.inside.rows.room; pushed = c.self.inside.next + 1; entries = es; stripped = reverse (items_of c.self.inside.leaving.items) } in
       ap made c.insert.ensures
-      ∙ ap grown (arrived-more c.self.inside.n c.self.inside.next c.count_through-at.result c.self.inside.rows.rows c.args.entry c.self.invariant.0)
+      ∙ ap grown (arrived-more c.self.inside.n c.self.inside.next c.span_of-from.result.1 c.self.inside.rows.rows c.args.entry c.self.invariant.0)
       ∙ ap (λ log. with_entry log c.args.entry) c.self.view_is
 
 pub invariant_of-self : goal.invariant_of-self
 invariant_of-self c =
     let rows = c.self.inside.rows.rows in
-    let at = c.count_through-at.result in
+    let at = c.span_of-from.result.1 in
     let many = ap length c.entries.ensures ∙ length-items rows in
-    let more = length-insert rows at (c.self.inside.next, c.args.entry) (omega (arith, c.count_through-at.ensures.bound, many)) in
+    let more = length-insert rows at (c.self.inside.next, c.args.entry) (omega (arith, c.span_of-from.ensures.places, many)) in
     let seen : length (arrived rows) ≡ length c.args.self.now.entries = ap (λ log. length log.entries) c.self.view_is in
     let room : c.self.inside.rows.room ≡ c.args.self.now.room = ap (λ log. log.room) c.self.view_is in
     let I : Table → Type 0 = λ t. IsLaid c.self.inside.n (c.self.inside.next + 1) t.rows × (length t.rows ≤ t.room) × (t.room ≤ vec_capacity c.self.inside.leaving) in
