@@ -261,7 +261,7 @@ impl Polog {
         ensures { IfOk result (λ ids. ids ≡ map (λ e. id_of (message_of e)) self.now.entries) }
     {
         let mut numbered = numbered_ids(&self.rows, alloc)?;
-        sort(&mut numbered);
+        sort(&mut numbered)?;
         without_numbers(&numbered, alloc)
     }
 

@@ -15,6 +15,6 @@ sort-requires c =
 pub returns : goal.returns
 returns c =
     let rows = c.self.inside.rows.rows in
-    let sorted = c.deref.ensures.value ∙ c.sort.ensures.order ∙ ap in_order c.in_ok-numbered.ensures in
+    let sorted = c.deref.ensures.value ∙ c.in_ok-sort.ensures.ok ∙ ap in_order c.in_ok-numbered.ensures in
     let found = ap (map (λ r. r.1)) sorted ∙ items-in-order (λ e. id_of (message_of e)) rows ∙ ap (λ log. map (λ e. id_of (message_of e)) log.entries) c.self.view_is in
     subst (λ is. IfOk c.without_numbers.result (λ ids. ids ≡ is)) found c.without_numbers.ensures
