@@ -8,6 +8,8 @@ pub mod Spans
 pub mod Sweeps
 pub mod Runs
 pub mod Firsts
+pub mod Turns
+pub mod Tracks
 pub mod Strips
 pub mod Prunes
 pub mod Items

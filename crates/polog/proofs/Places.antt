@@ -51,6 +51,13 @@ module _ {A : Type 0} where
   pairwise-at R (x ∷ xs) pairs zero (suc j) d l m = each-at (R x) xs pairs.0 j d (omega (arith, m))
   pairwise-at R (x ∷ xs) pairs (suc i) (suc j) d l m = pairwise-at R xs pairs.1 i j d (omega (arith, l)) (omega (arith, m))
 
+  pub pairwise-by : (R : A → A → Type 0) (xs : List A) → ((i j : ℕ) (d : A) → i < j → j < length xs → R (get_or xs i d) (get_or xs j d)) → Pairwise R xs
+  pairwise-by R [] at = tt
+  pairwise-by R (x ∷ xs) at = (
+    each-drop (R x) xs 0 (λ k d l m. at 0 (suc k) d (omega arith) (omega (arith, m))),
+    pairwise-by R xs (λ i j d l m. at (suc i) (suc j) d (omega (arith, l)) (omega (arith, m))),
+  )
+
   -- where each later item that passes makes each earlier one pass, no item that passes comes after one that fails
   pub passes-first : (p : A → Bool) (xs : List A) → Pairwise (λ a b. p b ≡ true → p a ≡ true) xs → (i j : ℕ) (d : A) → i ≤ j → j < length xs → p (get_or xs j d) ≡ true → p (get_or xs i d) ≡ true
   passes-first p [] pairs i j d l m up = absurd (omega (arith, m))

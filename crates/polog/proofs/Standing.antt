@@ -110,6 +110,20 @@ module _ (keeps : Update → Bool) (covers : Update → Update → Bool) (n me :
         let next = next-of-rest k (stripped_log keeps covers n me ms m) (message_of e) (map message_of rest) (sym stands.waiting ∙ ap (map message_of) waits) in
         (next.0, record { of_store = stands.of_store; holds = stands.holds; few = stands.few; within = next.1; waiting = sym next.2 })
 
+    -- or all were
+    pub all-handed-out : (k : ℕ) (log : Log) → log.stripped ≡ [] → IsStripped keeps covers n me ms m k log → HandsOut keeps covers n me ms m k None log
+    all-handed-out k log gone stands =
+        let none : 0 ≡ length (drop k (stripped_log keeps covers n me ms m)) = sym (ap (λ es. length (map message_of es)) gone) ∙ ap length stands.waiting in
+        let within = stands.within in (
+          omega (arith, none, within, length-drop k (stripped_log keeps covers n me ms m)),
+          record {
+            of_store = stands.of_store;
+            holds = stands.holds;
+            few = omega (arith, stands.few, length-append ms (m ∷ []));
+            handed_out = gone;
+          },
+        )
+
     module _ (log : Log) (stable : List ℕ) (stands : IsStripping keeps covers n me ms m stable log) where
       taken-is : IsStripping keeps covers n me ms m stable (with_entries log (without_first (is_stable_entry stable) log.entries))
       taken-is =

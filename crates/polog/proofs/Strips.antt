@@ -19,9 +19,9 @@ reverse-items [] = refl
 reverse-items (r ∷ rs) =
     ap items_of (reverse-append (r ∷ []) rs) ∙ items-join (reverse rs) (r ∷ []) ∙ ap (λ xs. xs ++ r.1 ∷ []) (reverse-items rs) ∙ sym (reverse-append (r.1 ∷ []) (items_of rs))
 
--- the last row is the first that waits
-pub first-waits : {E : Type 0} (items rest : List (ℕ × E)) (r : ℕ × E) → items ≡ rest ++ r ∷ [] → reverse (items_of items) ≡ r.1 ∷ reverse (items_of rest)
-first-waits items rest r last = ap (λ xs. reverse (items_of xs)) last ∙ ap reverse (items-join rest (r ∷ [])) ∙ reverse-append (items_of rest) (r.1 ∷ [])
+-- the entry of the last row is the first that waits
+pub first-waits : {E : Type 0} (rs rest : List (ℕ × E)) (e : E) → items_of rs ≡ items_of rest ++ e ∷ [] → reverse (items_of rs) ≡ e ∷ reverse (items_of rest)
+first-waits rs rest e last = ap reverse last ∙ reverse-append (items_of rest) (e ∷ [])
 
 pub none-waits : {E : Type 0} (items : List (ℕ × E)) → reverse (items_of items) ≡ [] → items ≡ []
 none-waits [] gone = refl

@@ -32,7 +32,9 @@ module _ {X : Type 0} where
     passes ys k i so_far inside d goes = FiltersInPlace-more_no so_far inside goes (get-any ys i d (get_or ys i d) inside)
 
 -- the last row is moved from the end of a list to the end of another
-pub moved-more : {X : Type 0} (old rows rest into more : List X) (row : X) → old ≡ rows ++ reverse into → rows ≡ rest ++ row ∷ [] → more ≡ into ++ row ∷ [] → old ≡ rest ++ reverse more
-moved-more old rows rest into more row whole last put =
-    whole ∙ ap (λ xs. xs ++ reverse into) last ∙ append_assoc rest (row ∷ []) (reverse into)
+pub moved-more : {X : Type 0} (old rows rest last into more : List X) → old ≡ rows ++ reverse into → rows ≡ rest ++ last → length last ≡ 1 → more ≡ into ++ last → old ≡ rest ++ reverse more
+moved-more old rows rest [] into more whole apart one put = cc
+moved-more old rows rest (row ∷ []) into more whole apart one put =
+    whole ∙ ap (λ xs. xs ++ reverse into) apart ∙ append_assoc rest (row ∷ []) (reverse into)
     ∙ ap (λ xs. rest ++ xs) (sym (ap reverse put ∙ reverse-append into (row ∷ [])))
+moved-more old rows rest (row ∷ next ∷ others) into more whole apart one put = absurd (omega (arith, one))

@@ -1,8 +1,9 @@
 -- Rows of a list of stamps and one of items as long: what edits of both lists make of them.
 use Rattle.std.proofs.Common.{◌≡◌, ℕ, ◌+◌, ◌-◌, ◌<◌, append_assoc, zero, suc, List, [], ◌∷◌, ◌++◌, length, take, drop, get_or, set, length-append, length-drop, refl, sym, ap, ◌∙◌, arith}
 use Rattle.std.specs.List.{insert, swap}
-use Rattle.std.specs.Prelude.{slice_range}
-use Rattle.std.proofs.lemmas.List.{drop-set-lt, get_or-set_same, length-set, set-get_or, take-set-le, take_more}
+use Rattle.std.specs.Option.{option_to_list}
+use Rattle.std.specs.Prelude.{slice_range, IfSome, Option, Some, None}
+use Rattle.std.proofs.lemmas.List.{take_at, drop_at, drop-set-lt, get_or-set_same, length-set, set-get_or, take-set-le, take_more}
 use Rattle.op_base.specs.declared.message.Entry.{Entry}
 use Rattle.polog.specs.Order.{rows, items_of}
 use Rattle.polog.specs.declared.marks.Stamp.{Stamp}
@@ -29,6 +30,12 @@ cut-behind-set i j xs x before inside =
     let long : i < length (set xs i x) = omega (arith, inside, length-set xs i x) in
     (λ t. (take_more (set xs i x) i x long ∙ (λ u. take-set-le i xs i x (omega arith) u ++ get_or-set_same xs i x x inside u ∷ [])) t ++ drop-set-lt j xs i x before t)
     ∙ append_assoc (take i xs) (x ∷ []) (drop j xs)
+
+-- a list is apart into its last item and those before it
+pub last-apart : {A : Type 0} (xs rest : List A) (x : A) → xs ≡ rest ++ x ∷ [] → (take (length xs - 1) xs ≡ rest) × (drop (length xs - 1) xs ≡ x ∷ [])
+last-apart xs rest x is =
+    let less : length rest ≡ length xs - 1 = omega (arith, ap length is, length-append rest (x ∷ [])) in
+    (ap (take (length xs - 1)) is ∙ take_at rest (x ∷ []) (length xs - 1) less, ap (drop (length xs - 1)) is ∙ drop_at rest (x ∷ []) (length xs - 1) less)
 
 module _ {E : Type 0} where
   pub rows-join : (ss more : List Stamp) (es fs : List E) → length ss ≡ length es → rows (ss ++ more) (es ++ fs) ≡ rows ss es ++ rows more fs
@@ -124,6 +131,14 @@ module _ {E : Type 0} where
   rows-last ss es s e same =
       let fewer : length ss ≡ length es = omega (arith, same, length-append ss (s ∷ []), length-append es (e ∷ [])) in
       (fewer, rows-join ss (s ∷ []) es (e ∷ []) fewer)
+
+  -- what is left where both lose their last
+  pub items-less : (ss more : List Stamp) (es rest : List E) (m n : ℕ) (e : Option E) → length ss ≡ length es → m ≡ n → more ≡ take m ss → rest ≡ take n es → es ≡ rest ++ option_to_list e
+      → IfSome e (λ x. items_of (rows ss es) ≡ items_of (rows more rest) ++ x ∷ [])
+  items-less ss more es rest m n None same at stamps entries whole = tt
+  items-less ss more es rest m n (Some e) same at stamps entries whole =
+      let as_long : length more ≡ length rest = ap length stamps ∙ same-take m ss es same ∙ (λ t. length (take (at t) es)) ∙ sym (ap length entries) in
+      items-rows ss es same ∙ whole ∙ ap (λ xs. xs ++ e ∷ []) (sym (items-rows more rest as_long))
 
 -- ---- what is seen of a table
 

@@ -7,6 +7,7 @@
 mod guesses;
 mod ids;
 mod laws;
+mod leaving;
 mod marks;
 mod polog;
 mod reach;

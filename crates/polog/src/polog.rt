@@ -17,11 +17,12 @@ ghost use Rattle.polog.specs.Standing.{IsLogOf, KeepsPruned, KeepsLogged, KeepsT
 
 use crate::guesses::{Guesses, slot_of};
 use crate::ids::{numbered_ids, without_numbers};
+use crate::leaving::Leaving;
 use crate::marks::{Stamp, mark_of};
 use crate::reach::Reach;
 use crate::rows::Rows;
 use crate::search::{span, span_of};
-use crate::sweep::{first_stable, keep_unstable, move_tail, sort, sort_falling, sweep_object};
+use crate::sweep::{first_stable, keep_unstable, sort, sweep_object};
 use causal_model::TypeRule;
 use op_base::{Entry, IdList, Message, NoMemory, ObjectId, Op, Tag};
 use std::alloc::Global;
@@ -38,22 +39,22 @@ pub struct Polog {
     /// arrived first.
     rows: Rows,
     /// What was stripped and waits to be handed out, the last to arrive first.
-    leaving: Vec<(u64, Entry)>,
+    leaving: Leaving,
     /// Where a search for an object's entries looks first. Others may stand there by now.
     guesses: Guesses,
 }
 
 impl Model for Polog {
-    ghost use Rattle.std.specs.Prelude.{◌≤◌, length, reverse, vec_capacity};
+    ghost use Rattle.std.specs.Prelude.{◌≤◌, length, reverse};
     ghost use Rattle.polog.specs.Order.{items_of};
     ghost use Rattle.polog.specs.Rows.{IsLaid, arrived};
     ghost use Rattle.polog.specs.Value.{Log};
 
     ghost Value = { Log };
 
-    ghost view = { λ p. record { n = p.n; room = p.rows.room; pushed = p.next; entries = arrived p.rows.rows; stripped = reverse (items_of p.leaving.items) } };
+    ghost view = { λ p. record { n = p.n; room = p.rows.room; pushed = p.next; entries = arrived p.rows.rows; stripped = reverse (items_of p.leaving.rows) } };
 
-    ghost invariant = { λ p. IsLaid p.n p.next p.rows.rows × (length p.rows.rows ≤ p.rows.room) × (p.rows.room ≤ vec_capacity p.leaving) };
+    ghost invariant = { λ p. IsLaid p.n p.next p.rows.rows × (length p.rows.rows ≤ p.rows.room) × (p.rows.room ≤ p.leaving.room) };
 }
 
 impl Polog {
@@ -72,7 +73,7 @@ impl Polog {
             n,
             next: 0,
             rows: Rows::create(alloc, room)?,
-            leaving: Vec::with_capacity(alloc, room)?,
+            leaving: Leaving::create(alloc, room)?,
             guesses: Guesses::none(),
         })
     }
@@ -226,8 +227,7 @@ impl Polog {
         ensures stripped { KeepsStripped stable.now self.old self.new }
     {
         let kept = keep_unstable(&mut self.rows, stable);
-        move_tail(&mut self.rows, kept, &mut self.leaving);
-        sort_falling(&mut self.leaving);
+        self.leaving.take_tail(&mut self.rows, kept);
     }
 
     /// Hands out the first entry, in history order, of those that were stripped. It is `None` exactly where none is left.
@@ -238,8 +238,7 @@ impl Polog {
         // were, and the log is that of what the member delivered, up to that message
         ensures of { KeepsHandingOut result self.old self.new }
     {
-        let (_, entry) = self.leaving.pop()?;
-        Some(entry)
+        self.leaving.pop()
     }
 
     /// Takes out the first entry, in history order, that is stable where these are the stable counts. It is `None` exactly

@@ -1,11 +1,11 @@
 //! Entries beside the stamps of their arrival.
 
-ghost use Rattle.std.specs.Prelude.{◌≡◌, ◌≢◌, ◌<◌, ◌≤◌, ℕ, [], ◌∷◌, ◌++◌, length, take, drop, set, slice_index_or, vec_len, vec_capacity, IfOk, IfNone};
+ghost use Rattle.std.specs.Prelude.{◌≡◌, ◌≢◌, ◌<◌, ◌≤◌, ℕ, [], ◌∷◌, ◌++◌, ◌-◌, suc, length, take, drop, set, slice_index_or, vec_len, vec_capacity, IfOk, IfNone, IfSome, IsTrue};
 ghost use Rattle.std.specs.List.{insert, remove, swap};
-ghost use Rattle.std.specs.Option.{option_to_list};
 ghost use Rattle.op_base.specs.declared.message.Entry.{Entry};
 ghost use Rattle.polog.specs.Marks.{mark_of};
-ghost use Rattle.polog.specs.Order.{items_of};
+ghost use Rattle.polog.specs.declared.marks.Stamp.{Stamp};
+ghost use Rattle.polog.specs.Order.{Pairwise, items_of};
 ghost use Rattle.polog.specs.Rows.{Table, with_rows, turned};
 
 use crate::marks::{Stamp, next_marked};
@@ -181,14 +181,46 @@ impl Rows {
         self.entries.remove(at)
     }
 
-    /// Takes out the last row. It is `None` exactly where there is no row.
-    pub fn pop(&mut self) -> Option<(u64, Entry)>
+    /// Moves the last row to the end of others, where there is room for it.
+    pub fn move_last(&mut self, into: &mut Rows)
+        requires some { 0 < length self.old.rows }
+        requires room { length into.old.rows < into.old.room }
+        ensures left { self.new ≡ with_rows self.old (take (length self.old.rows - 1) self.old.rows) }
+        ensures moved { into.new ≡ with_rows into.old (into.old.rows ++ drop (length self.old.rows - 1) self.old.rows) }
+    {
+        into.entries.push_reserved(self.entries.take_last());
+        into.stamps.push_reserved(self.stamps.take_last());
+    }
+
+    /// Takes out the last row, and hands out its entry. It is `None` exactly where there is no row.
+    pub fn pop(&mut self) -> Option<Entry>
         ensures none { IfNone result (self.old.rows ≡ []) }
         ensures room { self.new.room ≡ self.old.room }
-        ensures rows { self.old.rows ≡ self.new.rows ++ option_to_list result }
+        ensures still { IfNone result (self.new.rows ≡ []) }
+        ensures last { IfSome result (λ entry. items_of self.old.rows ≡ items_of self.new.rows ++ entry ∷ []) }
     {
-        Some((self.stamps.pop()?.number, self.entries.pop()?))
+        self.stamps.pop();
+        self.entries.pop()
     }
+
+    /// Whether no row comes before one with a lesser number.
+    pub fn falls(&self) -> bool
+        ensures { IsTrue result → Pairwise (λ a b. b.0 ≤ a.0) self.now.rows }
+    {
+        are_falling(&self.stamps)
+    }
+}
+
+/// Whether no stamp comes before one with a lesser number.
+fn are_falling(stamps: &[Stamp]) -> bool
+    ensures { IsTrue result → (k : ℕ) (d : Stamp) → suc k < length stamps.now → (slice_index_or stamps.now (suc k) d).number ≤ (slice_index_or stamps.now k d).number }
+{
+    for at in 1..stamps.len() {
+        if stamps[at - 1].number < stamps[at].number {
+            return false;
+        }
+    }
+    true
 }
 
 /// Puts an item in at a place, where there is room for it.

@@ -1,4 +1,4 @@
-use Rattle.std.proofs.Common.{rules, ◌≡◌, ℕ, ◌≤◌, Bool, length, reverse, filter, vec_capacity, IsTrue, sym, ap, subst, ◌∙◌, arith}
+use Rattle.std.proofs.Common.{rules, ◌≡◌, ℕ, ◌≤◌, Bool, length, reverse, filter, IsTrue, sym, ap, subst, ◌∙◌, arith}
 use Rattle.op_base.specs.Message.{fits}
 use Rattle.op_base.specs.declared.message.Entry.{Entry}
 use Rattle.causal_model.specs.Log.{message_of}
@@ -32,13 +32,13 @@ pub invariant_of-self : goal.invariant_of-self
 invariant_of-self g c =
     let rows = c.self.inside.rows.rows in
     let p : ℕ × Entry → Bool = λ r. stays (g.T.TypeRule.covers c.args.rule.now) c.args.message.now r.1 in
-    let I : Table → Type 0 = λ t. IsLaid c.self.inside.n c.self.inside.next t.rows × (length t.rows ≤ t.room) × (t.room ≤ vec_capacity c.self.inside.leaving) in
+    let I : Table → Type 0 = λ t. IsLaid c.self.inside.n c.self.inside.next t.rows × (length t.rows ≤ t.room) × (t.room ≤ c.self.inside.leaving.room) in
     subst I (sym (left g (goal.at.invariant_of-self g c).After-cut)) (laid-filter c.self.inside.n c.self.inside.next p rows c.self.invariant.0, omega (arith, length-filter-le p rows, c.self.invariant.1), c.self.invariant.2)
 
 pub returns-in-Update-clause-kept : goal.returns-in-Update-clause-kept
 returns-in-Update-clause-kept g c =
     let p = stays (g.T.TypeRule.covers c.args.rule.now) c.args.message.now in
-    let made : Table → Log = λ t. record { n = c.self.inside.n; room = t.room; pushed = c.self.inside.next; entries = arrived t.rows; stripped = reverse (items_of c.self.inside.leaving.items) } in
+    let made : Table → Log = λ t. record { n = c.self.inside.n; room = t.room; pushed = c.self.inside.next; entries = arrived t.rows; stripped = reverse (items_of c.self.inside.leaving.rows) } in
     ap made (left g (goal.at.returns-in-Update-clause-kept g c).After-cut)
     ∙ ap (with_entries (made c.self.inside.rows)) (arrived-filter p c.self.inside.rows.rows)
     ∙ ap (λ log. with_entries log (filter p log.entries)) c.self.view_is

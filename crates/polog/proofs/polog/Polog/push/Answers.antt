@@ -1,4 +1,4 @@
-use Rattle.std.proofs.Common.{◌≡◌, ◌+◌, ◌≤◌, true, false, List, length, IsTrue, reverse, take, drop, vec_capacity, sym, ap, subst, ◌∙◌, arith}
+use Rattle.std.proofs.Common.{◌≡◌, ◌+◌, ◌≤◌, true, false, List, length, IsTrue, reverse, take, drop, sym, ap, subst, ◌∙◌, arith}
 use Rattle.std.specs.Ordering.{is_le}
 use Rattle.op_base.specs.Message.{fits}
 use Rattle.op_base.specs.Order.{object_cmp}
@@ -42,11 +42,11 @@ module _ (c : goal.After-self-1) where
       (subst (λ xs. Each (λ f. is_le (object_cmp f.update.object c.args.entry.update.object) ≡ false) (drop c.span_of-from.result.1 xs)) c.entries.ensures c.span_of-from.ensures.above)
       (subst (λ log. IsTrue (fits log.n (message_of c.args.entry))) (sym c.self.view_is) c.requires.fits)
 
-  put : record { n = c.self.inside.n; room = c.insert.new.self.room; pushed = c.self.inside.next + 1; entries = arrived c.insert.new.self.rows; stripped = reverse (items_of c.self.inside.leaving.items) }
+  put : record { n = c.self.inside.n; room = c.insert.new.self.room; pushed = c.self.inside.next + 1; entries = arrived c.insert.new.self.rows; stripped = reverse (items_of c.self.inside.leaving.rows) }
       ≡ with_entry c.args.self.now c.args.entry
   put =
-      let made : Table → Log = λ t. record { n = c.self.inside.n; room = t.room; pushed = c.self.inside.next + 1; entries = arrived t.rows; stripped = reverse (items_of c.self.inside.leaving.items) } in
-      let grown : List Entry → Log = λ es. record { n = c.self.inside.n; room = c.self.inside.rows.room; pushed = c.self.inside.next + 1; entries = es; stripped = reverse (items_of c.self.inside.leaving.items) } in
+      let made : Table → Log = λ t. record { n = c.self.inside.n; room = t.room; pushed = c.self.inside.next + 1; entries = arrived t.rows; stripped = reverse (items_of c.self.inside.leaving.rows) } in
+      let grown : List Entry → Log = λ es. record { n = c.self.inside.n; room = c.self.inside.rows.room; pushed = c.self.inside.next + 1; entries = es; stripped = reverse (items_of c.self.inside.leaving.rows) } in
       ap made c.insert.ensures
       ∙ ap grown (arrived-more c.self.inside.n c.self.inside.next c.span_of-from.result.1 c.self.inside.rows.rows c.args.entry c.self.invariant.0)
       ∙ ap (λ log. with_entry log c.args.entry) c.self.view_is
@@ -59,7 +59,7 @@ invariant_of-self c =
     let more = length-insert rows at (c.self.inside.next, c.args.entry) (omega (arith, c.span_of-from.ensures.places, many)) in
     let seen : length (arrived rows) ≡ length c.args.self.now.entries = ap (λ log. length log.entries) c.self.view_is in
     let room : c.self.inside.rows.room ≡ c.args.self.now.room = ap (λ log. log.room) c.self.view_is in
-    let I : Table → Type 0 = λ t. IsLaid c.self.inside.n (c.self.inside.next + 1) t.rows × (length t.rows ≤ t.room) × (t.room ≤ vec_capacity c.self.inside.leaving) in
+    let I : Table → Type 0 = λ t. IsLaid c.self.inside.n (c.self.inside.next + 1) t.rows × (length t.rows ≤ t.room) × (t.room ≤ c.self.inside.leaving.room) in
     subst I (sym c.insert.ensures) (laid c, omega (arith, c.requires.room, length-arrived rows, seen, room, more), c.self.invariant.2)
 
 pub returns-clause-put : goal.returns-clause-put

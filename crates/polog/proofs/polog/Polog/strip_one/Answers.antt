@@ -1,4 +1,4 @@
-use Rattle.std.proofs.Common.{◌≡◌, ℕ, ◌≤◌, length, reverse, find, Some, vec_capacity, sym, ap, subst, ◌∙◌, arith}
+use Rattle.std.proofs.Common.{◌≡◌, ℕ, ◌≤◌, length, reverse, find, Some, sym, ap, subst, ◌∙◌, arith}
 use Rattle.std.proofs.lemmas.List.Edits.{length-remove}
 use Rattle.op_base.specs.declared.message.Entry.{Entry}
 use Rattle.polog.specs.Order.{items_of}
@@ -25,7 +25,7 @@ invariant_of-self c =
     let rows = c.self.inside.rows.rows in
     let at = c.in_ok-at.at in
     let inside = c.in_ok-at.ensures.0 in
-    let I : Table → Type 0 = λ t. IsLaid c.self.inside.n c.self.inside.next t.rows × (length t.rows ≤ t.room) × (t.room ≤ vec_capacity c.self.inside.leaving) in
+    let I : Table → Type 0 = λ t. IsLaid c.self.inside.n c.self.inside.next t.rows × (length t.rows ≤ t.room) × (t.room ≤ c.self.inside.leaving.room) in
     subst I (sym c.remove.ensures.others)
     (laid-remove c.self.inside.n c.self.inside.next at rows (0, c.remove.result) inside c.self.invariant.0, omega (arith, length-remove rows at inside, c.self.invariant.1), c.self.invariant.2)
 
@@ -43,7 +43,7 @@ returns-clause-others c =
     let p = is_stable_entry c.args.stable.now in
     let rows = c.self.inside.rows.rows in
     let d : ℕ × Entry = (0, c.remove.result) in
-    let made : Table → Log = λ t. record { n = c.self.inside.n; room = t.room; pushed = c.self.inside.next; entries = arrived t.rows; stripped = reverse (items_of c.self.inside.leaving.items) } in
+    let made : Table → Log = λ t. record { n = c.self.inside.n; room = t.room; pushed = c.self.inside.next; entries = arrived t.rows; stripped = reverse (items_of c.self.inside.leaving.rows) } in
     let whole : Log = made c.self.inside.rows in
     ap made c.remove.ensures.others
     ∙ ap (with_entries whole) (sym (first-arrived p rows c.in_ok-at.at d (apart-from-laid rows c.self.invariant.0.grouped) c.in_ok-at.ensures).1)

@@ -1,4 +1,4 @@
-use Rattle.std.proofs.Common.{◌≡◌, ℕ, ◌+◌, ◌≤◌, Bool, true, false, List, [], ◌∷◌, ◌++◌, length, length-append, reverse, take, drop, filter, vec_capacity, IsTrue, sym, ap, subst, ◌∙◌, arith}
+use Rattle.std.proofs.Common.{◌≡◌, ℕ, ◌+◌, ◌≤◌, Bool, true, false, List, [], ◌∷◌, ◌++◌, length, length-append, reverse, take, drop, filter, IsTrue, sym, ap, subst, ◌∙◌, arith}
 use Rattle.std.specs.Ordering.{is_le}
 use Rattle.op_base.specs.Message.{fits}
 use Rattle.op_base.specs.Order.{object_cmp}
@@ -84,13 +84,13 @@ module _ (g : given.Over) (c : After-splice g) where
       (subst (λ n. IsTrue (fits n (message_of entry))) (sym (ap (λ log. log.n) c.self.view_is)) (subst (λ m. IsTrue (fits c.args.self.now.n m)) (sym of_message) c.requires.fits))
 
   -- the log with the entry
-  put : record { n = c.self.inside.n; room = c.splice.new.self.room; pushed = c.self.inside.next + 1; entries = arrived c.splice.new.self.rows; stripped = reverse (items_of c.self.inside.leaving.items) }
+  put : record { n = c.self.inside.n; room = c.splice.new.self.room; pushed = c.self.inside.next + 1; entries = arrived c.splice.new.self.rows; stripped = reverse (items_of c.self.inside.leaving.rows) }
       ≡ with_entry (without_covered c.args.self.now (g.T.TypeRule.covers c.args.rule.now) c.args.message.now) entry
   put =
       let p = stays (g.T.TypeRule.covers c.args.rule.now) c.args.message.now in
       let inside = c.self.inside in
-      let made : Table → Log = λ t. record { n = inside.n; room = t.room; pushed = inside.next + 1; entries = arrived t.rows; stripped = reverse (items_of inside.leaving.items) } in
-      let with : List Entry → Log = λ es. record { n = inside.n; room = inside.rows.room; pushed = inside.next + 1; entries = es; stripped = reverse (items_of inside.leaving.items) } in
+      let made : Table → Log = λ t. record { n = inside.n; room = t.room; pushed = inside.next + 1; entries = arrived t.rows; stripped = reverse (items_of inside.leaving.rows) } in
+      let with : List Entry → Log = λ es. record { n = inside.n; room = inside.rows.room; pushed = inside.next + 1; entries = es; stripped = reverse (items_of inside.leaving.rows) } in
       ap made (c.splice.ensures ∙ ap (λ k. record { room = k; rows = front ++ (inside.next, entry) ∷ back }) c.sweep_object-swept.ensures.room)
       ∙ ap with (arrived-between inside.n inside.next front back entry whole ∙ ap (λ es. es ++ entry ∷ []) (ap arrived c.sweep_object-swept.ensures.left ∙ arrived-filter p inside.rows.rows))
       ∙ ap (λ log. with_entry (with_entries log (filter p log.entries)) entry) c.self.view_is
@@ -99,7 +99,7 @@ pub invariant_of-self : goal.invariant_of-self
 invariant_of-self g c =
     let here = (goal.at.invariant_of-self g c).After-splice in
     let before = (goal.at.invariant_of-self g c).After-sweep_object-swept in
-    let I : Table → Type 0 = λ t. IsLaid c.self.inside.n (c.self.inside.next + 1) t.rows × (length t.rows ≤ t.room) × (t.room ≤ vec_capacity c.self.inside.leaving) in
+    let I : Table → Type 0 = λ t. IsLaid c.self.inside.n (c.self.inside.next + 1) t.rows × (length t.rows ≤ t.room) × (t.room ≤ c.self.inside.leaving.room) in
     let left = ap length c.sweep_object-swept.ensures.left in
     let more = length-append (front g here) ((c.self.inside.next, entry g here) ∷ back g here) in
     let all = length-append (front g here) (back g here) in
