@@ -5,3 +5,4 @@ pub mod Groups
 pub mod NextValue
 pub mod Cells
 pub mod Listed
+pub mod Dealing

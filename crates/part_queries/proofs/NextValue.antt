@@ -19,7 +19,9 @@ use Rattle.causal_model.specs.Parts.{is_in}
 use Rattle.causal_model.proofs.Theory.Elements.{item_from_list_any}
 use Rattle.causal_model.proofs.Theory.Members.{pairs_head, pairs_tail}
 use Rattle.part_queries.specs.Finds.{puts_in, takes_out, or_put, or_taken, with_mark, AreRising, AreListed, AreNone, IsBehind}
+use Rattle.part_queries.specs.Headed.{founds}
 use Rattle.part_queries.specs.declared.found.Found.{Found}
+use Rattle.part_queries.specs.declared.heads.Headed.{Headed}
 use Rattle.part_queries.specs.declared.marks.Marks.{Marks}
 use Rattle.part_queries.proofs.Finds.{list_any_push, or_none, texts_total}
 
@@ -204,11 +206,11 @@ listed_own kind own on off whole on_behind off_behind left values new rising mad
 
 -- ---- finds that rise, from a place on
 
-pub finds_from : (finds : List Found) (i : ℕ) (found : Found) → i < length finds → found ≡ get_or finds i found → drop i finds ≡ found ∷ drop (i + 1) finds
-finds_from finds i found within is = drop_more finds i found within ∙ ap (λ f. f ∷ drop (i + 1) finds) (sym is)
+pub finds_from : {X : Type 0} (finds : List X) (i : ℕ) (find : X) → i < length finds → find ≡ get_or finds i find → drop i finds ≡ find ∷ drop (i + 1) finds
+finds_from finds i find within is = drop_more finds i find within ∙ ap (λ f. f ∷ drop (i + 1) finds) (sym is)
 
-pub rising_later : (finds : List Found) (i : ℕ) (found : Found) → drop i finds ≡ found ∷ drop (i + 1) finds → AreRising (drop i finds) → AreRising (drop (i + 1) finds)
-rising_later finds i found e rising = pairs_tail (λ (a b : Found). text_cmp a.value.now b.value.now ≡ Less) found (drop (i + 1) finds) (subst AreRising e rising)
+pub rising_later : (found : Found) (rest finds : List Found) → finds ≡ found ∷ rest → AreRising finds → AreRising rest
+rising_later found rest finds e rising = pairs_tail (λ (a b : Found). text_cmp a.value.now b.value.now ≡ Less) found rest (subst AreRising e rising)
 
 -- a find before the first of them, or before none
 pub rising_own_before : (own found : Found) (rest : List Found) → text_cmp found.value.now own.value.now ≡ Greater → AreRising (found ∷ rest) → AreRising (own ∷ found ∷ rest)
@@ -232,7 +234,7 @@ pub listed_all : (kind : Kind) (put taken whole : List ℕ → Bool) (values : L
 listed_all kind put taken whole values none so_far v =
     sym (ap (λ b. list_any (λ value. same_text value v) values || b) (ap (λ b. is_in kind b (taken v)) (none v) ∙ is_in_none kind (taken v)) ∙ or_none (list_any (λ value. same_text value v) values)) ∙ so_far.exact v
 
-pub rising_from : (finds : List Found) (n : ℕ) → AreRising finds → AreRising (drop n finds)
+pub rising_from : (finds : List Headed) (n : ℕ) → AreRising (founds finds) → AreRising (founds (drop n finds))
 rising_from finds zero rising = rising
 rising_from [] (suc n) rising = rising
-rising_from (f ∷ finds) (suc n) rising = rising_from finds n (pairs_tail (λ (a b : Found). text_cmp a.value.now b.value.now ≡ Less) f finds rising)
+rising_from (f ∷ finds) (suc n) rising = rising_from finds n (rising_later f.found (founds finds) (founds (f ∷ finds)) refl rising)

@@ -1,17 +1,16 @@
 //! What is found of the values of an object among its items and its entries. The kinds are this project's own profile.
 
-ghost use Rattle.std.specs.Prelude.{◌≡◌, ℕ, List, map, IfOk, IsTrue, Some};
+ghost use Rattle.std.specs.Prelude.{◌≡◌, ℕ, List, map, IfOk, Some};
 ghost use Rattle.std.specs.List.{list_any};
 ghost use Rattle.causal_model.specs.Log.{message_of};
 ghost use Rattle.causal_model.specs.Parts.{has_logged, puts, takes};
-ghost use Rattle.part_queries.specs.Headed.{head_puts_in, head_takes_out, HeadsAreInOrder};
+ghost use Rattle.part_queries.specs.Headed.{head_puts_in, head_takes_out};
 ghost use Rattle.part_queries.specs.Finds.{IsFoundOf};
 
 use crate::heads::Headed;
 use crate::marks::Marks;
 use op_base::{Act, Entry, NoMemory, ObjectId, Value};
 use std::alloc::Global;
-use std::cmp::Ordering;
 
 /// A value, with what an item or an entry says of it.
 #[derive(Clone, Copy, Debug, PartialEq, Eq, PartialOrd, Ord)]
@@ -46,13 +45,12 @@ fn found_of(act: &Act) -> Option<Found<'_>>
     }
 }
 
-/// What the entries of an object say of its values, none before a lesser one. `NoMemory` leaves nothing behind.
+/// What the entries of an object say of its values, oldest first. `NoMemory` leaves nothing behind.
 pub fn logged<'a>(
     alloc: Global,
     entries: &'a [Entry],
     object: &ObjectId,
 ) -> Result<Vec<Headed<'a>>, NoMemory>
-    ensures order { IfOk result (λ finds. HeadsAreInOrder finds.items) }
     ensures put { IfOk result (λ finds. (v : List ℕ) → list_any (head_puts_in v) finds.items ≡ has_logged object.now (map message_of entries.now) (puts (Some v))) }
     ensures taken { IfOk result (λ finds. (v : List ℕ) → list_any (head_takes_out v) finds.items ≡ has_logged object.now (map message_of entries.now) (takes (Some v))) }
 {
@@ -60,25 +58,9 @@ pub fn logged<'a>(
     for entry in entries {
         if entry.update.object().is_same(object) {
             if let Some(found) = found_of(entry.update.act()) {
-                finds.push(Headed::new(found))?;
+                finds.push_reserved(Headed::new(found));
             }
         }
     }
-    if !are_in_order(&finds) {
-        finds.sort_unstable();
-    }
     Ok(finds)
-}
-
-/// Whether no find is behind one that comes after it in their order, as where the entries were typed in order.
-fn are_in_order(finds: &[Headed<'_>]) -> bool
-    ensures { IsTrue result → HeadsAreInOrder finds.now }
-{
-    for place in 1..finds.len() {
-        match finds[place].cmp(&finds[place - 1]) {
-            Ordering::Less => return false,
-            Ordering::Equal | Ordering::Greater => {}
-        }
-    }
-    true
 }

@@ -11,6 +11,7 @@ mod heads;
 mod listing;
 mod marks;
 mod membership;
+mod piles;
 
 pub use listing::values;
 pub use membership::has;

@@ -10,10 +10,12 @@ ghost use Rattle.causal_model.specs.Parts.{has, has_by_parts, is_in, ArePartsOf}
 ghost use Rattle.part_queries.specs.Asked.{has_values};
 ghost use Rattle.op_base.specs.Name.{same_text};
 ghost use Rattle.op_base.specs.Object.{same_object};
+ghost use Rattle.part_queries.specs.Headed.{founds};
 ghost use Rattle.part_queries.specs.Finds.{is_put, is_taken, or_put, or_taken, AreRising, AreListed, AreListedPast, AreNone};
 
 use crate::found::{Found, logged};
 use crate::grouping::grouped;
+use crate::heads::Headed;
 use crate::marks::Marks;
 use causal_model::ItemView;
 use op_base::{Entry, Kind, NoMemory, ObjectId, Value, ValueList};
@@ -37,28 +39,28 @@ pub fn values<V: ItemView>(
     ensures of { IfOk result (λ values. (w : ℕ) (h : History) → IsTrue (is_history w h) → ArePartsOf h object.now (map message_of entries.now) (V.items items.now)
         → values ≡ values_that (λ v. has object.now.kind object.now (events h) (Some v)) object.now (events h)) }
 {
-    let logged = logged(alloc, entries, object)?;
-    listed(alloc, &grouped(alloc, &logged)?, items, object)
+    let finds = grouped(alloc, logged(alloc, entries, object)?)?;
+    listed(alloc, &finds, items, object)
 }
 
 /// The values that are in an object by its items and by finds, in byte order and each once. Items of other objects are passed
 /// over. `NoMemory` leaves nothing behind.
 fn listed<V: ItemView>(
     alloc: Global,
-    finds: &[Found<'_>],
+    finds: &[Headed<'_>],
     items: &V,
     object: &ObjectId,
 ) -> Result<ValueList, NoMemory>
-    requires { AreRising finds.now }
+    requires { AreRising (founds finds.now) }
     ensures rise { IfOk result (λ values. TextsRise values) }
     ensures exact { IfOk result (λ values. (v : List ℕ) → list_any (λ value. same_text value v) values
-        ≡ is_in object.now.kind (is_put object.now (V.items items.now) finds.now v) (is_taken object.now (V.items items.now) finds.now v)) }
+        ≡ is_in object.now.kind (is_put object.now (V.items items.now) (founds finds.now) v) (is_taken object.now (V.items items.now) (founds finds.now) v)) }
 {
     let all = are_all_of(items, object);
     if all && finds.is_empty() {
         return settled(alloc, items, object);
     }
-    let mut values = ValueList::with_capacity(alloc, items.len().saturating_add(finds.len()))?;
+    let mut values = Vec::with_capacity(alloc, items.len().saturating_add(finds.len()))?;
     let mut done = 0;
     let mut near = 0;
     for place in 0..items.len() {
@@ -76,7 +78,7 @@ fn listed<V: ItemView>(
         }
     }
     put_finds(alloc, object.kind, &mut values, &finds[done..])?;
-    Ok(values)
+    Ok(ValueList::from_vec(values))
 }
 
 /// The values that are in an object whose items these are, where its log says nothing of values. `NoMemory` leaves nothing
@@ -98,7 +100,7 @@ fn settled<V: ItemView>(alloc: Global, items: &V, object: &ObjectId) -> Result<V
                 put: cell.on,
                 taken: cell.off,
             };
-            add(alloc, kind, &mut values, Found { value, marks })?;
+            add(alloc, kind, &mut values, value, marks)?;
         }
     }
     Ok(ValueList::from_vec(values))
@@ -132,14 +134,14 @@ fn is_of(owner: &ObjectId, object: &ObjectId, known: bool) -> bool
 fn put_item(
     alloc: Global,
     kind: Kind,
-    values: &mut ValueList,
-    finds: &[Found<'_>],
+    values: &mut Vec<Value>,
+    finds: &[Headed<'_>],
     own: Found<'_>,
 ) -> Result<usize, NoMemory>
-    requires { AreRising finds.now }
+    requires { AreRising (founds finds.now) }
     ensures count { IfOk result (λ count. count ≤ length finds.now) }
 
-    ensures listed { IfOk result (λ count. AreListedPast kind own.entry finds.now (drop count finds.now) values.old values.new) }
+    ensures listed { IfOk result (λ count. AreListedPast kind own.entry (founds finds.now) (founds (drop count finds.now)) values.old.items values.new.items) }
 {
     if finds.is_empty() {
         put_in(alloc, kind, values, own)?;
@@ -154,20 +156,21 @@ fn put_item(
 fn put_between(
     alloc: Global,
     kind: Kind,
-    values: &mut ValueList,
-    finds: &[Found<'_>],
+    values: &mut Vec<Value>,
+    finds: &[Headed<'_>],
     own: Found<'_>,
 ) -> Result<usize, NoMemory>
-    requires { AreRising finds.now }
+    requires { AreRising (founds finds.now) }
     ensures count { IfOk result (λ count. count ≤ length finds.now) }
 
-    ensures listed { IfOk result (λ count. AreListedPast kind own.entry finds.now (drop count finds.now) values.old values.new) }
+    ensures listed { IfOk result (λ count. AreListedPast kind own.entry (founds finds.now) (founds (drop count finds.now)) values.old.items values.new.items) }
 {
     let mut marks = own.marks;
     let mut count = 0;
-    for found in finds {
+    for find in finds {
+        let found = find.found;
         match found.value.cmp(own.value) {
-            Ordering::Less => put_in(alloc, kind, values, *found)?,
+            Ordering::Less => put_in(alloc, kind, values, found)?,
             Ordering::Equal => marks = marks.join(found.marks),
             Ordering::Greater => break,
         }
@@ -182,32 +185,39 @@ fn put_between(
 fn put_finds(
     alloc: Global,
     kind: Kind,
-    values: &mut ValueList,
-    finds: &[Found<'_>],
+    values: &mut Vec<Value>,
+    finds: &[Headed<'_>],
 ) -> Result<(), NoMemory>
-    requires { AreRising finds.now }
+    requires { AreRising (founds finds.now) }
     ensures { OnOk result ((on off whole : List ℕ → Bool) → AreNone on → AreNone off
-        → AreListed kind (or_put on finds.now) (or_taken off finds.now) whole values.old
-        → AreListed kind on off whole values.new) }
+        → AreListed kind (or_put on (founds finds.now)) (or_taken off (founds finds.now)) whole values.old.items
+        → AreListed kind on off whole values.new.items) }
 {
-    for found in finds {
-        put_in(alloc, kind, values, *found)?;
+    values.reserve(finds.len())?;
+    for find in finds {
+        add(alloc, kind, values, find.found.value, find.found.marks)?;
     }
     Ok(())
 }
 
-/// Puts the value of a find at the end of a list that has room for it, where it is in.
+/// Puts a value at the end of a list that has room for it, where it is in by its marks.
 #[inline(always)]
-fn add(alloc: Global, kind: Kind, values: &mut Vec<Value>, found: Found<'_>) -> Result<(), NoMemory>
+fn add(
+    alloc: Global,
+    kind: Kind,
+    values: &mut Vec<Value>,
+    value: &Value,
+    marks: Marks,
+) -> Result<(), NoMemory>
     requires { vec_len values.old < vec_capacity values.old }
-    ensures items { OnOk result (values.new.items ≡ (if is_in kind found.entry.marks.put found.entry.marks.taken then values.old.items ++ found.entry.value.now ∷ [] else values.old.items)) }
+    ensures items { OnOk result (values.new.items ≡ (if is_in kind marks.put marks.taken then values.old.items ++ value.now ∷ [] else values.old.items)) }
     ensures len { vec_len values.new ≤ vec_len values.old + 1 }
     ensures capacity { vec_capacity values.new ≡ vec_capacity values.old }
 {
-    if !found.marks.is_in(kind) {
+    if !marks.is_in(kind) {
         return Ok(());
     }
-    found.value.push_copy(alloc, values)
+    value.push_copy(alloc, values)
 }
 
 /// Puts the value of a find at the end, where it is in.
@@ -215,10 +225,10 @@ fn add(alloc: Global, kind: Kind, values: &mut Vec<Value>, found: Found<'_>) -> 
 fn put_in(
     alloc: Global,
     kind: Kind,
-    values: &mut ValueList,
+    values: &mut Vec<Value>,
     found: Found<'_>,
 ) -> Result<(), NoMemory>
-    ensures { OnOk result (values.new ≡ (if is_in kind found.entry.marks.put found.entry.marks.taken then values.old ++ found.entry.value.now ∷ [] else values.old)) }
+    ensures { OnOk result (values.new.items ≡ (if is_in kind found.entry.marks.put found.entry.marks.taken then values.old.items ++ found.entry.value.now ∷ [] else values.old.items)) }
 {
     if found.marks.is_in(kind) {
         values.push(found.value.copy(alloc)?)?;
