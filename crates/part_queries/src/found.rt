@@ -46,6 +46,7 @@ fn found_of(act: &Act) -> Option<Found<'_>>
 }
 
 /// What the entries of an object say of its values, oldest first. `NoMemory` leaves nothing behind.
+#[inline(never)]
 pub fn logged<'a>(
     alloc: Global,
     entries: &'a [Entry],
@@ -55,8 +56,10 @@ pub fn logged<'a>(
     ensures taken { IfOk result (λ finds. (v : List ℕ) → list_any (head_takes_out v) finds.items ≡ has_logged object.now (map message_of entries.now) (takes (Some v))) }
 {
     let mut finds = Vec::with_capacity(alloc, entries.len())?;
+    // A copy, so that it need not be read anew beside each entry.
+    let object = *object;
     for entry in entries {
-        if entry.update.object().is_same(object) {
+        if entry.update.object().is_same(&object) {
             if let Some(found) = found_of(entry.update.act()) {
                 finds.push_reserved(Headed::new(found));
             }

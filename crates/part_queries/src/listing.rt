@@ -83,6 +83,7 @@ fn listed<V: ItemView>(
 
 /// The values that are in an object whose items these are, where its log says nothing of values. `NoMemory` leaves nothing
 /// behind.
+#[inline(never)]
 fn settled<V: ItemView>(alloc: Global, items: &V, object: &ObjectId) -> Result<ValueList, NoMemory>
     requires { All (λ item. item.object ≡ object.now) (V.items items.now) }
     ensures rise { IfOk result (λ values. TextsRise values) }
