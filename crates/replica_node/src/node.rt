@@ -26,7 +26,9 @@ ghost use Rattle.replica_node.specs.Rules.{noting, AsksOnceAtMost};
 use crate::noting::{note_kept, note_sent};
 use crate::recorder::Recorder;
 use causal_model::{Beat, Local, Note, Receive};
-use op_base::{Answer, CopyRoom, ElementIdList, Message, NoMemory, ObjectId, Step, StepList, Update};
+use op_base::{
+    Answer, CopyRoom, ElementIdList, Message, NoMemory, ObjectId, Step, StepList, Update,
+};
 use replica_core::{CreateFault, Replica};
 use std::alloc::Global;
 

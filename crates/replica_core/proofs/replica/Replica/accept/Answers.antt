@@ -16,7 +16,7 @@ returns-clause-steps c = λ s stands.
     let same = c.reserve_accept.ensures.unchanged in
     let early = with_early s c.args.message in
     let added = subst (λ w. HasAdded w early c.reserve_accept.new.steps.items c.accept_reserved.new.steps.items c.accept_reserved.new.self) same.settings.w
-        (c.accept_reserved.ensures.steps s (unchanged_stands r c.reserve_accept.new.self s same stands)) in
+    (c.accept_reserved.ensures.steps s (unchanged_stands r c.reserve_accept.new.self s same stands)) in
     record {
       are = c.from_vec.ensures ∙ added.are ∙ ap (λ (before : List Step). before ++ (steps r.w early).0) (c.reserve_accept.ensures.steps ∙ c.new-steps.ensures.items);
       stands = added.stands;
