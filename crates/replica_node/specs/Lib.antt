@@ -2,3 +2,4 @@ pub mod Notes
 pub mod Nodes
 pub mod Rules
 pub mod Epochs
+pub mod Noting

@@ -3,7 +3,7 @@
 ghost use Rattle.std.specs.Prelude.{◌≡◌, ◌+◌, ◌≤◌, [], ◌∷◌, ◌++◌, IfOk, OnOk};
 
 use crate::count::AskCount;
-use crate::noting::{note_kept, note_sent};
+use crate::noting::{NotedAs, note_copy};
 use crate::recorder::Recorder;
 use causal_model::Note;
 use op_base::NoMemory;
@@ -66,8 +66,12 @@ fn put_copy(journal: &mut Journal, note: &Note, alloc: Global) -> Result<(), NoM
     ensures spare { OnOk result (journal.old.spare ≤ journal.new.spare + 1) }
 {
     match note {
-        Note::Sent(message) => note_sent(journal, message, message.op.room(alloc)?),
-        Note::Kept(message) => note_kept(journal, message, message.op.room(alloc)?),
+        Note::Sent(message) => {
+            note_copy(journal, NotedAs::Sent, message, message.op.room(alloc)?);
+        }
+        Note::Kept(message) => {
+            note_copy(journal, NotedAs::Kept, message, message.op.room(alloc)?);
+        }
         Note::Took(id) => journal.note(Note::Took(*id)),
         Note::Crook(id) => journal.note(Note::Crook(*id)),
         Note::Regroup { epoch, n, me } => journal.note(Note::Regroup {

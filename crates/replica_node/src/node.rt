@@ -21,9 +21,10 @@ ghost use Rattle.causal_model.specs.declared.note.Note.TheVariants as notes;
 ghost use Rattle.replica_core.specs.Numbers.{are_numbers};
 ghost use Rattle.replica_core.specs.Rules.{StandsFor, SameSettings, Unchanged, IsDraft};
 ghost use Rattle.replica_node.specs.Nodes.{state_by, IsCount};
+ghost use Rattle.replica_node.specs.Noting.{noted_as};
 ghost use Rattle.replica_node.specs.Rules.{noting, AsksOnceAtMost};
 
-use crate::noting::{note_kept, note_sent};
+use crate::noting::{NotedAs, note_copy};
 use crate::recorder::Recorder;
 use causal_model::{Beat, Local, Note, Receive};
 use op_base::{
@@ -149,7 +150,13 @@ impl<R: Recorder> Node<R> {
         let room = message.op.room(alloc)?;
         self.journal.reserve(alloc, 1)?;
         let own = self.inner.reserve_commit(alloc, &message)?;
-        put_sent(&mut self.journal, &mut self.length, &message, room);
+        put_copy(
+            &mut self.journal,
+            &mut self.length,
+            NotedAs::Sent,
+            &message,
+            room,
+        );
         self.inner.commit_reserved(message, own);
         Ok(())
     }
@@ -224,7 +231,13 @@ impl<R: Recorder> Node<R> {
         self.journal.reserve(alloc, most_notes(&self.inner))?;
         let before = steps.len();
         let most = self.inner.reserve_accept(&message, steps)?;
-        put_kept(&mut self.journal, &mut self.length, &message, room);
+        put_copy(
+            &mut self.journal,
+            &mut self.length,
+            NotedAs::Kept,
+            &message,
+            room,
+        );
         self.inner.accept_reserved(message, most, steps);
         let (_, made) = steps.split_at(before);
         put_steps(&mut self.journal, &mut self.length, made);
@@ -313,34 +326,25 @@ pub fn put<R: Recorder>(journal: &mut R, length: &mut u64, note: Note)
     *length += 1;
 }
 
-/// Puts the note of a message that is sent at the end, and counts it.
+/// Puts the note of a message at the end, by a copy, and counts it.
 #[inline(always)]
-fn put_sent<R: Recorder>(journal: &mut R, length: &mut u64, message: &Message, room: CopyRoom)
+fn put_copy<R: Recorder>(
+    journal: &mut R,
+    length: &mut u64,
+    noted: NotedAs,
+    message: &Message,
+    room: CopyRoom,
+)
     requires spare { 1 ≤ R.spare journal.old }
     requires few { length.old < 2 ^ 63 }
     requires counted { IsCount length.old (R.notes journal.old) }
     requires room { IsCopyRoomFor room message.now.op }
-    ensures noted { R.notes journal.new ≡ R.notes journal.old ++ notes.Sent message.now ∷ [] }
-    ensures asked { R.asked journal.new ≡ R.asked journal.old }
-    ensures counted { IsCount length.new (R.notes journal.new) }
-{
-    note_sent(journal, message, room);
-    *length += 1;
-}
-
-/// Puts the note of a message that is accepted at the end, and counts it.
-#[inline(always)]
-fn put_kept<R: Recorder>(journal: &mut R, length: &mut u64, message: &Message, room: CopyRoom)
-    requires spare { 1 ≤ R.spare journal.old }
-    requires few { length.old < 2 ^ 63 }
-    requires counted { IsCount length.old (R.notes journal.old) }
-    requires room { IsCopyRoomFor room message.now.op }
-    ensures noted { R.notes journal.new ≡ R.notes journal.old ++ notes.Kept message.now ∷ [] }
+    ensures noted { R.notes journal.new ≡ R.notes journal.old ++ noted_as noted message.now ∷ [] }
     ensures spare { R.spare journal.old ≤ R.spare journal.new + 1 }
     ensures asked { R.asked journal.new ≡ R.asked journal.old }
     ensures counted { IsCount length.new (R.notes journal.new) }
 {
-    note_kept(journal, message, room);
+    note_copy(journal, noted, message, room);
     *length += 1;
 }
 

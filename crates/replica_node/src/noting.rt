@@ -1,62 +1,126 @@
 //! Notes of messages, each a copy for which memory was taken before.
 //!
-//! What a message carries is told apart first, and the note is made where it is put in each case: a copy that was made and
-//! then noted would be moved twice more.
+//! What a message carries is told apart first, and each case has a function of its own, which makes the note where it is put in:
+//! a copy that was made and then noted would be moved twice more, and the places of all cases would be cleared for each.
 
 ghost use Rattle.std.specs.Prelude.{◌≡◌, ◌+◌, ◌≤◌, ◌++◌, ◌∷◌, []};
-ghost use Rattle.op_base.specs.CopyRooms.{IsCopyRoomFor};
-ghost use Rattle.causal_model.specs.declared.note.Note.TheVariants as notes;
+ghost use Rattle.op_base.specs.CopyRooms.{IsCopyRoomFor, IsCopyRoomForAct, IsCopyRoomForValue};
+ghost use Rattle.op_base.specs.declared.operation.Act.TheVariants as acts;
+ghost use Rattle.op_base.specs.declared.operation.Op.TheVariants as op;
+ghost use Rattle.replica_node.specs.Noting.{noted_as, message_of};
 
 use crate::recorder::Recorder;
 use causal_model::Note;
-use op_base::{CopyRoom, Message, Op};
+use op_base::{Act, CopyRoom, Message, Op, Tag, Update, Value};
 
-/// Notes a message as sent, by a copy.
-#[inline(always)]
-pub(crate) fn note_sent<R: Recorder>(journal: &mut R, message: &Message, room: CopyRoom)
-    requires spare { 1 ≤ R.spare journal.old }
-    requires room { IsCopyRoomFor room message.now.op }
-    ensures noted { R.notes journal.new ≡ R.notes journal.old ++ notes.Sent message.now ∷ [] }
-    ensures spare { R.spare journal.old ≤ R.spare journal.new + 1 }
-    ensures asked { R.asked journal.new ≡ R.asked journal.old }
-{
-    let Message { origin, tag, op } = message;
-    let (origin, tag) = (*origin, *tag);
-    match op {
-        Op::NoOp => journal.note(Note::Sent(Message {
-            origin,
-            tag,
-            op: Op::NoOp,
-        })),
-        Op::Update(update) => journal.note(Note::Sent(Message {
-            origin,
-            tag,
-            op: Op::Update(update.copied(room)),
-        })),
+/// As what a message is noted.
+#[derive(Clone, Copy, Drop)]
+pub enum NotedAs {
+    /// As one that is sent.
+    Sent,
+    /// As one that is accepted.
+    Kept,
+}
+
+impl NotedAs {
+    /// The note of a message.
+    #[inline(always)]
+    fn note(self, message: Message) -> Note
+        ensures { result ≡ noted_as self message }
+    {
+        match self {
+            NotedAs::Sent => Note::Sent(message),
+            NotedAs::Kept => Note::Kept(message),
+        }
     }
 }
 
-/// Notes a message as accepted, by a copy.
+/// Notes a message, by a copy.
 #[inline(always)]
-pub(crate) fn note_kept<R: Recorder>(journal: &mut R, message: &Message, room: CopyRoom)
+pub(crate) fn note_copy<R: Recorder>(
+    journal: &mut R,
+    noted: NotedAs,
+    message: &Message,
+    room: CopyRoom,
+)
     requires spare { 1 ≤ R.spare journal.old }
     requires room { IsCopyRoomFor room message.now.op }
-    ensures noted { R.notes journal.new ≡ R.notes journal.old ++ notes.Kept message.now ∷ [] }
+    ensures noted { R.notes journal.new ≡ R.notes journal.old ++ noted_as noted message.now ∷ [] }
     ensures spare { R.spare journal.old ≤ R.spare journal.new + 1 }
     ensures asked { R.asked journal.new ≡ R.asked journal.old }
 {
     let Message { origin, tag, op } = message;
-    let (origin, tag) = (*origin, *tag);
     match op {
-        Op::NoOp => journal.note(Note::Kept(Message {
-            origin,
-            tag,
-            op: Op::NoOp,
-        })),
-        Op::Update(update) => journal.note(Note::Kept(Message {
-            origin,
-            tag,
-            op: Op::Update(update.copied(room)),
-        })),
+        Op::NoOp => note_noop(journal, noted, *origin, tag),
+        Op::Update(update) => match &update.act {
+            Act::Add(value) => note_add(journal, noted, *origin, tag, update, value, room),
+            _ => note_update(journal, noted, *origin, tag, update, room),
+        },
     }
+}
+
+/// Notes a no-op.
+#[inline(always)]
+fn note_noop<R: Recorder>(journal: &mut R, noted: NotedAs, origin: u8, tag: &Tag)
+    requires spare { 1 ≤ R.spare journal.old }
+    ensures noted { R.notes journal.new ≡ R.notes journal.old ++ noted_as noted (message_of origin tag.now op.NoOp) ∷ [] }
+    ensures spare { R.spare journal.old ≤ R.spare journal.new + 1 }
+    ensures asked { R.asked journal.new ≡ R.asked journal.old }
+{
+    journal.note(noted.note(Message {
+        origin,
+        tag: *tag,
+        op: Op::NoOp,
+    }));
+}
+
+/// Notes an add: most messages of many stores carry one.
+#[inline(always)]
+fn note_add<R: Recorder>(
+    journal: &mut R,
+    noted: NotedAs,
+    origin: u8,
+    tag: &Tag,
+    update: &Update,
+    value: &Value,
+    room: CopyRoom,
+)
+    requires spare { 1 ≤ R.spare journal.old }
+    requires add { update.now.act ≡ acts.Add value.now }
+    requires room { IsCopyRoomForValue room value.now }
+    ensures noted { R.notes journal.new ≡ R.notes journal.old ++ noted_as noted (message_of origin tag.now (op.Update update.now)) ∷ [] }
+    ensures spare { R.spare journal.old ≤ R.spare journal.new + 1 }
+    ensures asked { R.asked journal.new ≡ R.asked journal.old }
+{
+    journal.note(noted.note(Message {
+        origin,
+        tag: *tag,
+        op: Op::Update(Update {
+            object: update.object,
+            act: Act::Add(value.copied(room)),
+        }),
+    }));
+}
+
+/// Notes any update.
+#[inline(always)]
+fn note_update<R: Recorder>(
+    journal: &mut R,
+    noted: NotedAs,
+    origin: u8,
+    tag: &Tag,
+    update: &Update,
+    room: CopyRoom,
+)
+    requires spare { 1 ≤ R.spare journal.old }
+    requires room { IsCopyRoomForAct room update.now.act }
+    ensures noted { R.notes journal.new ≡ R.notes journal.old ++ noted_as noted (message_of origin tag.now (op.Update update.now)) ∷ [] }
+    ensures spare { R.spare journal.old ≤ R.spare journal.new + 1 }
+    ensures asked { R.asked journal.new ≡ R.asked journal.old }
+{
+    journal.note(noted.note(Message {
+        origin,
+        tag: *tag,
+        op: Op::Update(update.copied(room)),
+    }));
 }

@@ -17,13 +17,13 @@ use Rattle.replica_node.proofs.node.Node.accept_behind.Goals.{After-accept_reser
 pub accept_reserved-requires : goal.accept_reserved-requires
 accept_reserved-requires g c = record { ready = c.in_ok-most.ensures.ready }
 
-pub put_kept-requires-clause-spare : goal.put_kept-requires-clause-spare
-put_kept-requires-clause-spare g c =
+pub put_copy-requires-clause-spare : goal.put_copy-requires-clause-spare
+put_copy-requires-clause-spare g c =
     let room : c.most_notes.result ≤ g.R.Recorder.spare c.reserve.new.self = search rules in
     omega (arith, room, c.most_notes.ensures)
 
-pub put_kept-requires-clause-few : goal.put_kept-requires-clause-few
-put_kept-requires-clause-few g c =
+pub put_copy-requires-clause-few : goal.put_copy-requires-clause-few
+put_copy-requires-clause-few g c =
     let node = c.args.self.now in
     let few : length (g.R.Recorder.notes node.journal) + c.most_notes.result < 2 ^ 63 = search rules in
     omega (arith, few, node.counted, c.most_notes.ensures)
@@ -58,7 +58,7 @@ put_steps-requires-clause-room g c =
     let node = c.args.self.now in
     let here = (goal.at.put_steps-requires-clause-room g c).After-split_at in
     let room : c.most_notes.result ≤ g.R.Recorder.spare c.reserve.new.self = search rules in
-    omega (arith, steps_are_few node.inner.w (found g (goal.at-After-split_at g here).After-accept_reserved) c.args.message, room, c.put_kept.ensures.spare, ap length (made g here), ap length node.stands.buffer.early, c.most_notes.ensures)
+    omega (arith, steps_are_few node.inner.w (found g (goal.at-After-split_at g here).After-accept_reserved) c.args.message, room, c.put_copy.ensures.spare, ap length (made g here), ap length node.stands.buffer.early, c.most_notes.ensures)
 
 pub put_steps-requires-clause-few : goal.put_steps-requires-clause-few
 put_steps-requires-clause-few g c =
@@ -66,7 +66,7 @@ put_steps-requires-clause-few g c =
     let before = g.R.Recorder.notes node.journal in
     let here = (goal.at.put_steps-requires-clause-few g c).After-split_at in
     let few : length before + c.most_notes.result < 2 ^ 63 = search rules in
-    let count = c.put_kept.ensures.counted ∙ ap length (c.put_kept.ensures.noted ∙ ap (λ (notes : _). notes ++ Kept c.args.message ∷ []) c.reserve.ensures.kept) ∙ length-append before (Kept c.args.message ∷ []) in
+    let count = c.put_copy.ensures.counted ∙ ap length (c.put_copy.ensures.noted ∙ ap (λ (notes : _). notes ++ Kept c.args.message ∷ []) c.reserve.ensures.kept) ∙ length-append before (Kept c.args.message ∷ []) in
     omega (arith, steps_are_few node.inner.w (found g (goal.at-After-split_at g here).After-accept_reserved) c.args.message, few, count, ap length (made g here), ap length node.stands.buffer.early, c.most_notes.ensures)
 
 pub invariant_of-self-in-Break-branch-3 : goal.invariant_of-self-in-Break-branch-3
@@ -86,7 +86,7 @@ noted g c =
     let before = g.R.Recorder.notes c.args.self.now.journal in
     let notes = map step_note c.split_at.result.1.now in
     c.put_steps.ensures.noted
-    ∙ ap (λ (ns : _). ns ++ notes) (c.put_kept.ensures.noted ∙ ap (λ (ns : _). ns ++ Kept c.args.message ∷ []) c.reserve.ensures.kept)
+    ∙ ap (λ (ns : _). ns ++ notes) (c.put_copy.ensures.noted ∙ ap (λ (ns : _). ns ++ Kept c.args.message ∷ []) c.reserve.ensures.kept)
     ∙ append_assoc before (Kept c.args.message ∷ []) notes
     ∙ ap (λ (made : _). before ++ Kept c.args.message ∷ map step_note made) (made g (goal.at-After-put_steps g c).After-split_at)
 

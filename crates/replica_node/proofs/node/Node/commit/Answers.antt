@@ -66,8 +66,8 @@ invariant_of-self-2 g c =
     let new = c.reserve_commit.new.self in
     let same = c.reserve_commit.ensures.unchanged in
     let settings = c.commit_reserved.ensures.settings in
-    let noted = c.put_sent.ensures.noted ∙ ap (λ (notes : _). notes ++ Sent m ∷ []) c.reserve.ensures.kept in
+    let noted = c.put_copy.ensures.noted ∙ ap (λ (notes : _). notes ++ Sent m ∷ []) c.reserve.ensures.kept in
     let stands = c.commit_reserved.ensures.stands s (unchanged_stands node.inner new s same node.stands) (draft_is_state_of node.inner m c.requires.draft new same.settings s node.stands) in
-    let goes = goes_on node.inner.w node.inner.limit c.commit_reserved.new.self node.first before (g.R.Recorder.notes c.put_sent.new.journal) (Sent m ∷ []) (settings.w ∙ same.settings.w) (settings.limit ∙ same.settings.limit) node.legal noted
+    let goes = goes_on node.inner.w node.inner.limit c.commit_reserved.new.self node.first before (g.R.Recorder.notes c.put_copy.new.journal) (Sent m ∷ []) (settings.w ∙ same.settings.w) (settings.limit ∙ same.settings.limit) node.legal noted
     (draft_is_group node.inner s m node.stands (c.requires.draft s node.stands)) stands in
-    record { counted = c.put_sent.ensures.counted; legal = goes.legal; stands = goes.stands }
+    record { counted = c.put_copy.ensures.counted; legal = goes.legal; stands = goes.stands }
