@@ -1,5 +1,5 @@
 -- That a record is replayed where it is what one call gives.
-use Rattle.std.proofs.Common.{◌≡◌, ◌≢◌, ℕ, ◌-◌, ◌≤◌, Bool, true, false, ◌==◌, List, [], ◌∷◌, ◌++◌, map, length, take, drop, get_or, Option, Some, None, Ok, Err, refl, sym, ap, subst, ◌∙◌, arith, if◌then◌else◌}
+use Rattle.std.proofs.Common.{◌≡◌, ◌≢◌, ℕ, ◌-◌, ◌≤◌, Bool, true, false, ◌==◌, List, [], ◌∷◌, ◌++◌, map, length, take, drop, get_or, Option, Some, None, Ok, refl, sym, ap, subst, ◌∙◌, arith, if◌then◌else◌}
 use Rattle.std.proofs.lemmas.Bool.{ne_eqb}
 use Rattle.std.proofs.Math.Seq.{take-length}
 use Rattle.op_base.specs.Name.{same_text}
@@ -8,15 +8,13 @@ use Rattle.causal_model.specs.Journal.{step_note, receive_notes}
 use Rattle.causal_model.specs.Receiving.{steps, with_early, refusal_of, receive_by}
 use Rattle.causal_model.specs.State.{State}
 use Rattle.causal_model.specs.declared.note.Note.{Note}
-use Rattle.causal_model.specs.declared.note.Note.TheVariants.{Sent, Kept}
-use Rattle.causal_model.specs.declared.outcome.Refusal.{Refusal}
-use Rattle.causal_model.proofs.States.Outcomes.{notes_of_accepted, notes_of_refused}
+use Rattle.causal_model.specs.declared.note.Note.TheVariants.{Kept}
+use Rattle.causal_model.proofs.States.Outcomes.{notes_of_accepted}
 use Rattle.frame_codec.specs.Grammar.{frame_of}
 use Rattle.frame_codec.specs.Message.{frame_read}
-use Rattle.frame_codec.specs.declared.fault.FrameFault.{FrameFault}
 use Rattle.frame_codec.specs.declared.version.Version.TheVariants.{Two}
 use Rattle.replica_node.specs.Nodes.{state_by}
-use Rattle.world_model.specs.Records.{group_if, notes_sent, notes_by}
+use Rattle.world_model.specs.Records.{group_if, notes_by}
 use Rattle.replica_keeper.specs.Open.{NotedNode}
 use Rattle.replica_keeper.specs.Replaying.{told_to, Replays}
 use Rattle.replica_keeper.proofs.Kept.{Opens, kept_opens}

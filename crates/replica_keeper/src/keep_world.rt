@@ -109,7 +109,7 @@ impl KeepWorld {
         if seq as usize > frames.len() {
             return Given::Unsent;
         }
-        let frame = frames[seq as usize - 1].as_slice();
+        let frame = frames.at(seq as usize - 1);
         let id = MessageId { origin: k, seq };
         let replica = &mut self.replicas[r as usize];
         let answer = offer_frame(alloc, replica, id, frame);

@@ -23,10 +23,11 @@ use crate::keep_world::DurableList;
 use crate::start::StartFault;
 use causal_model::{Beat, Local, Receive};
 use frame_codec::{decode, encode};
-use op_base::{ByteList, Message, MessageId, NoMemory, Update};
+use op_base::{Message, MessageId, NoMemory, Update};
 use std::alloc::Global;
 use std::mem::replace;
 use store_io::SteadyKeeper;
+use world::FrameRow;
 
 /// The durable replicas of `n` members that have noted nothing.
 pub(crate) fn open_replicas(
@@ -54,7 +55,7 @@ pub(crate) fn open_replicas(
 pub(crate) fn send(
     alloc: Global,
     replica: &mut Durable<SteadyKeeper>,
-    frames: &mut Vec<ByteList>,
+    frames: &mut FrameRow,
     update: &Update,
 ) -> Local
     requires { IsSome replica.old.node }
@@ -77,7 +78,7 @@ pub(crate) fn send(
 pub(crate) fn send_noop(
     alloc: Global,
     replica: &mut Durable<SteadyKeeper>,
-    frames: &mut Vec<ByteList>,
+    frames: &mut FrameRow,
 ) -> Beat
     requires { IsSome replica.old.node }
     ensures { let told = (beat_rule replica.old.w replica.old.limit (state_in replica.old)).0 in
@@ -96,16 +97,11 @@ pub(crate) fn send_noop(
 }
 
 /// Puts the frame of a message behind others.
-fn put_frame(
-    alloc: Global,
-    frames: &mut Vec<ByteList>,
-    message: &Message,
-    n: u8,
-) -> Result<(), NoMemory>
+fn put_frame(alloc: Global, frames: &mut FrameRow, message: &Message, n: u8) -> Result<(), NoMemory>
     requires { IsTrue (fits n message.now) }
     ensures { OnOk result (frames.new.items ≡ frames.old.items ++ frame_of versions.Two n 0 message.now ∷ []) }
 {
-    frames.push(ByteList::from_vec(encode(alloc, message, n, 0)?))?;
+    frames.push(&encode(alloc, message, n, 0)?)?;
     Ok(())
 }
 

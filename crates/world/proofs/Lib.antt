@@ -1,3 +1,4 @@
+pub mod FrameRows
 pub mod Nodes
 pub mod Asking
 pub mod Changes

@@ -1,3 +1,4 @@
+pub mod FrameRows
 pub mod Shows
 pub mod Growing
 pub mod Apart

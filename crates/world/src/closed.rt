@@ -7,10 +7,11 @@ ghost use Rattle.world_model.specs.Journals.{sent_in, world_of_journals};
 ghost use Rattle.world.specs.Apart.{AreApart, frames_by};
 ghost use Rattle.world.specs.Growing.{journals_of};
 
+use crate::frames::FrameRow;
 use crate::world::{FrameTable, NodeList, World};
 use causal_model::Note;
 use frame_codec::{Version, encode};
-use op_base::{ByteList, NoMemory};
+use op_base::NoMemory;
 use replica_node::{Journal, Node};
 use std::alloc::Global;
 
@@ -42,11 +43,11 @@ fn frames_of(alloc: Global, nodes: &[Node<Journal>]) -> Result<FrameTable, NoMem
 }
 
 /// The frames of all that a node sent.
-fn frames_of_one(alloc: Global, node: &Node<Journal>) -> Result<Vec<ByteList>, NoMemory>
+fn frames_of_one(alloc: Global, node: &Node<Journal>) -> Result<FrameRow, NoMemory>
     requires fit { All (λ m. IsTrue (fits node.now.inner.n m)) (sent_in node.now.journal.notes) }
     ensures { IfOk result (λ row. row.items ≡ frames_by node.now) }
 {
-    let mut row = Vec::new(alloc);
+    let mut row = FrameRow::new(alloc);
     for note in node.journal.notes() {
         put_frame(alloc, &mut row, note, node.inner.n, node.inner.epoch)?;
     }
@@ -56,7 +57,7 @@ fn frames_of_one(alloc: Global, node: &Node<Journal>) -> Result<Vec<ByteList>, N
 /// Puts the frame of what a note sent behind the others, where it sent something.
 fn put_frame(
     alloc: Global,
-    row: &mut Vec<ByteList>,
+    row: &mut FrameRow,
     note: &Note,
     n: u8,
     epoch: u32,
@@ -66,7 +67,7 @@ fn put_frame(
     ensures { OnOk result (row.new.items ≡ row.old.items ++ map (frame_of Version.Two n epoch) (sent_in (note.now ∷ []))) }
 {
     if let Note::Sent(message) = note {
-        row.push(ByteList::from_vec(encode(alloc, message, n, epoch)?))?;
+        row.push(&encode(alloc, message, n, epoch)?)?;
     }
     Ok(())
 }

@@ -44,7 +44,7 @@ impl World {
         if seq as usize > frames.len() {
             return Given::Unsent;
         }
-        let frame = frames[seq as usize - 1].as_slice();
+        let frame = frames.at(seq as usize - 1);
         let id = MessageId { origin: k, seq };
         Given::Got(offer_frame(alloc, &mut self.nodes[r as usize], id, frame))
     }

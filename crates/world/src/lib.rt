@@ -6,6 +6,7 @@
 
 mod brief;
 mod closed;
+mod frames;
 mod giving;
 mod lagging;
 mod offering;
@@ -15,5 +16,6 @@ mod settling;
 mod world;
 
 pub use brief::{Brief, brief_of};
+pub use frames::FrameRow;
 pub use world::{FrameTable, NodeList, World, empty_rows};
 pub use world_model::{Given, RawGot, Regroup, Resent, Settle};

@@ -17,10 +17,11 @@ ghost use Rattle.world.specs.Steps.{SameNode, SendsUpdate};
 ghost use Rattle.world.specs.Asking.{recorders_of, asked_of};
 
 use crate::brief::{Brief, brief_of};
+use crate::frames::FrameRow;
 use crate::world::World;
 use causal_model::{Beat, Local};
 use frame_codec::{Version, encode};
-use op_base::{ByteList, Message, NoMemory, Update, updates_are_valid};
+use op_base::{Message, NoMemory, Update, updates_are_valid};
 use replica_node::{Journal, Node};
 use std::alloc::Global;
 
@@ -80,12 +81,7 @@ impl World {
 }
 
 /// Sends an update at a node, and puts the frame of what was sent behind the others.
-fn send(
-    alloc: Global,
-    node: &mut Node<Journal>,
-    frames: &mut Vec<ByteList>,
-    update: &Update,
-) -> Local
+fn send(alloc: Global, node: &mut Node<Journal>, frames: &mut FrameRow, update: &Update) -> Local
     ensures sends { SendsUpdate update.now node.old frames.old.items result node.new frames.new.items }
     ensures same { SameNode node.old node.new }
     ensures once { AsksOnceAtMost node.old.journal.asked node.new.journal.asked }
@@ -107,7 +103,7 @@ fn send(
 fn send_briefly(
     alloc: Global,
     node: &mut Node<Journal>,
-    frames: &mut Vec<ByteList>,
+    frames: &mut FrameRow,
     update: Update,
 ) -> Brief
     ensures sends { (answer : Local) × (result ≡ brief answer) × SendsUpdate update node.old frames.old.items answer node.new frames.new.items }
@@ -127,7 +123,7 @@ fn send_briefly(
 }
 
 /// Sends a no-op at a node, where one is due, and puts its frame behind the others.
-fn send_noop(alloc: Global, node: &mut Node<Journal>, frames: &mut Vec<ByteList>) -> Beat
+fn send_noop(alloc: Global, node: &mut Node<Journal>, frames: &mut FrameRow) -> Beat
     ensures answer { Follows (λ (there ns : List Note). there ≡ ns) Beat.NoMemory is_beat (noting node.old.first beat_notes (beat_rule node.old.inner.w node.old.inner.limit)) node.old.journal.notes result node.new.journal.notes }
     ensures same { SameNode node.old node.new }
     ensures frames { frames.new.items ≡ frames.old.items ++ map (frame_of Version.Two node.old.inner.n node.old.inner.epoch) (beat_messages result) }
@@ -155,7 +151,7 @@ fn send_noop(alloc: Global, node: &mut Node<Journal>, frames: &mut Vec<ByteList>
 fn commit(
     alloc: Global,
     node: &mut Node<Journal>,
-    frames: &mut Vec<ByteList>,
+    frames: &mut FrameRow,
     message: Message,
 ) -> Result<(), NoMemory>
     requires draft { (s : State) → StandsFor node.old.inner s → IsDraft node.old.inner message s }
@@ -168,9 +164,8 @@ fn commit(
     ensures once { AsksOnceAtMost node.old.journal.asked node.new.journal.asked }
 {
     let frame = encode(alloc, &message, node.inner.n, node.inner.epoch)?;
-    // It grows by a factor, so that many single reserves take constant time each.
-    frames.reserve(1)?;
+    frames.reserve(frame.len())?;
     node.commit(alloc, message)?;
-    frames.push_reserved(ByteList::from_vec(frame));
+    frames.push_reserved(&frame);
     Ok(())
 }

@@ -12,9 +12,10 @@ ghost use Rattle.world_model.specs.Showing.{answer_at, list_ids_at, tombs_at, lo
 ghost use Rattle.world.specs.Shows.{Shows};
 ghost use Rattle.world.specs.Steps.{AreNodesOf, are_empty};
 
+use crate::frames::FrameRow;
 use crate::lagging::lagging_at;
 use causal_model::ItemView;
-use op_base::{Answer, ByteList, ElementIdList, IdList, NoMemory, ObjectId, Tag};
+use op_base::{Answer, ElementIdList, IdList, NoMemory, ObjectId, Tag};
 use replica_core::{CreateFault, are_numbers};
 use replica_node::{Journal, Node};
 use std::alloc::Global;
@@ -23,7 +24,7 @@ use std::alloc::Global;
 pub type NodeList = Vec<Node<Journal>>;
 
 /// For each member the frames of its messages, in the order of their numbers, which begin with 1.
-pub type FrameTable = Vec<Vec<ByteList>>;
+pub type FrameTable = Vec<FrameRow>;
 
 /// The nodes of a store's members, and the frames of all that they sent. These fields are all that it has.
 #[derive(Drop)]
@@ -160,7 +161,7 @@ pub fn empty_rows(alloc: Global, n: u8) -> Result<FrameTable, NoMemory>
 {
     let mut rows = Vec::with_capacity(alloc, n as usize)?;
     for _ in 0..n {
-        rows.push(Vec::new(alloc))?;
+        rows.push(FrameRow::new(alloc))?;
     }
     Ok(rows)
 }

@@ -10,7 +10,7 @@ use Rattle.world.proofs.Nodes.{epoch_is_low}
 use Rattle.world.proofs.closed.frames_of_one.Goals as goal
 
 pub loop-note-init : goal.loop-note-init
-loop-note-init c = ap (λ l. l ++ map (frame_of Two c.args.node.now.inner.n c.args.node.now.inner.epoch) (sent_in c.notes-note-items.result.now)) c.new-row.ensures.items
+loop-note-init c = ap (λ l. l ++ map (frame_of Two c.args.node.now.inner.n c.args.node.now.inner.epoch) (sent_in c.notes-note-items.result.now)) c.new-row.ensures
 
 pub put_frame-requires : goal.put_frame-requires
 put_frame-requires c =

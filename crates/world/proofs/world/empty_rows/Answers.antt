@@ -7,7 +7,7 @@ pub loop-init : goal.loop-init
 loop-init c = ap (map (λ row. row.items)) c.in_ok-rows.ensures.items
 
 pub loop-preserved : goal.loop-preserved
-loop-preserved c = one_empty (λ row. row.items) c.loop.rows.items c.push.new.self.items c.new.result c.loop.counter c.loop.invariant c.in_ok-push.ensures.items c.new.ensures.items
+loop-preserved c = one_empty (λ row. row.items) c.loop.rows.items c.push.new.self.items c.new.result c.loop.counter c.loop.invariant c.in_ok-push.ensures.items c.new.ensures
 
 pub returns : goal.returns
 returns c =

@@ -1,4 +1,4 @@
-use Rattle.std.proofs.Common.{rules, ◌≡◌, inl, inr, ◌<◌, ◌≤◌, ◌-◌, ℕ, List, length, map, slice_index_or, refl, sym, ap, subst, ◌∙◌, arith}
+use Rattle.std.proofs.Common.{rules, inl, inr, ◌<◌, ◌≤◌, length, map, refl, sym, ap, ◌∙◌, arith}
 use Rattle.std.proofs.Props.{props}
 use Rattle.std.proofs.Math.Logic.{∥∥₁_elim, ∥∥₁_map}
 use Rattle.world_model.specs.Stops.{keep_give_at}
@@ -40,18 +40,20 @@ pub offer_frame-answer-requires-clause-frame : goal.offer_frame-answer-requires-
 offer_frame-answer-requires-clause-frame c =
     let row = c.index-frames.result.now in
     let most : c.args.seq ≤ length row.items = search rules in
-    let is = subst (λ (x : List ℕ). x ≡ slice_index_or row.items (c.args.seq - 1) x) (sym c.as_slice-frame.ensures) c.index.ensures in
-    ∥∥₁_map (c.args.self.now.shows c.requires.goes_on) (λ x. let one = given_there (λ row. row.items) c.args.self.now.replicas.items c.args.self.now.sent.items x.0 x.1 c.args.r c.requires.to c.index_mut-replica.result.now c.index_mut-replica.ensures.value c.index_mut-replica.result.now c.args.k c.requires.of row c.index-frames.ensures c.args.seq c.if-seq-eq0.false most c.as_slice-frame.result.now is in (one.0, one.1.is))
+    let frame = c.at-frame.result.now in
+    let is = c.at-frame.ensures frame in
+    ∥∥₁_map (c.args.self.now.shows c.requires.goes_on) (λ x. let one = given_there (λ row. row.items) c.args.self.now.replicas.items c.args.self.now.sent.items x.0 x.1 c.args.r c.requires.to c.index_mut-replica.result.now c.index_mut-replica.ensures.value c.index_mut-replica.result.now c.args.k c.requires.of row c.index-frames.ensures c.args.seq c.if-seq-eq0.false most frame is in (one.0, one.1.is))
 
 pub invariant_of-self-2 : goal.invariant_of-self-2
 invariant_of-self-2 c =
     let row = c.index-frames.result.now in
     let most : c.args.seq ≤ length row.items = search rules in
-    let is = subst (λ (x : List ℕ). x ≡ slice_index_or row.items (c.args.seq - 1) x) (sym c.as_slice-frame.ensures) c.index.ensures in
+    let frame = c.at-frame.result.now in
+    let is = c.at-frame.ensures frame in
     record {
       shows = λ e. ∥∥₁_map (c.args.self.now.shows c.requires.goes_on) (λ x.
-          let one = given_there (λ row. row.items) c.args.self.now.replicas.items c.args.self.now.sent.items x.0 x.1 c.args.r c.requires.to c.index_mut-replica.result.now c.index_mut-replica.ensures.value c.offer_frame-answer.new.replica c.args.k c.requires.of row c.index-frames.ensures c.args.seq c.if-seq-eq0.false most c.as_slice-frame.result.now is in
-          elim (give_keep (λ row. row.items) c.args.self.now.replicas.items c.args.self.now.sent.items x.0 x.1 c.args.r c.requires.to c.index_mut-replica.result.now c.index_mut-replica.ensures.value c.offer_frame-answer.new.replica c.args.k c.requires.of row c.index-frames.ensures c.args.seq c.if-seq-eq0.false most c.as_slice-frame.result.now is c.offer_frame-answer.result (c.offer_frame-answer.ensures one.0 one.1.is)) [
+          let one = given_there (λ row. row.items) c.args.self.now.replicas.items c.args.self.now.sent.items x.0 x.1 c.args.r c.requires.to c.index_mut-replica.result.now c.index_mut-replica.ensures.value c.offer_frame-answer.new.replica c.args.k c.requires.of row c.index-frames.ensures c.args.seq c.if-seq-eq0.false most frame is in
+          elim (give_keep (λ row. row.items) c.args.self.now.replicas.items c.args.self.now.sent.items x.0 x.1 c.args.r c.requires.to c.index_mut-replica.result.now c.index_mut-replica.ensures.value c.offer_frame-answer.new.replica c.args.k c.requires.of row c.index-frames.ensures c.args.seq c.if-seq-eq0.false most frame is c.offer_frame-answer.result (c.offer_frame-answer.ensures one.0 one.1.is)) [
             | inl made ↦ ((keep_give_at c.args.r c.args.k c.args.seq x.0).1, made.1)
             | inr lost ↦ absurd (c.no_receive-self.ensures.other e (got_back lost.0))
           ]);
@@ -61,9 +63,10 @@ pub returns-clause-answer : goal.returns-clause-answer
 returns-clause-answer c keep shown =
     let row = c.index-frames.result.now in
     let most : c.args.seq ≤ length row.items = search rules in
-    let is = subst (λ (x : List ℕ). x ≡ slice_index_or row.items (c.args.seq - 1) x) (sym c.as_slice-frame.ensures) c.index.ensures in
-    let one = given_there (λ row. row.items) c.args.self.now.replicas.items c.args.self.now.sent.items keep shown.shows c.args.r c.requires.to c.index_mut-replica.result.now c.index_mut-replica.ensures.value c.offer_frame-answer.new.replica c.args.k c.requires.of row c.index-frames.ensures c.args.seq c.if-seq-eq0.false most c.as_slice-frame.result.now is in
-    elim (give_keep (λ row. row.items) c.args.self.now.replicas.items c.args.self.now.sent.items keep shown.shows c.args.r c.requires.to c.index_mut-replica.result.now c.index_mut-replica.ensures.value c.offer_frame-answer.new.replica c.args.k c.requires.of row c.index-frames.ensures c.args.seq c.if-seq-eq0.false most c.as_slice-frame.result.now is c.offer_frame-answer.result (c.offer_frame-answer.ensures one.0 one.1.is)) [
+    let frame = c.at-frame.result.now in
+    let is = c.at-frame.ensures frame in
+    let one = given_there (λ row. row.items) c.args.self.now.replicas.items c.args.self.now.sent.items keep shown.shows c.args.r c.requires.to c.index_mut-replica.result.now c.index_mut-replica.ensures.value c.offer_frame-answer.new.replica c.args.k c.requires.of row c.index-frames.ensures c.args.seq c.if-seq-eq0.false most frame is in
+    elim (give_keep (λ row. row.items) c.args.self.now.replicas.items c.args.self.now.sent.items keep shown.shows c.args.r c.requires.to c.index_mut-replica.result.now c.index_mut-replica.ensures.value c.offer_frame-answer.new.replica c.args.k c.requires.of row c.index-frames.ensures c.args.seq c.if-seq-eq0.false most frame is c.offer_frame-answer.result (c.offer_frame-answer.ensures one.0 one.1.is)) [
       | inl made ↦ inl (made.0, record { goes_on = not_ended c.no_receive-self.result (λ ended. given_wants_none keep c.args.r (sent_message keep.world c.args.k c.args.seq) (sym made.0 ∙ ap (λ a. given.Got a) (c.no_receive-self.ensures.is ended))); shows = made.1 })
       | inr lost ↦ inr lost
     ]

@@ -1,4 +1,4 @@
-use Rattle.std.proofs.Common.{rules, ◌≡◌, ◌≢◌, ◌<◌, ◌≤◌, ◌-◌, IsTrue, List, ℕ, length, map, slice_index_or, refl, sym, ap, subst, arith}
+use Rattle.std.proofs.Common.{rules, ◌≢◌, ◌<◌, ◌≤◌, IsTrue, length, map, refl, ap, arith}
 use Rattle.std.proofs.Props.{props}
 use Rattle.std.proofs.Math.Logic.{∥∥₁_elim, ∥∥₁_map}
 use Rattle.causal_model.specs.declared.outcome.Receive.TheVariants as receive
@@ -40,9 +40,10 @@ offer_frame-requires-clause-frame c =
     let row = c.index-frames.result.now in
     let some : c.args.seq ≢ 0 = c.if-seq-eq0.false in
     let most : c.args.seq ≤ length row.items = search rules in
-    let is = subst (λ (x : List ℕ). x ≡ slice_index_or row.items (c.args.seq - 1) x) (sym c.as_slice-frame.ensures) c.index.ensures in
+    let frame = c.at-frame.result.now in
+    let is = c.at-frame.ensures frame in
     ∥∥₁_map c.args.self.now.shows (λ x.
-    let one = message_given (λ row. row.items) c.args.self.now.nodes.items c.args.self.now.sent.items x.0 x.1 c.args.k row c.requires.of c.index-frames.ensures c.args.r node (record { low = c.requires.to; at = c.index_mut.ensures.value }) c.args.seq some most c.as_slice-frame.result.now is in
+    let one = message_given (λ row. row.items) c.args.self.now.nodes.items c.args.self.now.sent.items x.0 x.1 c.args.k row c.requires.of c.index-frames.ensures c.args.r node (record { low = c.requires.to; at = c.index_mut.ensures.value }) c.args.seq some most frame is in
     (one.0, one.1.is))
 
 pub invariant_of-self-2 : goal.invariant_of-self-2
@@ -51,10 +52,11 @@ invariant_of-self-2 c =
     let row = c.index-frames.result.now in
     let some : c.args.seq ≢ 0 = c.if-seq-eq0.false in
     let most : c.args.seq ≤ length row.items = search rules in
-    let is = subst (λ (x : List ℕ). x ≡ slice_index_or row.items (c.args.seq - 1) x) (sym c.as_slice-frame.ensures) c.index.ensures in
+    let frame = c.at-frame.result.now in
+    let is = c.at-frame.ensures frame in
     record {
       shows = ∥∥₁_map c.args.self.now.shows (λ x.
-          some_is_left (given.Got receive.NoMemory) takes_frame (give_at c.args.r c.args.k c.args.seq x.0) x.0 (given.Got c.offer_frame.result) _ (replies_give (λ row. row.items) c.args.self.now.nodes.items c.args.self.now.sent.items x.0 x.1 c.args.k row c.requires.of c.index-frames.ensures c.args.r node (record { low = c.requires.to; at = c.index_mut.ensures.value }) c.args.seq some most c.as_slice-frame.result.now is
+          some_is_left (given.Got receive.NoMemory) takes_frame (give_at c.args.r c.args.k c.args.seq x.0) x.0 (given.Got c.offer_frame.result) _ (replies_give (λ row. row.items) c.args.self.now.nodes.items c.args.self.now.sent.items x.0 x.1 c.args.k row c.requires.of c.index-frames.ensures c.args.r node (record { low = c.requires.to; at = c.index_mut.ensures.value }) c.args.seq some most frame is
           c.offer_frame.new.node c.offer_frame.ensures.same c.offer_frame.result c.offer_frame.ensures.answer));
     }
 
@@ -64,8 +66,9 @@ returns-clause-answer c plain shows =
     let row = c.index-frames.result.now in
     let some : c.args.seq ≢ 0 = c.if-seq-eq0.false in
     let most : c.args.seq ≤ length row.items = search rules in
-    let is = subst (λ (x : List ℕ). x ≡ slice_index_or row.items (c.args.seq - 1) x) (sym c.as_slice-frame.ensures) c.index.ensures in
-    replies_give (λ row. row.items) c.args.self.now.nodes.items c.args.self.now.sent.items plain shows c.args.k row c.requires.of c.index-frames.ensures c.args.r node (record { low = c.requires.to; at = c.index_mut.ensures.value }) c.args.seq some most c.as_slice-frame.result.now is
+    let frame = c.at-frame.result.now in
+    let is = c.at-frame.ensures frame in
+    replies_give (λ row. row.items) c.args.self.now.nodes.items c.args.self.now.sent.items plain shows c.args.k row c.requires.of c.index-frames.ensures c.args.r node (record { low = c.requires.to; at = c.index_mut.ensures.value }) c.args.seq some most frame is
     c.offer_frame.new.node c.offer_frame.ensures.same c.offer_frame.result c.offer_frame.ensures.answer
 
 pub returns-then-seq-eq0-clause-fair : goal.returns-then-seq-eq0-clause-fair
