@@ -132,7 +132,7 @@ arrived-more n next at rs e laid =
 -- ---- one object
 
 -- what holds of each two that pass, of the list of those that pass
-pairwise-filter : {A : Type 0} (p : A → Bool) (R S : A → A → Type 0) → ((x y : A) → p x ≡ true → p y ≡ true → R x y → S x y) → (xs : List A) → Pairwise R xs → Pairwise S (filter p xs)
+pub pairwise-filter : {A : Type 0} (p : A → Bool) (R S : A → A → Type 0) → ((x y : A) → p x ≡ true → p y ≡ true → R x y → S x y) → (xs : List A) → Pairwise R xs → Pairwise S (filter p xs)
 pairwise-filter p R S weaker [] pairs = tt
 pairwise-filter p R S weaker (x ∷ xs) pairs = elim (told (p x)) [
   | inl t ↦ subst (Pairwise S) (sym (cond-true (p x) _ _ t)) (of_first x t xs pairs.0, pairwise-filter p R S weaker xs pairs.1)
@@ -178,10 +178,10 @@ laid-filter n next p rs laid = record {
 
 -- ---- rows taken out
 
-each-taken : {A : Type 0} (P : A → Type 0) (i : ℕ) (xs : List A) → Each P xs → Each P (take i xs)
+pub each-taken : {A : Type 0} (P : A → Type 0) (i : ℕ) (xs : List A) → Each P xs → Each P (take i xs)
 each-taken P i xs each = (each-parts P (take i xs) (drop i xs) (subst (Each P) (sym (joined i xs)) each)).0
 
-each-left : {A : Type 0} (P : A → Type 0) (i : ℕ) (xs : List A) → Each P xs → Each P (drop i xs)
+pub each-left : {A : Type 0} (P : A → Type 0) (i : ℕ) (xs : List A) → Each P xs → Each P (drop i xs)
 each-left P i xs each = (each-parts P (take i xs) (drop i xs) (subst (Each P) (sym (joined i xs)) each)).1
 
 pub each-cut : {A : Type 0} (P : A → Type 0) (xs : List A) (i j : ℕ) → Each P xs → Each P (take i xs ++ drop j xs)

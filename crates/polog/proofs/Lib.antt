@@ -12,6 +12,10 @@ pub mod Turns
 pub mod Tracks
 pub mod Strips
 pub mod Prunes
+pub mod Freed
+pub mod Gaps
+pub mod Placed
+pub mod Kept
 pub mod Items
 pub mod Fitting
 pub mod Standing

@@ -144,6 +144,9 @@ same-is-eq a b = both_ways (same_object a b) (is_eq (object_cmp a b)) there back
   back : is_eq (object_cmp a b) ≡ true → same_object a b ≡ true
   back tied = subst (λ o. same_object a o ≡ true) (items_tied a b None None (λ i. ordering_then (equal_from (object_cmp a b) tied i) Equal)).0 itself
 
+pub same-from-one : (a b : ObjectId) → a ≡ b → same_object a b ≡ true
+same-from-one a b one = same-is-eq a b ∙ ap is_eq (ap (object_cmp a) (sym one) ∙ tied_itself objects_total a)
+
 not_tied_below : (o : Ordering) → is_lt o ≡ true → is_eq o ≡ false
 not_tied_below Less h = refl
 not_tied_below Equal h = absurd (false≢true h)

@@ -19,7 +19,7 @@ use Rattle.polog.specs.declared.reach.Reach.TheVariants as reaches
 use Rattle.polog.proofs.Laid.{joined}
 use Rattle.polog.proofs.Orders.{filter-all, filter-join, told}
 
-each-any : {A : Type 0} (P : A → Type 0) → ((x : A) → P x) → (xs : List A) → Each P xs
+pub each-any : {A : Type 0} (P : A → Type 0) → ((x : A) → P x) → (xs : List A) → Each P xs
 each-any P all [] = tt
 each-any P all (x ∷ xs) = (all x, each-any P all xs)
 

@@ -6,9 +6,9 @@ use Rattle.std.proofs.lemmas.List.{reverse-append, length-reverse, reverse-rever
 use Rattle.std.proofs.lemmas.List.Filters.{length-filter_both}
 use Rattle.std.proofs.lemmas.List.Sorted.{IsPermutation-reverse, length_permutation}
 use Rattle.op_base.specs.declared.message.Entry.{Entry}
-use Rattle.polog.specs.Order.{Each, in_order, items_of}
+use Rattle.polog.specs.Order.{in_order, items_of}
 use Rattle.polog.specs.Rows.{arrived}
-use Rattle.polog.proofs.Orders.{each-weaker, pairwise-parts, filter-join, filter-none, filter-in_order, items-join, told}
+use Rattle.polog.proofs.Orders.{each-weaker, each-passes, pairwise-parts, filter-join, filter-none, filter-in_order, items-join, told}
 use Rattle.polog.proofs.Moves.{Apart, apart-moved, in_order-of-moved}
 use Rattle.polog.proofs.Laid.{joined, length-in_order, length-items, arrived-filter}
 
@@ -40,13 +40,6 @@ filter-whole p (x ∷ xs) same = elim (told (p x)) [
       let here = cond-false (p x) (x ∷ filter p xs) (filter p xs) t in
       let fewer = length-filter_both p (λ y. not (p y)) (λ y. refl) xs in
       absurd (omega (arith, same, ap length here, fewer))
-]
-
-each-passes : {A : Type 0} (p : A → Bool) (xs : List A) → Each (λ x. p x ≡ true) (filter p xs)
-each-passes p [] = tt
-each-passes p (x ∷ xs) = elim (told (p x)) [
-  | inl t ↦ subst (Each (λ y. p y ≡ true)) (sym (cond-true (p x) _ _ t)) (t, each-passes p xs)
-  | inr t ↦ subst (Each (λ y. p y ≡ true)) (sym (cond-false (p x) _ _ t)) (each-passes p xs)
 ]
 
 not-true : (b : Bool) → not b ≡ true → b ≡ false

@@ -1,7 +1,6 @@
 -- A sweep over rows that moves those that stay to the front.
-use Rattle.std.proofs.Common.{◌≡◌, ℕ, ◌+◌, ◌<◌, ◌≤◌, zero, suc, Bool, true, false, List, [], ◌∷◌, ◌++◌, length, reverse, append_assoc, take, get_or, refl, sym, ap, ◌∙◌, arith}
+use Rattle.std.proofs.Common.{◌≡◌, ℕ, ◌+◌, ◌<◌, ◌≤◌, zero, suc, Bool, true, false, List, [], ◌∷◌, length, take, get_or, refl, sym, arith}
 use Rattle.std.specs.List.{swap, SwappedAt}
-use Rattle.std.proofs.lemmas.List.{reverse-append}
 use Rattle.std.proofs.lemmas.List.Edits.{swapped_from_swap, swap_is}
 use Rattle.std.proofs.lemmas.List.Filters.{FiltersInPlace, FiltersInPlace-more_no}
 use Rattle.polog.specs.Order.{Each}
@@ -30,11 +29,3 @@ module _ {X : Type 0} where
     -- the next fails
     pub passes : (ys : List X) (k i : ℕ) → FiltersInPlace p xs ys k i → i < length ys → (d : X) → p (get_or ys i d) ≡ false → FiltersInPlace p xs ys k (i + 1)
     passes ys k i so_far inside d goes = FiltersInPlace-more_no so_far inside goes (get-any ys i d (get_or ys i d) inside)
-
--- the last row is moved from the end of a list to the end of another
-pub moved-more : {X : Type 0} (old rows rest last into more : List X) → old ≡ rows ++ reverse into → rows ≡ rest ++ last → length last ≡ 1 → more ≡ into ++ last → old ≡ rest ++ reverse more
-moved-more old rows rest [] into more whole apart one put = cc
-moved-more old rows rest (row ∷ []) into more whole apart one put =
-    whole ∙ ap (λ xs. xs ++ reverse into) apart ∙ append_assoc rest (row ∷ []) (reverse into)
-    ∙ ap (λ xs. rest ++ xs) (sym (ap reverse put ∙ reverse-append into (row ∷ [])))
-moved-more old rows rest (row ∷ next ∷ others) into more whole apart one put = absurd (omega (arith, one))

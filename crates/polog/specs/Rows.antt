@@ -1,14 +1,22 @@
--- Rows of a log: entries beside the numbers of their arrival, side by side by object.
-use Rattle.std.specs.Prelude.{◌≡◌, ◌≢◌, ℕ, ◌+◌, ◌-◌, ◌<◌, ◌≤◌, ◌⊎◌, Bool, true, false, List, ◌++◌, length, take, drop, slice_range, slice_index_or, Option, Some, None, IsTrue}
+-- Rows of a log: entries beside the numbers of their arrival, side by side by object, and between these free ones.
+use Rattle.std.specs.Prelude.{◌≡◌, ◌≢◌, ℕ, ◌+◌, ◌-◌, ◌<◌, ◌≤◌, ◌⊎◌, nat_eq, Bool, true, false, not, List, ◌∷◌, ◌++◌, length, take, drop, filter, slice_range, slice_index_or, Option, Some, None, IsTrue}
 use Rattle.std.specs.List.Sorted.{IsPermutation}
 use Rattle.std.specs.Ordering.{is_lt, is_le}
 use Rattle.std.specs.declared.cmp.Ordering.TheVariants.{Less, Equal}
 use Rattle.op_base.specs.Message.{fits}
 use Rattle.op_base.specs.Order.{object_cmp}
 use Rattle.op_base.specs.declared.message.Entry.{Entry}
+use Rattle.op_base.specs.declared.name.Kind.{Kind}
+use Rattle.op_base.specs.declared.name.Kind.TheVariants as kinds
 use Rattle.op_base.specs.declared.name.ObjectId.{ObjectId}
+use Rattle.op_base.specs.declared.operation.Act.{Act}
+use Rattle.op_base.specs.declared.operation.Act.TheVariants as acts
 use Rattle.causal_model.specs.Log.{message_of}
 use Rattle.polog.specs.Order.{Each, Pairwise, in_order, items_of}
+use Rattle.polog.specs.declared.guesses.Stand.{Stand}
+use Rattle.polog.specs.declared.marks.Stamp.{Stamp}
+use Rattle.polog.specs.declared.idle.Idle.{Idle}
+use Rattle.polog.specs.declared.sweep.Swept.{Swept}
 
 -- rows, with room for so many
 pub record Table : Type 0 where
@@ -18,6 +26,46 @@ pub record Table : Type 0 where
 -- a table with other rows
 abbrev pub with_rows : Table → List (ℕ × Entry) → Table
 with_rows table rows = record { room = table.room; rows = rows }
+
+-- the number of a row that is free
+abbrev pub free_number : ℕ
+free_number = 18446744073709551615
+
+-- whether a row's entry is one of the log
+abbrev pub is_live : ℕ × Entry → Bool
+is_live r = not (nat_eq r.0 free_number)
+
+-- whether a stamp is that of such a row
+abbrev pub is_used : Stamp → Bool
+is_used s = not (nat_eq s.number free_number)
+
+-- rows without the free ones
+abbrev pub live_rows : List (ℕ × Entry) → List (ℕ × Entry)
+live_rows rs = filter is_live rs
+
+-- an act of a kind that names no value and turns nothing on
+abbrev pub idle_act : Kind → Act
+idle_act kinds.Counter = acts.Inc 0
+idle_act kind = acts.Clear
+
+-- what rows say that are free for an entry's object
+abbrev pub idle_of : Entry → Idle
+idle_of e = record { origin = e.origin; tag = e.tag; object = e.update.object }
+
+-- a row is free, and says what it should
+pub record IsFreeFor (idle : Idle) (r : ℕ × Entry) : Type 0 where
+  pub number : r.0 ≡ free_number
+  pub origin : r.1.origin ≡ idle.origin
+  pub tag : r.1.tag ≡ idle.tag
+  pub object : r.1.update.object ≡ idle.object
+  pub act : r.1.update.act ≡ idle_act idle.object.kind
+
+-- rows in which those from one place up to another were freed, or free ones put in
+pub record IsFreed (idle : Idle) (many from to : ℕ) (old new : Table) : Type 0 where
+  pub gap : List (ℕ × Entry)
+  pub free : Each (IsFreeFor idle) gap
+  pub count : length gap ≡ many
+  pub rows : new ≡ with_rows old (take from old.rows ++ (gap ++ drop to old.rows))
 
 -- a list in which what stands from one place up to another is moved in front of what stands there from an earlier place on
 abbrev pub turned : {A : Type 0} → ℕ → ℕ → ℕ → List A → List A
@@ -49,6 +97,38 @@ pub record IsLaid (n next : ℕ) (rs : List (ℕ × Entry)) : Type 0 where
   pub grouped : Pairwise StandsBefore rs
   pub below : Each (λ r. r.0 < next) rs
   pub fit : Each (λ r. IsTrue (fits n (message_of r.1))) rs
+
+-- rows of a store of n members stand side by side by object, the free ones behind those of an object that aren't, and no free one
+-- puts anything in
+pub record IsSpread (n : ℕ) (rs : List (ℕ × Entry)) : Type 0 where
+  pub ordered : Pairwise (λ a b. is_le (object_cmp a.1.update.object b.1.update.object) ≡ true) rs
+  pub behind : Pairwise (λ a b. a.1.update.object ≡ b.1.update.object → is_live b ≡ true → is_live a ≡ true) rs
+  pub fit : Each (λ r. IsTrue (fits n (message_of r.1))) rs
+  pub idle : Each (λ r. is_live r ≡ false → r.1.update.act ≡ idle_act r.1.update.object.kind) rs
+
+-- where an object's rows stand: its entries, and behind them free rows
+pub record IsStand (object : ObjectId) (rs : List (ℕ × Entry)) (stand : Stand) : Type 0 where
+  pub span : IsSpan object (items_of rs) stand.from stand.to
+  pub least : stand.from ≤ stand.end
+  pub most : stand.end ≤ stand.to
+  pub live : (k : ℕ) (d : ℕ × Entry) → stand.from ≤ k → k < stand.end → is_live (slice_index_or rs k d) ≡ true
+  pub free : (k : ℕ) (d : ℕ × Entry) → stand.end ≤ k → k < stand.to → is_live (slice_index_or rs k d) ≡ false
+
+-- rows into which an entry was put at a place, and free ones behind it
+pub record IsPutIn (at number : ℕ) (e : Entry) (old new : Table) : Type 0 where
+  pub gap : List (ℕ × Entry)
+  pub free : Each (IsFreeFor (idle_of e)) gap
+  pub rows : new ≡ with_rows old (take at old.rows ++ (number, e) ∷ (gap ++ drop at old.rows))
+
+-- rows into which an entry was put, where those of its object had been swept: what goes and free rows of the object may be gone, or
+-- freed
+pub record IsPlaced (swept : Swept) (number : ℕ) (e : Entry) (old new : Table) : Type 0 where
+  pub gap : List (ℕ × Entry)
+  pub last : ℕ
+  pub free : Each (IsFreeFor (idle_of e)) gap
+  pub least : swept.stand.end ≤ last
+  pub most : last ≤ swept.stand.to
+  pub rows : new ≡ with_rows old (take swept.kept old.rows ++ (number, e) ∷ (gap ++ drop last old.rows))
 
 -- the entries in the order of their arrival
 abbrev pub arrived : List (ℕ × Entry) → List Entry

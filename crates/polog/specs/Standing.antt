@@ -1,5 +1,5 @@
 -- When a log is that of the messages which a member delivered, and what it is while one message more is noted in it.
-use Rattle.std.specs.Prelude.{◌≡◌, ℕ, ◌+◌, ◌≤◌, Bool, not, ◌&&◌, List, [], ◌∷◌, ◌++◌, map, filter, length, drop, slice_get, Option, Some, None, IsTrue}
+use Rattle.std.specs.Prelude.{◌≡◌, ℕ, ◌+◌, ◌≤◌, Bool, false, not, ◌&&◌, List, [], ◌∷◌, ◌++◌, map, filter, length, drop, slice_get, Option, Some, None, IsTrue}
 use Rattle.std.specs.List.{list_any}
 use Rattle.op_base.specs.declared.message.Entry.{Entry}
 use Rattle.op_base.specs.declared.message.Message.{Message}
@@ -10,6 +10,7 @@ use Rattle.causal_model.specs.Chapter.{is_chapter}
 use Rattle.causal_model.specs.Order.{happened_before}
 use Rattle.causal_model.specs.Parts.{is_on}
 use Rattle.causal_model.specs.Stability.{stable_vector, is_stable}
+use Rattle.polog.specs.Rows.{idle_act}
 use Rattle.polog.specs.Value.{Log}
 
 module _ (keeps : Update → Bool) (covers : Update → Update → Bool) (n me : ℕ) (messages : List Message) where
@@ -108,10 +109,15 @@ AreLoggedOf object log entries =
     → IsLogOf keeps covers n me messages log
     → map message_of entries ≡ filter (is_on object) (kept_log keeps covers n me messages)
 
--- where the log is that of messages, a test finds something among entries exactly where it finds something in it
+-- a test of entries fails on those that say that an object was cleared, or that nothing was added to it
+abbrev pub FailsOnIdle : (Entry → Bool) → Type 0
+FailsOnIdle passes = (e : Entry) → e.update.act ≡ idle_act e.update.object.kind → passes e ≡ false
+
+-- where the log is that of messages, such a test finds something among entries exactly where it finds something in it
 abbrev pub TellWhatIsLogged : Log → List Entry → Type 0
 TellWhatIsLogged log entries =
     (keeps : Update → Bool) (covers : Update → Update → Bool) (n me : ℕ) (messages : List Message)
     (passes : Message → Bool)
+    → FailsOnIdle (λ e. passes (message_of e))
     → IsLogOf keeps covers n me messages log
     → list_any passes (map message_of entries) ≡ list_any passes (kept_log keeps covers n me messages)

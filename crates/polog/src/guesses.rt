@@ -8,15 +8,30 @@ use op_base::ObjectId;
 /// So many guesses there are.
 pub const SLOTS: usize = 16;
 
+/// Among fewer rows a search is as fast as a guess.
+const FEW: usize = 8;
+
 /// What the sum of a name's numbers is multiplied by, so that the product's highest bits hang on all of it.
 const FACTOR: u64 = 0x9E37_79B9_7F4A_7C15;
 
-/// For each slot the first and the last place at which entries of the object stand that was found last of those with this slot.
-/// Places are short, so that several are moved at once.
+/// For each slot the first and the last place at which rows of the object stand that was found last of those with this slot, and
+/// where its entries end. Places are short, so that several are moved at once.
 #[derive(Clone, Copy, Debug)]
 pub struct Guesses {
     firsts: [u16; SLOTS],
+    ends: [u16; SLOTS],
     lasts: [u16; SLOTS],
+}
+
+/// Where the rows of an object stand, or may stand.
+#[derive(Clone, Copy, Debug)]
+pub struct Stand {
+    /// From which place on its entries stand.
+    pub from: usize,
+    /// Up to which place they stand.
+    pub end: usize,
+    /// Up to which place free rows stand behind them.
+    pub to: usize,
 }
 
 impl Guesses {
@@ -24,31 +39,44 @@ impl Guesses {
     pub fn none() -> Guesses {
         Guesses {
             firsts: [0; SLOTS],
+            ends: [1; SLOTS],
             lasts: [0; SLOTS],
         }
     }
 
-    /// From which place on and up to which place the entries of a slot's object may stand.
-    pub fn at(&self, slot: usize) -> (usize, usize)
+    /// Where the rows of a slot's object may stand.
+    pub fn at(&self, slot: usize) -> Stand
         requires { slot < SLOTS }
     {
-        (
-            usize::from(self.firsts[slot]),
-            usize::from(self.lasts[slot]) + 1,
-        )
+        Stand {
+            from: usize::from(self.firsts[slot]),
+            end: usize::from(self.ends[slot]),
+            to: usize::from(self.lasts[slot]) + 1,
+        }
     }
 
-    /// Notes that the entries of a slot's object stand from one place on and up to another now, where they stood up to a third place
-    /// of so many. What stands behind them moves as far as their end does.
-    pub fn note(&mut self, slot: usize, from: usize, was: usize, is: usize, len: usize)
+    /// Notes where the rows of a slot's object stand now, of so many in all, which stood up to a place. What stands behind them moves
+    /// as far as their end does.
+    #[inline(always)]
+    pub fn note(&mut self, slot: usize, stand: Stand, was: usize, len: usize)
         requires { slot < SLOTS }
     {
-        if was < len {
-            shift(&mut self.firsts, short(was), short(is));
-            shift(&mut self.lasts, short(was), short(is));
+        if len < FEW {
+            return;
         }
-        self.firsts[slot] = short(from);
-        self.lasts[slot] = short(is.saturating_sub(1));
+        if was != stand.to && stand.to < len {
+            self.shift(was, stand.to);
+        }
+        self.firsts[slot] = short(stand.from);
+        self.ends[slot] = short(stand.end);
+        self.lasts[slot] = short(stand.to.saturating_sub(1));
+    }
+
+    /// Moves all places that aren't before one of them as far as this goes.
+    fn shift(&mut self, was: usize, is: usize) {
+        shift(&mut self.firsts, short(was), short(is));
+        shift(&mut self.ends, short(was), short(is));
+        shift(&mut self.lasts, short(was), short(is));
     }
 }
 

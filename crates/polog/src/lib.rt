@@ -5,10 +5,12 @@
 #![tactic(auto)]
 
 mod guesses;
+mod idle;
 mod ids;
 mod laws;
 mod leaving;
 mod marks;
+mod placing;
 mod polog;
 mod reach;
 mod rows;

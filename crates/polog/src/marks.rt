@@ -15,6 +15,9 @@ pub struct Stamp {
     pub mark: u32,
 }
 
+/// The number of a row that is free: no entry has it.
+pub const FREE: u64 = u64::MAX;
+
 /// So many of a value's last bytes make its mark.
 const MARKED: usize = 32;
 

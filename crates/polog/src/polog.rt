@@ -1,6 +1,6 @@
 //! The log.
 
-ghost use Rattle.std.specs.Prelude.{◌≡◌, ℕ, ◌+◌, ◌*◌, ◌^◌, ◌<◌, ◌≤◌, Bool, not, List, [], ◌∷◌, ◌++◌, length, map, filter, IfOk, IsTrue, true, Some, None};
+ghost use Rattle.std.specs.Prelude.{◌≡◌, ℕ, ◌+◌, ◌*◌, ◌^◌, ◌<◌, ◌≤◌, Bool, ◌&&◌, not, List, [], ◌∷◌, ◌++◌, length, map, filter, IfOk, IsTrue, true, Some, None};
 ghost use Rattle.std.specs.List.{find};
 ghost use Rattle.std.specs.Ordering.{is_le};
 ghost use Rattle.op_base.specs.Message.{fits, id_of};
@@ -13,16 +13,18 @@ ghost use Rattle.causal_model.specs.Log.{message_of};
 ghost use Rattle.polog.specs.Value.{Log, with_entries, with_entry, with_update, with_stripped, without_covered, without_stable, without_first, is_stable_entry, is_of, stays};
 ghost use Rattle.polog.specs.Marks.{Reaches};
 ghost use Rattle.polog.specs.Order.{Pairwise};
-ghost use Rattle.polog.specs.Standing.{IsLogOf, KeepsPruned, KeepsLogged, KeepsTakenIn, KeepsStripped, KeepsHandingOut, KeepsStripping, AreLoggedOf, TellWhatIsLogged};
+ghost use Rattle.polog.specs.Standing.{IsLogOf, KeepsPruned, KeepsLogged, KeepsTakenIn, KeepsStripped, KeepsHandingOut, KeepsStripping, AreLoggedOf, TellWhatIsLogged, FailsOnIdle};
 
-use crate::guesses::{Guesses, slot_of};
+use crate::guesses::{Guesses, Stand, slot_of};
+use crate::idle::Idle;
 use crate::ids::{numbered_ids, without_numbers};
 use crate::leaving::Leaving;
 use crate::marks::{Stamp, mark_of};
+use crate::placing::{free_gone, place};
 use crate::reach::Reach;
 use crate::rows::Rows;
-use crate::search::{span, span_of};
-use crate::sweep::{first_stable, keep_unstable, sort, sweep_object};
+use crate::search::stand_of;
+use crate::sweep::{Swept, close, first_stable, keep_unstable, make_room, sort, sweep_object};
 use causal_model::TypeRule;
 use op_base::{Entry, IdList, Message, NoMemory, ObjectId, Op, Tag};
 use std::alloc::Global;
@@ -36,8 +38,10 @@ pub struct Polog {
     /// The number that the next entry gets.
     next: u64,
     /// Side by side by object, and within an object in the order of arrival. Of two entries that with the lesser number
-    /// arrived first.
+    /// arrived first. Behind those of an object there may be free rows for its next ones.
     rows: Rows,
+    /// How many of the rows aren't free.
+    live: usize,
     /// What was stripped and waits to be handed out, the last to arrive first.
     leaving: Leaving,
     /// Where a search for an object's entries looks first. Others may stand there by now.
@@ -45,16 +49,17 @@ pub struct Polog {
 }
 
 impl Model for Polog {
-    ghost use Rattle.std.specs.Prelude.{◌≤◌, length, reverse};
+    ghost use Rattle.std.specs.Prelude.{◌≡◌, ◌≤◌, length, reverse};
     ghost use Rattle.polog.specs.Order.{items_of};
-    ghost use Rattle.polog.specs.Rows.{IsLaid, arrived};
+    ghost use Rattle.polog.specs.Rows.{IsLaid, IsSpread, arrived, live_rows};
     ghost use Rattle.polog.specs.Value.{Log};
 
     ghost Value = { Log };
 
-    ghost view = { λ p. record { n = p.n; room = p.rows.room; pushed = p.next; entries = arrived p.rows.rows; stripped = reverse (items_of p.leaving.rows) } };
+    ghost view = { λ p. record { n = p.n; room = p.rows.room; pushed = p.next; entries = arrived (live_rows p.rows.rows); stripped = reverse (items_of p.leaving.rows) } };
 
-    ghost invariant = { λ p. IsLaid p.n p.next p.rows.rows × (length p.rows.rows ≤ p.rows.room) × (p.rows.room ≤ p.leaving.room) };
+    ghost invariant = { λ p. (1 ≤ p.n) × (p.n ≤ 16) × IsLaid p.n p.next (live_rows p.rows.rows) × IsSpread p.n p.rows.rows
+        × (p.live ≡ length (live_rows p.rows.rows)) × (length p.rows.rows ≤ p.rows.room) × (p.rows.room ≤ p.leaving.room) };
 }
 
 impl Polog {
@@ -73,6 +78,7 @@ impl Polog {
             n,
             next: 0,
             rows: Rows::create(alloc, room)?,
+            live: 0,
             leaving: Leaving::create(alloc, room)?,
             guesses: Guesses::none(),
         })
@@ -84,6 +90,7 @@ impl Polog {
         ensures nothing { (keeps : Update → Bool) (covers : Update → Update → Bool) (me : ℕ) → IsLogOf keeps covers self.old.n me [] self.new }
     {
         self.rows.cut(0, self.rows.len());
+        self.live = 0;
         self.leaving.clear();
         self.next = 0;
         self.guesses = Guesses::none();
@@ -93,14 +100,14 @@ impl Polog {
     pub fn len(&self) -> usize
         ensures { result ≡ length self.now.entries }
     {
-        self.rows.len()
+        self.live
     }
 
     /// For how many entries more there is room.
     pub fn room_left(&self) -> usize
         ensures { result + length self.now.entries ≡ self.now.room }
     {
-        self.rows.room() - self.rows.len()
+        self.rows.room() - self.live
     }
 
     /// How many entries were pushed since the log was created.
@@ -147,9 +154,20 @@ impl Polog {
                 reach,
                 mark,
             );
-            self.rows.cut(swept.kept, swept.to);
-            self.guesses
-                .note(slot, swept.from, swept.to, swept.kept, self.rows.len());
+            let idle = Idle {
+                origin: message.origin,
+                tag: message.tag,
+                object: update.object,
+            };
+            free_gone(&mut self.rows, swept, idle);
+            let Swept { stand, kept } = swept;
+            self.live -= stand.end - kept;
+            self.guesses.note(
+                slot,
+                Stand { end: kept, ..stand },
+                stand.to,
+                self.rows.len(),
+            );
         }
     }
 
@@ -168,6 +186,7 @@ impl Polog {
         let Op::Update(update) = &message.op else {
             return;
         };
+        make_room(&mut self.rows, self.n, self.live);
         let mark = mark_of(update.act());
         let slot = slot_of(&update.object);
         let swept = sweep_object(
@@ -180,7 +199,6 @@ impl Polog {
             mark,
         );
         if let Op::Update(update) = replace(&mut message.op, Op::NoOp) {
-            self.guesses.note(slot, swept.from, swept.to, swept.kept + 1, self.rows.len());
             let stamp = Stamp {
                 number: self.next,
                 mark,
@@ -190,7 +208,10 @@ impl Polog {
                 tag: message.tag,
                 update,
             };
-            self.rows.splice(swept.kept, swept.to, stamp, entry);
+            let stand = place(&mut self.rows, swept, stamp, entry);
+            self.guesses
+                .note(slot, stand, swept.stand.to, self.rows.len());
+            self.live = self.live - (swept.stand.end - swept.kept) + 1;
             self.next += 1;
         }
     }
@@ -204,19 +225,20 @@ impl Polog {
         // where the log was pruned for the entry's message, the message is in it
         ensures logged { KeepsLogged entry self.old self.new }
     {
+        make_room(&mut self.rows, self.n, self.live);
         let slot = slot_of(&entry.update.object);
-        let (from, at) = span_of(
-            self.rows.entries(),
-            &entry.update.object,
-            self.guesses.at(slot),
-        );
-        let mark = mark_of(entry.update.act());
+        let stand = stand_of(&self.rows, &entry.update.object, self.guesses.at(slot));
         let stamp = Stamp {
             number: self.next,
-            mark,
+            mark: mark_of(entry.update.act()),
         };
-        self.guesses.note(slot, from, at, at + 1, self.rows.len());
-        self.rows.insert(at, stamp, entry);
+        let swept = Swept {
+            stand,
+            kept: stand.end,
+        };
+        let now = place(&mut self.rows, swept, stamp, entry);
+        self.guesses.note(slot, now, stand.to, self.rows.len());
+        self.live += 1;
         self.next += 1;
     }
 
@@ -231,6 +253,7 @@ impl Polog {
     {
         let kept = keep_unstable(&mut self.rows, stable);
         self.leaving.take_tail(&mut self.rows, kept);
+        self.live = kept;
     }
 
     /// Hands out the first entry, in history order, of those that were stripped. It is `None` exactly where none is left.
@@ -254,7 +277,9 @@ impl Polog {
         // else; where the result is `None`, the log is that of what the member delivered, up to that message
         ensures of { KeepsStripping stable.now result self.old self.new }
     {
+        close(&mut self.rows, self.n);
         let at = first_stable(&self.rows, stable)?;
+        self.live -= 1;
         Some(self.rows.remove(at))
     }
 
@@ -273,17 +298,21 @@ impl Polog {
         // of a log of what a member delivered they are those of the object in it
         ensures of { AreLoggedOf object.now self.now result.now }
     {
-        span(
-            self.rows.entries(),
+        let Stand { from, end, .. } = stand_of(
+            &self.rows,
             object,
             self.guesses.at(slot_of(object)),
-        )
+        );
+        &self.rows.entries()[from..end]
     }
 
-    /// Every entry once, side by side by object in the order of objects, and those of one object in history order.
+    /// Every entry once, side by side by object in the order of objects, and those of one object in history order. Behind those of an
+    /// object there may be others, which say that it was cleared, or that nothing was added to it: they keep a place for its next
+    /// entries.
     pub fn grouped(&self) -> &[Entry]
-        ensures members { (object : ObjectId) → filter (is_of object) result.now ≡ filter (is_of object) self.now.entries }
-        // of a log of what a member delivered, a test finds something among them exactly where it does in that log
+        // what passes a test that these fail are the log's entries that pass it
+        ensures members { (object : ObjectId) (passes : Entry → Bool) → FailsOnIdle passes → filter (λ e. is_of object e && passes e) result.now ≡ filter (λ e. is_of object e && passes e) self.now.entries }
+        // of a log of what a member delivered, such a test finds something among them exactly where it does in that log
         ensures of { TellWhatIsLogged self.now result.now }
         ensures by_object { Pairwise (λ a b. is_le (object_cmp a.update.object b.update.object) ≡ true) result.now }
     {

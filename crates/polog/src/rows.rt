@@ -1,14 +1,15 @@
 //! Entries beside the stamps of their arrival.
 
-ghost use Rattle.std.specs.Prelude.{◌≡◌, ◌≢◌, ◌<◌, ◌≤◌, ℕ, [], ◌∷◌, ◌++◌, ◌-◌, suc, length, take, drop, set, slice_index_or, vec_len, vec_capacity, IfOk, IfNone, IfSome, IsTrue};
+ghost use Rattle.std.specs.Prelude.{◌≡◌, ◌≢◌, ◌+◌, ◌<◌, ◌≤◌, ℕ, [], ◌∷◌, ◌++◌, ◌-◌, suc, not, true, false, length, take, drop, set, slice_index_or, vec_len, vec_capacity, IfOk, IfNone, IfSome, IsTrue};
 ghost use Rattle.std.specs.List.{insert, remove, swap};
 ghost use Rattle.op_base.specs.declared.message.Entry.{Entry};
 ghost use Rattle.polog.specs.Marks.{mark_of};
 ghost use Rattle.polog.specs.declared.marks.Stamp.{Stamp};
 ghost use Rattle.polog.specs.Order.{Pairwise, items_of};
-ghost use Rattle.polog.specs.Rows.{Table, with_rows, turned};
+ghost use Rattle.polog.specs.Rows.{Table, with_rows, turned, is_used, is_live, IsFreed};
 
-use crate::marks::{Stamp, next_marked};
+use crate::idle::Idle;
+use crate::marks::{FREE, Stamp, next_marked};
 use op_base::{Entry, NoMemory};
 use std::alloc::Global;
 use std::marker::Model;
@@ -87,6 +88,35 @@ impl Rows {
         self.stamps[at].number
     }
 
+    /// Whether a row is free: its entry isn't one of the log.
+    pub fn is_free(&self, at: usize) -> bool
+        requires { at < length self.now.rows }
+        ensures { (d : ℕ × Entry) → result ≡ not (is_live (slice_index_or self.now.rows at d)) }
+    {
+        self.stamps[at].number == FREE
+    }
+
+    /// Up to which place the rows from one place up to another aren't free, where free ones stand behind the others. The guess is tried
+    /// first.
+    #[inline(always)]
+    pub fn live_end(&self, from: usize, to: usize, guess: usize) -> usize
+        requires order { from ≤ to }
+        requires places { to ≤ length self.now.rows }
+        requires behind { (j k : ℕ) (d : ℕ × Entry) → from ≤ j → j < k → k < to → is_live (slice_index_or self.now.rows k d) ≡ true → is_live (slice_index_or self.now.rows j d) ≡ true }
+        ensures least { from ≤ result }
+        ensures most { result ≤ to }
+        ensures live { (k : ℕ) (d : ℕ × Entry) → from ≤ k → k < result → is_live (slice_index_or self.now.rows k d) ≡ true }
+        ensures free { (k : ℕ) (d : ℕ × Entry) → result ≤ k → k < to → is_live (slice_index_or self.now.rows k d) ≡ false }
+    {
+        if from == to || !self.is_free(to - 1) {
+            return to;
+        }
+        if from < guess && guess < to && !self.is_free(guess - 1) && self.is_free(guess) {
+            return guess;
+        }
+        first_free(&self.stamps, from, to)
+    }
+
     /// The first place from a place on and up to a later one where the entry's act has a mark, or the later place.
     pub fn next_marked(&self, mark: u32, from: usize, to: usize) -> usize
         requires order { from ≤ to }
@@ -111,6 +141,7 @@ impl Rows {
     }
 
     /// Puts a row in the place of another.
+    #[inline(always)]
     pub fn set(&mut self, at: usize, stamp: Stamp, entry: Entry)
         requires place { at < length self.old.rows }
         requires mark { stamp.mark ≡ mark_of entry.update.act }
@@ -120,19 +151,30 @@ impl Rows {
         self.stamps[at] = stamp;
     }
 
-    /// Puts a row in the place of those from one place up to another, or in between where there are none.
-    pub fn splice(&mut self, from: usize, to: usize, stamp: Stamp, entry: Entry)
+    /// Puts so many free rows in at a place.
+    #[inline(never)]
+    pub fn open(&mut self, at: usize, idle: Idle, many: usize)
+        requires place { at ≤ length self.old.rows }
+        requires room { length self.old.rows + many ≤ self.old.room }
+        ensures { IsFreed idle many at at self.old self.new }
+    {
+        let len = self.len();
+        for _ in 0..many {
+            let end = self.len();
+            self.insert(end, FREE_STAMP, idle.entry());
+        }
+        self.turn(at, len, self.len());
+    }
+
+    /// Frees the rows from one place up to another, and lets their entries go.
+    #[inline(never)]
+    pub fn release(&mut self, from: usize, to: usize, idle: Idle)
         requires order { from ≤ to }
         requires places { to ≤ length self.old.rows }
-        requires room { from ≡ to → length self.old.rows < self.old.room }
-        requires mark { stamp.mark ≡ mark_of entry.update.act }
-        ensures { self.new ≡ with_rows self.old (take from self.old.rows ++ (stamp.number, entry) ∷ drop to self.old.rows) }
+        ensures { IsFreed idle (to - from) from to self.old self.new }
     {
-        if from == to {
-            self.insert(from, stamp, entry);
-        } else {
-            self.set(from, stamp, entry);
-            self.cut(from + 1, to);
+        for at in from..to {
+            self.set(at, FREE_STAMP, idle.entry());
         }
     }
 
@@ -209,6 +251,29 @@ impl Rows {
     {
         are_falling(&self.stamps)
     }
+}
+
+/// What stands beside the entry of a free row.
+const FREE_STAMP: Stamp = Stamp {
+    number: FREE,
+    mark: 0,
+};
+
+/// The first free place from a place on and up to a later one, where free ones stand behind the others, or the later place.
+fn first_free(stamps: &[Stamp], from: usize, to: usize) -> usize
+    requires order { from ≤ to }
+    requires places { to ≤ length stamps.now }
+    requires behind { (j k : ℕ) (d : Stamp) → from ≤ j → j < k → k < to → is_used (slice_index_or stamps.now k d) ≡ true → is_used (slice_index_or stamps.now j d) ≡ true }
+    ensures least { from ≤ result }
+    ensures most { result ≤ to }
+    ensures used { (k : ℕ) (d : Stamp) → from ≤ k → k < result → is_used (slice_index_or stamps.now k d) ≡ true }
+    ensures free { (k : ℕ) (d : Stamp) → result ≤ k → k < to → is_used (slice_index_or stamps.now k d) ≡ false }
+{
+    from + stamps[from..to].partition_point(
+        |stamp: &Stamp| -> bool
+            ensures { result ≡ is_used stamp.now }
+        { stamp.number != FREE },
+    )
 }
 
 /// Whether no stamp comes before one with a lesser number.

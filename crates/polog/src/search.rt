@@ -1,13 +1,15 @@
 //! Where an object's entries stand among entries that are side by side by object.
 
-ghost use Rattle.std.specs.Prelude.{◌≡◌, ◌<◌, ◌≤◌, true, false, take, drop, length, filter, slice_index_or, IsTrue};
+ghost use Rattle.std.specs.Prelude.{◌≡◌, ◌^◌, ◌<◌, ◌≤◌, true, false, take, drop, length, slice_index_or, IsTrue};
 ghost use Rattle.std.specs.Ordering.{is_lt, is_le};
 ghost use Rattle.op_base.specs.Order.{object_cmp};
 ghost use Rattle.polog.specs.Value.{is_of};
 ghost use Rattle.op_base.specs.declared.message.Entry.{Entry};
 ghost use Rattle.polog.specs.Order.{Each, Pairwise};
-ghost use Rattle.polog.specs.Rows.{IsSpan};
+ghost use Rattle.polog.specs.Rows.{IsSpan, IsStand, is_live};
 
+use crate::guesses::Stand;
+use crate::rows::Rows;
 use op_base::{Entry, ObjectId};
 
 /// Whether an entry stands before those of an object. Where it is of the object, that is told sooner than the order.
@@ -94,11 +96,18 @@ pub fn span_of(entries: &[Entry], object: &ObjectId, guess: (usize, usize)) -> (
     (from, from + count_through(&entries[from..], object))
 }
 
-/// The entries of an object. The guess is tried first.
-pub fn span<'a>(entries: &'a [Entry], object: &ObjectId, guess: (usize, usize)) -> &'a [Entry]
-    requires { Pairwise (λ a b. is_le (object_cmp a.update.object b.update.object) ≡ true) entries.now }
-    ensures { result.now ≡ filter (is_of object.now) entries.now }
+/// Where the rows of an object stand, or would stand. The guess is tried first.
+#[inline(always)]
+pub fn stand_of(rows: &Rows, object: &ObjectId, guess: Stand) -> Stand
+    requires ordered { Pairwise (λ a b. is_le (object_cmp a.1.update.object b.1.update.object) ≡ true) rows.now.rows }
+    requires behind { Pairwise (λ a b. a.1.update.object ≡ b.1.update.object → is_live b ≡ true → is_live a ≡ true) rows.now.rows }
+    ensures stand { IsStand object.now rows.now.rows result }
+    ensures small { result.to < 2 ^ 63 }
 {
-    let (from, to) = span_of(entries, object, guess);
-    &entries[from..to]
+    let (from, to) = span_of(rows.entries(), object, (guess.from, guess.to));
+    Stand {
+        from,
+        end: rows.live_end(from, to, guess.end),
+        to,
+    }
 }

@@ -111,7 +111,7 @@ impl Receiver {
         Ok(receiver)
     }
 
-    /// The entries, side by side by set.
+    /// The entries, side by side by set, and others that put nothing in.
     pub fn entries(&self) -> &[Entry] {
         self.log.grouped()
     }

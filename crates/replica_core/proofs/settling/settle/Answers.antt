@@ -1,12 +1,19 @@
-use Rattle.std.proofs.Common.{◌≡◌, ◌∙◌, ℕ, ◌+◌, ◌≤◌, ap, sym, subst, refl, arith}
+use Rattle.std.proofs.Common.{◌≡◌, ◌∙◌, ℕ, ◌+◌, ◌≤◌, Bool, true, false, ◌&&◌, List, Option, None, Some, ap, sym, subst, refl, arith}
 use denote.Struct.Props.{props}
 use Rattle.std.proofs.Math.Logic.{∥∥₁_elim, ∥∥₁_map}
+use Rattle.op_base.specs.Object.{same_object}
+use Rattle.op_base.specs.declared.name.Kind.{Kind}
+use Rattle.op_base.specs.declared.name.Kind.TheVariants as kinds
+use Rattle.op_base.specs.declared.name.ObjectId.{ObjectId}
 use Rattle.causal_model.specs.Acts.{acts_on}
 use Rattle.causal_model.specs.CellSteps.{puts_in}
 use Rattle.causal_model.specs.Covering.{store_keeps, store_covers}
 use Rattle.causal_model.specs.History.{History, with_message}
+use Rattle.causal_model.specs.Log.{message_of}
 use Rattle.causal_model.proofs.Lists.KeptOfOneMore.{kept_of_one_more}
 use Rattle.list_type.specs.Shown.{shown as lists_shown}
+use Rattle.polog.specs.Rows.{idle_act}
+use Rattle.polog.specs.Standing.{FailsOnIdle}
 use Rattle.stable_state.specs.Shown.{shown}
 use Rattle.replica_core.specs.Settling.{AreReady, AreLogged, room_of, applied_of, CanBeApplied}
 use Rattle.replica_core.proofs.Settles.{origin_of, fits_of, fresh_of, pruned_has_room, pruned_is_numbered, are_logged, can_be_put, fresh_is_prop, can_be_applied, range_is_prop, applied_has_range, no_more_than_came, pruned_of, logged_of}
@@ -69,6 +76,32 @@ apply-requires c =
     applied_has_range x.3 u moved is kind (c.move_stable.ensures.absorbed x.0 x.1 x.2 m (logged (goal.at.apply-requires c).After-note x.3)))) spare in
     subst (λ a. CanBeApplied a moved) (sym c.note.ensures.applied) can
 
+-- an idle act puts nothing in
+idle_puts_nothing : (k : Kind) (value : Option (List ℕ)) → puts_in value (idle_act k) ≡ false
+idle_puts_nothing kinds.AwSet None = refl
+idle_puts_nothing kinds.AwSet (Some v) = refl
+idle_puts_nothing kinds.RwSet None = refl
+idle_puts_nothing kinds.RwSet (Some v) = refl
+idle_puts_nothing kinds.EwFlag None = refl
+idle_puts_nothing kinds.EwFlag (Some v) = refl
+idle_puts_nothing kinds.DwFlag None = refl
+idle_puts_nothing kinds.DwFlag (Some v) = refl
+idle_puts_nothing kinds.MvReg None = refl
+idle_puts_nothing kinds.MvReg (Some v) = refl
+idle_puts_nothing kinds.Counter None = refl
+idle_puts_nothing kinds.Counter (Some v) = refl
+idle_puts_nothing kinds.RCounter None = refl
+idle_puts_nothing kinds.RCounter (Some v) = refl
+idle_puts_nothing kinds.List None = refl
+idle_puts_nothing kinds.List (Some v) = refl
+
+idle_is_not_put_in : (object : ObjectId) (value : Option (List ℕ)) → FailsOnIdle (λ e. acts_on object (puts_in value) (message_of e).op)
+idle_is_not_put_in object value e idle =
+    ap (λ act. same_object e.update.object object && puts_in value act) idle ∙ ap (λ b. same_object e.update.object object && b) (idle_puts_nothing e.update.object.kind value) ∙ never (same_object e.update.object object) where
+      never : (b : Bool) → (b && false) ≡ false
+      never true = refl
+      never false = refl
+
 pub returns-clause-are_of : goal.returns-clause-are_of
 returns-clause-are_of c = λ w limit h ready.
     let m = c.args.message.now in
@@ -77,7 +110,7 @@ returns-clause-are_of c = λ w limit h ready.
     record {
       is_log = log;
       are_settled = c.settle_marks.ensures.of w h m ready.of_history
-          (λ object value. c.grouped.ensures.of store_keeps store_covers h.present.n h.present.me (with_message h m).present.messages (λ x. acts_on object (puts_in value) x.op) log)
+          (λ object value. c.grouped.ensures.of store_keeps store_covers h.present.n h.present.me (with_message h m).present.messages (λ x. acts_on object (puts_in value) x.op) (idle_is_not_put_in object value) log)
           (c.apply.ensures.of h m c.note.ensures.applied (c.move_stable.ensures.absorbed w limit h m are));
       are_lists = λ object is_list. c.move_stable.ensures.moved w limit h m are object is_list ∙ kept_of_one_more w h m ready.of_history object is_list;
     }

@@ -1,31 +1,46 @@
-use Rattle.std.proofs.Common.{◌≡◌, Bool, true, filter, sym, ap, subst, ◌∙◌}
+use Rattle.std.proofs.Common.{◌≡◌, Bool, true, false, ◌&&◌, filter, refl, sym, ap, subst, ◌∙◌}
 use Rattle.std.specs.List.{list_any}
 use Rattle.std.specs.Ordering.{is_le}
 use Rattle.op_base.specs.Order.{object_cmp}
 use Rattle.op_base.specs.declared.message.Entry.{Entry}
 use Rattle.causal_model.specs.Log.{message_of}
 use Rattle.causal_model.proofs.Theory.Elements.{list_any-map}
+use Rattle.polog.specs.Order.{Each, Pairwise, items_of}
+use Rattle.polog.specs.Rows.{is_live, live_rows, arrived}
+use Rattle.polog.specs.Standing.{FailsOnIdle}
 use Rattle.polog.specs.Value.{is_of}
-use Rattle.polog.specs.Order.{Pairwise}
-use Rattle.polog.proofs.Laid.{by-object, of-object, any-arrived}
+use Rattle.polog.proofs.Gaps.{pairwise-items, filter-within, any-within, filter-both}
+use Rattle.polog.proofs.Laid.{of-object, any-arrived}
+use Rattle.polog.proofs.Orders.{each-weaker, items-filter}
 use Rattle.polog.proofs.polog.Polog.grouped.Goals as goal
 
+never : (b : Bool) → (b && false) ≡ false
+never true = refl
+never false = refl
+
+module _ (c : goal.After-entries) where
+  -- a test that fails on idle acts fails on free rows
+  fails : (p : Entry → Bool) → FailsOnIdle p → Each (λ r. is_live r ≡ false → p r.1 ≡ false) c.self.inside.rows.rows
+  fails p none = each-weaker _ (λ r. is_live r ≡ false → p r.1 ≡ false) (λ r idle free. none r.1 (idle free)) c.self.inside.rows.rows c.self.invariant.3.idle
+
 pub returns-clause-members : goal.returns-clause-members
-returns-clause-members c object =
+returns-clause-members c object passes none =
     let rows = c.self.inside.rows.rows in
-    ap (filter (is_of object)) c.entries.ensures
-    ∙ of-object object rows c.self.invariant.0.grouped
-    ∙ ap (λ log. filter (is_of object) log.entries) c.self.view_is
+    let P : Entry → Bool = λ e. is_of object e && passes e in
+    ap (filter P) c.entries.ensures ∙ items-filter P rows
+    ∙ ap items_of (filter-within (λ r. P r.1) is_live rows (fails c P (λ e idle. ap (λ b. is_of object e && b) (none e idle) ∙ never (is_of object e)))) ∙ sym (items-filter P (live_rows rows))
+    ∙ filter-both (is_of object) passes (items_of (live_rows rows)) ∙ ap (filter passes) (of-object object (live_rows rows) c.self.invariant.2.grouped)
+    ∙ sym (filter-both (is_of object) passes (arrived (live_rows rows))) ∙ ap (λ log. filter P log.entries) c.self.view_is
 
 pub returns-clause-of : goal.returns-clause-of
-returns-clause-of c keeps covers n me ms passes stands =
+returns-clause-of c keeps covers n me ms passes none stands =
     let rows = c.self.inside.rows.rows in
     let p : Entry → Bool = λ e. passes (message_of e) in
     list_any-map passes message_of c.entries.result.now
-    ∙ ap (list_any p) c.entries.ensures ∙ any-arrived p rows ∙ ap (λ log. list_any p log.entries) c.self.view_is
+    ∙ ap (list_any p) c.entries.ensures ∙ any-within p rows (fails c p none) ∙ any-arrived p (live_rows rows) ∙ ap (λ log. list_any p log.entries) c.self.view_is
     ∙ sym (list_any-map passes message_of c.args.self.now.entries) ∙ ap (list_any passes) stands.holds
 
 pub returns-clause-by_object : goal.returns-clause-by_object
 returns-clause-by_object c =
-    subst (Pairwise (λ (a b : Entry). is_le (object_cmp a.update.object b.update.object) ≡ true)) (sym c.entries.ensures)
-    (by-object c.self.inside.rows.rows c.self.invariant.0.grouped)
+    let R : Entry → Entry → Type 0 = λ a b. is_le (object_cmp a.update.object b.update.object) ≡ true in
+    subst (Pairwise R) (sym c.entries.ensures) (pairwise-items R c.self.inside.rows.rows c.self.invariant.3.ordered)

@@ -1,52 +1,31 @@
-use Rattle.std.proofs.Common.{rules, ◌≡◌, ℕ, ◌≤◌, Bool, length, reverse, filter, IsTrue, sym, ap, subst, ◌∙◌, arith}
+use Rattle.std.proofs.Common.{rules, ◌≡◌, ℕ, ◌+◌, ◌-◌, Bool, List, length, reverse, filter, IsTrue, refl, sym, ap, subst, ◌∙◌, arith}
 use Rattle.op_base.specs.Message.{fits}
 use Rattle.op_base.specs.declared.message.Entry.{Entry}
-use Rattle.causal_model.specs.Log.{message_of}
+use Rattle.op_base.specs.declared.operation.Op.{Op}
 use Rattle.polog.specs.Marks.{mark_of, Reaches}
-use Rattle.polog.specs.Order.{Each, items_of}
-use Rattle.polog.specs.Rows.{Table, IsLaid, arrived, with_rows}
+use Rattle.polog.specs.Order.{items_of}
+use Rattle.polog.specs.Rows.{Table, IsLaid, IsSpread, arrived, live_rows}
 use Rattle.polog.specs.Standing.{IsPruned}
 use Rattle.polog.specs.Value.{Log, with_entries, stays}
+use Rattle.polog.specs.declared.idle.Idle.{Idle}
 use Rattle.polog.specs.declared.reach.Reach.TheVariants as reaches
 use Rattle.polog.proofs.Fitting.{fits-length}
 use Rattle.polog.proofs.Laid.{laid-filter, arrived-filter}
-use Rattle.polog.proofs.Prunes.{noop-leaves-all, nothing-leaves-all, length-filter-le}
+use Rattle.polog.proofs.Freed.{length-freed}
+use Rattle.polog.proofs.Placed.{went, freed-live, freed-spread}
+use Rattle.polog.proofs.Prunes.{noop-leaves-all, nothing-leaves-all}
 use Rattle.polog.proofs.Standing.{pruned-is}
 use Rattle.polog.proofs.polog.Polog.prune_within.Given as given
 use Rattle.polog.proofs.polog.Polog.prune_within.Goals as goal
-use Rattle.polog.proofs.polog.Polog.prune_within.Goals.{After-cut}
+use Rattle.polog.proofs.polog.Polog.prune_within.Goals.{After-free_gone}
 
-pub sweep_object-swept-requires-clause-entries : goal.sweep_object-swept-requires-clause-entries
-sweep_object-swept-requires-clause-entries g c =
+pub sweep_object-swept-requires-clause-spread : goal.sweep_object-swept-requires-clause-spread
+sweep_object-swept-requires-clause-spread g c =
     let members = ap (λ log. log.n) c.self.view_is ∙ sym (fits-length c.args.self.now.n c.args.message.now c.requires.fits) in
-    subst (λ n. Each (λ r. IsTrue (fits n (message_of r.1))) c.self.inside.rows.rows) members c.self.invariant.0.fit
+    subst (λ n. IsSpread n c.self.inside.rows.rows) members c.self.invariant.3
 
 pub sweep_object-swept-requires-clause-mark : goal.sweep_object-swept-requires-clause-mark
 sweep_object-swept-requires-clause-mark g c = sym (c.mark_of-mark.ensures ∙ ap mark_of c.act.ensures)
-
--- what is left
-left : (g : given.Over) (c : After-cut g) → c.cut.new.self ≡ with_rows c.self.inside.rows (filter (λ r. stays (g.T.TypeRule.covers c.args.rule.now) c.args.message.now r.1) c.self.inside.rows.rows)
-left g c = c.cut.ensures ∙ (λ t. record { room = c.sweep_object-swept.ensures.room t; rows = c.sweep_object-swept.ensures.left t })
-
-pub invariant_of-self : goal.invariant_of-self
-invariant_of-self g c =
-    let rows = c.self.inside.rows.rows in
-    let p : ℕ × Entry → Bool = λ r. stays (g.T.TypeRule.covers c.args.rule.now) c.args.message.now r.1 in
-    let I : Table → Type 0 = λ t. IsLaid c.self.inside.n c.self.inside.next t.rows × (length t.rows ≤ t.room) × (t.room ≤ c.self.inside.leaving.room) in
-    subst I (sym (left g (goal.at.invariant_of-self g c).After-cut)) (laid-filter c.self.inside.n c.self.inside.next p rows c.self.invariant.0, omega (arith, length-filter-le p rows, c.self.invariant.1), c.self.invariant.2)
-
-pub returns-in-Update-clause-kept : goal.returns-in-Update-clause-kept
-returns-in-Update-clause-kept g c =
-    let p = stays (g.T.TypeRule.covers c.args.rule.now) c.args.message.now in
-    let made : Table → Log = λ t. record { n = c.self.inside.n; room = t.room; pushed = c.self.inside.next; entries = arrived t.rows; stripped = reverse (items_of c.self.inside.leaving.rows) } in
-    ap made (left g (goal.at.returns-in-Update-clause-kept g c).After-cut)
-    ∙ ap (with_entries (made c.self.inside.rows)) (arrived-filter p c.self.inside.rows.rows)
-    ∙ ap (λ log. with_entries log (filter p log.entries)) c.self.view_is
-
-pub returns-in-Update-clause-pruned : goal.returns-in-Update-clause-pruned
-returns-in-Update-clause-pruned g c keeps n me ms stands =
-    let covers = g.T.TypeRule.covers c.args.rule.now in
-    subst (IsPruned keeps covers n me ms c.args.message.now) (sym (returns-in-Update-clause-kept g c)) (pruned-is keeps covers n me ms c.args.message.now c.args.self.now stands)
 
 pub returns-in_default-clause-kept : goal.returns-in_default-clause-kept
 returns-in_default-clause-kept g c =
@@ -68,3 +47,88 @@ pub returns-then-eq-clause-pruned : goal.returns-then-eq-clause-pruned
 returns-then-eq-clause-pruned g c keeps n me ms stands =
     let covers = g.T.TypeRule.covers c.args.rule.now in
     subst (IsPruned keeps covers n me ms c.args.message.now) (sym (returns-then-eq-clause-kept g c)) (pruned-is keeps covers n me ms c.args.message.now c.args.self.now stands)
+
+module _ (g : given.Over) (c : After-free_gone g) where
+  abbrev p : ℕ × Entry → Bool
+  p r = stays (g.T.TypeRule.covers c.args.rule.now) c.args.message.now r.1
+
+  abbrev rs : List (ℕ × Entry)
+  rs = c.self.inside.rows.rows
+
+  abbrev idle : Idle
+  idle = record { origin = c.args.message.now.origin; tag = c.args.message.now.tag; object = c.in-Update.update.object }
+
+  tag_fits : (o : Op) → IsTrue (fits c.self.inside.n (record { origin = c.args.message.now.origin; tag = c.args.message.now.tag; op = o }))
+  tag_fits o = subst (λ n. IsTrue (fits n (record { origin = c.args.message.now.origin; tag = c.args.message.now.tag; op = o }))) (sym (ap (λ log. log.n) c.self.view_is)) c.requires.fits
+
+  many : length (live_rows rs) + c.sweep_object-swept.result.kept ≡ length (filter p (live_rows rs)) + c.sweep_object-swept.result.stand.end
+  many =
+      let swept = c.sweep_object-swept in
+      let e = swept.ensures in
+      went c.in-Update.update.object p rs swept.result.stand e.stand e.others e.rest swept.new.rows.rows swept.result.kept e.kept e.behind idle refl c.self.inside.n tag_fits c.self.invariant.3
+      (omega (arith, e.most, e.stand.most, e.places)) (omega (arith, e.stand.most, e.places, e.long))
+
+pub overflow_sub-self-in-Update : goal.overflow_sub-self-in-Update
+overflow_sub-self-in-Update g c =
+    let all = many g (goal.at.overflow_sub-self-in-Update g c).After-free_gone in
+    omega (arith, all, c.self.invariant.4)
+
+pub free_gone-requires-clause-places : goal.free_gone-requires-clause-places
+free_gone-requires-clause-places g c = let e = c.sweep_object-swept.ensures in omega (arith, e.stand.most, e.places)
+
+-- what is left, and where it stands
+record IsLeft (g : given.Over) (c : After-free_gone g) : Type 0 where
+  live : live_rows c.free_gone.new.rows.rows ≡ filter (λ r. stays (g.T.TypeRule.covers c.args.rule.now) c.args.message.now r.1) (live_rows c.self.inside.rows.rows)
+  spread : IsSpread c.self.inside.n c.free_gone.new.rows.rows
+  room : c.free_gone.new.rows.room ≡ c.self.inside.rows.room
+  long : length c.free_gone.new.rows.rows ≡ length c.self.inside.rows.rows
+  count : c.self.inside.live - (c.sweep_object-swept.result.stand.end - c.sweep_object-swept.result.kept) ≡ length (live_rows c.free_gone.new.rows.rows)
+
+is-left : (g : given.Over) (c : After-free_gone g) → IsLeft g c
+is-left g c =
+    let swept = c.sweep_object-swept in
+    let e = swept.ensures in
+    let freed = c.free_gone.ensures in
+    let object = c.in-Update.update.object in
+    let n = c.self.inside.n in
+    let old = swept.new.rows in
+    let now = c.free_gone.new.rows in
+    let rows = ap (λ (t : Table). t.rows) freed.rows in
+    let live = freed-live object (p g c) (rs g c) swept.result.stand e.stand e.others e.rest old.rows swept.result.kept e.kept e.behind (idle g c) refl n (tag_fits g c) c.self.invariant.3 freed.gap freed.free now.rows rows in
+    record {
+      live = live;
+      spread = freed-spread object (p g c) (rs g c) swept.result.stand e.stand e.others e.rest old.rows swept.result.kept e.kept e.behind (idle g c) refl n (tag_fits g c) c.self.invariant.3 freed.gap freed.free now.rows rows;
+      room = ap (λ (t : Table). t.room) freed.rows ∙ e.room;
+      long = length-freed (idle g c) old now swept.result.kept swept.result.stand.end e.most (omega (arith, e.stand.most, e.places)) freed ∙ e.long;
+      count = omega (arith, many g c, ap length live, c.self.invariant.4, e.most);
+    }
+
+pub invariant_of-self : goal.invariant_of-self
+invariant_of-self g c =
+    let here = (goal.at.invariant_of-self g c).After-free_gone in
+    let left = is-left g here in
+    let p : ℕ × Entry → Bool = λ r. stays (g.T.TypeRule.covers c.args.rule.now) c.args.message.now r.1 in (
+      c.self.invariant.0,
+      c.self.invariant.1,
+      subst (IsLaid c.self.inside.n c.self.inside.next) (sym left.live) (laid-filter c.self.inside.n c.self.inside.next p (live_rows c.self.inside.rows.rows) c.self.invariant.2),
+      left.spread,
+      left.count,
+      omega (arith, left.long, left.room, c.self.invariant.5),
+      omega (arith, left.room, c.self.invariant.6),
+    )
+
+pub returns-in-Update-clause-kept : goal.returns-in-Update-clause-kept
+returns-in-Update-clause-kept g c =
+    let here = (goal.at.returns-in-Update-clause-kept g c).After-free_gone in
+    let left = is-left g here in
+    let p = stays (g.T.TypeRule.covers c.args.rule.now) c.args.message.now in
+    let inside = c.self.inside in
+    let made : ℕ → List (ℕ × Entry) → Log = λ room rs. record { n = inside.n; room = room; pushed = inside.next; entries = arrived rs; stripped = reverse (items_of inside.leaving.rows) } in
+    (λ t. made (left.room t) (left.live t))
+    ∙ ap (with_entries (made inside.rows.room (live_rows inside.rows.rows))) (arrived-filter p (live_rows inside.rows.rows))
+    ∙ ap (λ log. with_entries log (filter p log.entries)) c.self.view_is
+
+pub returns-in-Update-clause-pruned : goal.returns-in-Update-clause-pruned
+returns-in-Update-clause-pruned g c keeps n me ms stands =
+    let covers = g.T.TypeRule.covers c.args.rule.now in
+    subst (IsPruned keeps covers n me ms c.args.message.now) (sym (returns-in-Update-clause-kept g c)) (pruned-is keeps covers n me ms c.args.message.now c.args.self.now stands)

@@ -1,22 +1,22 @@
-use Rattle.std.proofs.Common.{◌≡◌, ℕ, ◌+◌, ◌≤◌, Bool, true, false, List, [], ◌∷◌, ◌++◌, length, length-append, reverse, take, drop, filter, IsTrue, sym, ap, subst, ◌∙◌, arith}
-use Rattle.std.specs.Ordering.{is_le}
+use Rattle.std.proofs.Common.{◌≡◌, ℕ, ◌+◌, ◌<◌, Bool, List, [], ◌∷◌, ◌++◌, length, reverse, filter, IsTrue, refl, sym, ap, subst, ◌∙◌, arith}
 use Rattle.op_base.specs.Message.{fits}
-use Rattle.op_base.specs.Order.{object_cmp}
 use Rattle.op_base.specs.declared.message.Entry.{Entry}
+use Rattle.op_base.specs.declared.operation.Op.{Op}
 use Rattle.op_base.specs.declared.operation.Op.TheVariants as op
 use Rattle.op_base.specs.declared.operation.Update.{Update}
 use Rattle.causal_model.specs.Log.{message_of}
-use Rattle.polog.specs.Order.{Each, items_of}
-use Rattle.polog.specs.Rows.{Table, IsLaid, arrived}
+use Rattle.polog.specs.Order.{items_of}
+use Rattle.polog.specs.Rows.{Table, IsLaid, IsSpread, is_live, live_rows, arrived, idle_of, free_number}
 use Rattle.polog.specs.Standing.{IsLogged}
 use Rattle.polog.specs.Value.{Log, with_entry, with_entries, with_update, without_covered, stays}
 use Rattle.polog.proofs.Fitting.{fits-length}
-use Rattle.polog.proofs.Laid.{joined, laid-filter, laid-between, arrived-filter, arrived-between, length-arrived}
-use Rattle.polog.proofs.Prunes.{noop-leaves-all}
+use Rattle.polog.proofs.Laid.{arrived-filter, length-arrived}
+use Rattle.polog.proofs.Placed.{went, placed-laid, placed-spread, placed-many, placed-arrived, roomy-live, roomy-spread, roomy-room, roomy-few}
+use Rattle.polog.proofs.Prunes.{noop-leaves-all, length-filter-le}
 use Rattle.polog.proofs.Standing.{pruned-is, logged-is}
 use Rattle.polog.proofs.polog.Polog.take_in.Given as given
 use Rattle.polog.proofs.polog.Polog.take_in.Goals as goal
-use Rattle.polog.proofs.polog.Polog.take_in.Goals.{After-sweep_object-swept, After-splice}
+use Rattle.polog.proofs.polog.Polog.take_in.Goals.{After-sweep_object-swept, After-place-stand}
 
 pub returns-in_default-clause-put : goal.returns-in_default-clause-put
 returns-in_default-clause-put g c =
@@ -25,99 +25,153 @@ returns-in_default-clause-put g c =
     let log = c.args.self.now in
     sym (ap (λ o. with_update m.origin m.tag o (without_covered log covers m)) c.in_default.is ∙ ap (with_entries log) (noop-leaves-all covers m c.in_default.is log.entries))
 
-pub sweep_object-swept-requires-clause-entries : goal.sweep_object-swept-requires-clause-entries
-sweep_object-swept-requires-clause-entries g c =
+pub sweep_object-swept-requires-clause-spread : goal.sweep_object-swept-requires-clause-spread
+sweep_object-swept-requires-clause-spread g c =
     let members = ap (λ log. log.n) c.self.view_is ∙ sym (fits-length c.args.self.now.n c.args.message.now c.requires.fits) in
-    subst (λ n. Each (λ r. IsTrue (fits n (message_of r.1))) c.self.inside.rows.rows) members c.self.invariant.0.fit
+    subst (λ n. IsSpread n c.make_room.new.rows.rows) members (roomy-spread c.self.inside.n c.self.inside.rows c.make_room.new.rows c.make_room.ensures.rows c.self.invariant.3)
 
 module _ (g : given.Over) (c : After-sweep_object-swept g) where
-  abbrev p : Entry → Bool
-  p = stays (g.T.TypeRule.covers c.args.rule.now) c.args.message.now
+  abbrev p : ℕ × Entry → Bool
+  p r = stays (g.T.TypeRule.covers c.args.rule.now) c.args.message.now r.1
 
-  -- how many are left
-  many : length (filter (λ r. p r.1) c.self.inside.rows.rows) ≡ length (filter p c.args.self.now.entries)
+  abbrev rs : List (ℕ × Entry)
+  rs = c.make_room.new.rows.rows
+
+  live : live_rows rs ≡ live_rows c.self.inside.rows.rows
+  live = roomy-live c.self.inside.n c.self.inside.rows c.make_room.new.rows c.make_room.ensures.rows
+
+  spread : IsSpread c.self.inside.n rs
+  spread = roomy-spread c.self.inside.n c.self.inside.rows c.make_room.new.rows c.make_room.ensures.rows c.self.invariant.3
+
+  tag_fits : (o : Op) → IsTrue (fits c.self.inside.n (record { origin = c.args.message.now.origin; tag = c.args.message.now.tag; op = o }))
+  tag_fits o = subst (λ n. IsTrue (fits n (record { origin = c.args.message.now.origin; tag = c.args.message.now.tag; op = o }))) (sym (ap (λ log. log.n) c.self.view_is)) c.requires.fits
+
+  -- how many are left of the log's entries
+  left : length (filter p (live_rows rs)) ≡ length (filter (stays (g.T.TypeRule.covers c.args.rule.now) c.args.message.now) c.args.self.now.entries)
+  left =
+      let q = stays (g.T.TypeRule.covers c.args.rule.now) c.args.message.now in
+      ap (λ xs. length (filter p xs)) live ∙ sym (length-arrived (filter p (live_rows c.self.inside.rows.rows))) ∙ ap length (arrived-filter q (live_rows c.self.inside.rows.rows))
+      ∙ ap (λ (log : Log). length (filter q log.entries)) c.self.view_is
+
+  many : length (live_rows rs) + c.sweep_object-swept.result.kept ≡ length (filter p (live_rows rs)) + c.sweep_object-swept.result.stand.end
   many =
-      sym (length-arrived (filter (λ r. p r.1) c.self.inside.rows.rows)) ∙ ap length (arrived-filter p c.self.inside.rows.rows)
-      ∙ ap (λ (log : Log). length (filter p log.entries)) c.self.view_is
+      let swept = c.sweep_object-swept in
+      let e = swept.ensures in
+      let m = c.args.message.now in
+      went c.in-Update.update.object p rs swept.result.stand e.stand e.others e.rest swept.new.rows.rows swept.result.kept e.kept e.behind (record { origin = m.origin; tag = m.tag; object = c.in-Update.update.object }) refl
+      c.self.inside.n tag_fits spread (omega (arith, e.most, e.stand.most, e.places)) (omega (arith, e.stand.most, e.places, e.long))
 
-  room : c.self.inside.rows.room ≡ c.args.self.now.room
-  room = ap (λ log. log.room) c.self.view_is
+pub place-stand-requires-clause-room : goal.place-stand-requires-clause-room
+place-stand-requires-clause-room g c = λ full.
+    let here = (goal.at.place-stand-requires-clause-room g c).After-sweep_object-swept in
+    let e = c.sweep_object-swept.ensures in
+    let same = roomy-room c.self.inside.n c.self.inside.rows c.make_room.new.rows c.make_room.ensures.rows in
+    let room : c.self.inside.rows.room ≡ c.args.self.now.room = ap (λ log. log.room) c.self.view_is in
+    let few : c.self.inside.live < c.self.inside.rows.room = omega (arith, c.self.invariant.4, ap length (live g here), many g here, left g here, c.requires.room, room, full, e.most, e.stand.most) in
+    omega (arith, e.long, e.room, same, c.make_room.ensures.room few c.self.invariant.5)
 
-pub splice-requires-clause-room : goal.splice-requires-clause-room
-splice-requires-clause-room g c = λ none.
-    let before = (goal.at.splice-requires-clause-room g c).After-sweep_object-swept in
-    let rows = c.sweep_object-swept.new.rows.rows in
-    let kept = c.sweep_object-swept.result.kept in
-    let all : length rows ≡ length (filter (λ r. p g before r.1) c.self.inside.rows.rows) =
-    ap length (sym (joined kept rows) ∙ ap (λ k. take kept rows ++ drop k rows) none ∙ c.sweep_object-swept.ensures.left) in
-    omega (arith, all, many g before, room g before, c.requires.room, c.sweep_object-swept.ensures.room)
+-- what the log's rows are with the entry
+record HasPut (g : given.Over) (c : After-place-stand g) (e : Entry) (left : List (ℕ × Entry)) : Type 0 where
+  laid : IsLaid c.self.inside.n (c.self.inside.next + 1) (live_rows c.place-stand.new.rows.rows)
+  spread : IsSpread c.self.inside.n c.place-stand.new.rows.rows
+  count : length (live_rows c.place-stand.new.rows.rows) ≡ length left + 1
+  arrived : arrived (live_rows c.place-stand.new.rows.rows) ≡ arrived left ++ e ∷ []
+  room : c.place-stand.new.rows.room ≡ c.self.inside.rows.room
 
-module _ (g : given.Over) (c : After-splice g) where
+module _ (g : given.Over) (c : After-place-stand g) where
   abbrev entry : Entry
   entry = record { origin = c.args.message.now.origin; tag = c.args.message.now.tag; update = c.in-Update-replace.update }
-
-  abbrev front : List (ℕ × Entry)
-  front = take c.sweep_object-swept.result.kept c.sweep_object-swept.new.rows.rows
-
-  abbrev back : List (ℕ × Entry)
-  back = drop c.sweep_object-swept.result.to c.sweep_object-swept.new.rows.rows
 
   has : c.args.message.now.op ≡ op.Update c.in-Update-replace.update
   has = sym c.replace.ensures.value ∙ c.in-Update-replace.is
 
-  same : c.in-Update.update ≡ c.in-Update-replace.update
-  same = let both : op.Update c.in-Update.update ≡ op.Update c.in-Update-replace.update = sym c.in-Update.is ∙ has in cc
+  same : c.in-Update-replace.update ≡ c.in-Update.update
+  same = let both : op.Update c.in-Update-replace.update ≡ op.Update c.in-Update.update = sym has ∙ c.in-Update.is in cc
 
   of_message : message_of entry ≡ c.args.message.now
   of_message = ap (λ o. record { origin = c.args.message.now.origin; tag = c.args.message.now.tag; op = o }) (sym has)
 
-  whole : IsLaid c.self.inside.n c.self.inside.next (front ++ back)
-  whole =
-      subst (IsLaid c.self.inside.n c.self.inside.next) (sym c.sweep_object-swept.ensures.left)
-      (laid-filter c.self.inside.n c.self.inside.next (λ r. stays (g.T.TypeRule.covers c.args.rule.now) c.args.message.now r.1) c.self.inside.rows.rows c.self.invariant.0)
-
-  laid : IsLaid c.self.inside.n (c.self.inside.next + 1) (front ++ (c.self.inside.next, entry) ∷ back)
-  laid =
-      laid-between c.self.inside.n c.self.inside.next front back entry whole
-      (subst (λ (u : Update). Each (λ r. is_le (object_cmp r.1.update.object u.object) ≡ true) front) same c.sweep_object-swept.ensures.through)
-      (subst (λ (u : Update). Each (λ r. is_le (object_cmp r.1.update.object u.object) ≡ false) back) same c.sweep_object-swept.ensures.above)
-      (subst (λ n. IsTrue (fits n (message_of entry))) (sym (ap (λ log. log.n) c.self.view_is)) (subst (λ m. IsTrue (fits c.args.self.now.n m)) (sym of_message) c.requires.fits))
+  has-put : HasPut g c entry (filter (λ r. stays (g.T.TypeRule.covers c.args.rule.now) c.args.message.now r.1) (live_rows c.self.inside.rows.rows))
+  has-put =
+      let n = c.self.inside.n in
+      let old = c.self.inside.rows in
+      let rs = c.make_room.new.rows.rows in
+      let m = c.args.message.now in
+      let p : ℕ × Entry → Bool = λ r. stays (g.T.TypeRule.covers c.args.rule.now) m r.1 in
+      let swept = c.sweep_object-swept in
+      let e = swept.ensures in
+      let stand = swept.result.stand in
+      let object = c.in-Update.update.object in
+      let own : c.in-Update-replace.update.object ≡ object = ap (λ (u : Update). u.object) same in
+      let view : n ≡ c.args.self.now.n = ap (λ log. log.n) c.self.view_is in
+      let fit : IsTrue (fits n (message_of entry)) = subst (λ n. IsTrue (fits n (message_of entry))) (sym view) (subst (λ m. IsTrue (fits c.args.self.now.n m)) (sym of_message) c.requires.fits) in
+      let tag_fits : (o : Op) → IsTrue (fits n (record { origin = m.origin; tag = m.tag; op = o })) = λ o. fit in
+      let few : c.self.inside.next < free_number = let pushed : c.self.inside.next ≡ c.args.self.now.pushed = ap (λ log. log.pushed) c.self.view_is in omega (arith, c.requires.numbers, pushed) in
+      let spread = roomy-spread n old c.make_room.new.rows c.make_room.ensures.rows c.self.invariant.3 in
+      let live = roomy-live n old c.make_room.new.rows c.make_room.ensures.rows in
+      let laid = subst (IsLaid n c.self.inside.next) (sym live) c.self.invariant.2 in
+      let placed = c.place-stand.ensures.placed in
+      let now = c.place-stand.new.rows in
+      let is = ap (λ (t : Table). t.rows) placed.rows in
+      let sw = swept.new.rows.rows in
+      let kept = swept.result.kept in
+      record {
+        laid = placed-laid object p rs stand e.stand e.others e.rest sw kept e.kept e.behind (idle_of entry) own n tag_fits spread c.self.inside.next entry own fit few placed.last placed.least placed.most placed.gap placed.free now.rows is laid;
+        spread = placed-spread object p rs stand e.stand e.others e.rest sw kept e.kept e.behind (idle_of entry) own n tag_fits spread c.self.inside.next entry own fit few placed.last placed.least placed.most placed.gap placed.free now.rows is;
+        count = placed-many object p rs stand e.stand e.others e.rest sw kept e.kept e.behind (idle_of entry) own n tag_fits spread c.self.inside.next entry own fit few placed.last placed.least placed.most placed.gap placed.free now.rows is
+            ∙ ap (λ xs. length (filter p xs) + 1) live;
+        arrived = placed-arrived object p rs stand e.stand e.others e.rest sw kept e.kept e.behind (idle_of entry) own n tag_fits spread c.self.inside.next entry own fit few placed.last placed.least placed.most placed.gap placed.free now.rows is laid
+            ∙ ap (λ xs. arrived (filter p xs) ++ entry ∷ []) live;
+        room = ap (λ (t : Table). t.room) placed.rows ∙ e.room ∙ roomy-room n old c.make_room.new.rows c.make_room.ensures.rows;
+      }
 
   -- the log with the entry
-  put : record { n = c.self.inside.n; room = c.splice.new.self.room; pushed = c.self.inside.next + 1; entries = arrived c.splice.new.self.rows; stripped = reverse (items_of c.self.inside.leaving.rows) }
+  put : record { n = c.self.inside.n; room = c.place-stand.new.rows.room; pushed = c.self.inside.next + 1; entries = arrived (live_rows c.place-stand.new.rows.rows); stripped = reverse (items_of c.self.inside.leaving.rows) }
       ≡ with_entry (without_covered c.args.self.now (g.T.TypeRule.covers c.args.rule.now) c.args.message.now) entry
   put =
-      let p = stays (g.T.TypeRule.covers c.args.rule.now) c.args.message.now in
+      let q = stays (g.T.TypeRule.covers c.args.rule.now) c.args.message.now in
       let inside = c.self.inside in
-      let made : Table → Log = λ t. record { n = inside.n; room = t.room; pushed = inside.next + 1; entries = arrived t.rows; stripped = reverse (items_of inside.leaving.rows) } in
-      let with : List Entry → Log = λ es. record { n = inside.n; room = inside.rows.room; pushed = inside.next + 1; entries = es; stripped = reverse (items_of inside.leaving.rows) } in
-      ap made (c.splice.ensures ∙ ap (λ k. record { room = k; rows = front ++ (inside.next, entry) ∷ back }) c.sweep_object-swept.ensures.room)
-      ∙ ap with (arrived-between inside.n inside.next front back entry whole ∙ ap (λ es. es ++ entry ∷ []) (ap arrived c.sweep_object-swept.ensures.left ∙ arrived-filter p inside.rows.rows))
-      ∙ ap (λ log. with_entry (with_entries log (filter p log.entries)) entry) c.self.view_is
+      let made = has-put in
+      (λ t. record { n = inside.n; room = made.room t; pushed = inside.next + 1; entries = (made.arrived ∙ ap (λ es. es ++ entry ∷ []) (arrived-filter q (live_rows inside.rows.rows))) t; stripped = reverse (items_of inside.leaving.rows) })
+      ∙ ap (λ log. with_entry (with_entries log (filter q log.entries)) entry) c.self.view_is
+
+pub overflow_sub-self-in-Update-replace : goal.overflow_sub-self-in-Update-replace
+overflow_sub-self-in-Update-replace g c =
+    let here = (goal.at.overflow_sub-self-in-Update-replace g c).After-sweep_object-swept in
+    omega (arith, many g here, ap length (live g here), c.self.invariant.4)
+
+pub overflow_add-self : goal.overflow_add-self
+overflow_add-self g c =
+    let before = (goal.at.overflow_add-self g c).After-sweep_object-swept in
+    let here = (goal.at.overflow_add-self g c).After-place-stand in
+    let made = has-put g here in
+    omega (arith, many g before, ap length (live g before), ap (λ xs. length (filter (p g before) xs)) (live g before), made.count, c.self.invariant.4, length-filter-le is_live c.place-stand.new.rows.rows, c.len.ensures, c.len.type_inv, c.sweep_object-swept.ensures.most)
 
 pub invariant_of-self : goal.invariant_of-self
 invariant_of-self g c =
-    let here = (goal.at.invariant_of-self g c).After-splice in
     let before = (goal.at.invariant_of-self g c).After-sweep_object-swept in
-    let I : Table → Type 0 = λ t. IsLaid c.self.inside.n (c.self.inside.next + 1) t.rows × (length t.rows ≤ t.room) × (t.room ≤ c.self.inside.leaving.room) in
-    let left = ap length c.sweep_object-swept.ensures.left in
-    let more = length-append (front g here) ((c.self.inside.next, entry g here) ∷ back g here) in
-    let all = length-append (front g here) (back g here) in
-    subst I (sym c.splice.ensures) (
-      laid g here,
-      omega (arith, more, all, left, many g before, room g before, c.requires.room, c.sweep_object-swept.ensures.room),
-      omega (arith, c.sweep_object-swept.ensures.room, c.self.invariant.2),
+    let made = has-put g (goal.at.invariant_of-self g c).After-place-stand in
+    let few = roomy-few c.self.inside.n c.self.inside.rows c.make_room.new.rows c.make_room.ensures.rows in
+    let same = roomy-room c.self.inside.n c.self.inside.rows c.make_room.new.rows c.make_room.ensures.rows in
+    let e = c.sweep_object-swept.ensures in (
+      c.self.invariant.0,
+      c.self.invariant.1,
+      made.laid,
+      made.spread,
+      omega (arith, many g before, ap length (live g before), ap (λ xs. length (filter (p g before) xs)) (live g before), made.count, c.self.invariant.4, e.most),
+      omega (arith, made.room, c.place-stand.ensures.few (omega (arith, few, same, e.long, e.room, c.self.invariant.5)), same, e.room),
+      omega (arith, made.room, c.self.invariant.6),
     )
 
 pub returns-in-Update-replace-clause-put : goal.returns-in-Update-replace-clause-put
 returns-in-Update-replace-clause-put g c =
-    let here = (goal.at.returns-in-Update-replace-clause-put g c).After-splice in
+    let here = (goal.at.returns-in-Update-replace-clause-put g c).After-place-stand in
     let m = c.args.message.now in
     put g here ∙ sym (ap (λ o. with_update m.origin m.tag o (without_covered c.args.self.now (g.T.TypeRule.covers c.args.rule.now) m)) (has g here))
 
 pub returns-in-Update-replace-clause-taken_in : goal.returns-in-Update-replace-clause-taken_in
 returns-in-Update-replace-clause-taken_in g c keeps n me ms kept stands =
-    let here = (goal.at.returns-in-Update-replace-clause-taken_in g c).After-splice in
+    let here = (goal.at.returns-in-Update-replace-clause-taken_in g c).After-place-stand in
     let covers = g.T.TypeRule.covers c.args.rule.now in
     let m = c.args.message.now in
     subst (IsLogged keeps covers n me ms m) (sym (put g here))
