@@ -51,7 +51,7 @@ module _ {A : Type 0} where
       ∙ take_at (take i xs) (drop i (take j xs) ++ ys) i (length-take-le i xs (omega (arith, l, inside)))
 
   -- an item in the place of another
-  set-at : (xs : List A) (i : ℕ) (x : A) → i < length xs → set xs i x ≡ take i xs ++ x ∷ drop (i + 1) xs
+  pub set-at : (xs : List A) (i : ℕ) (x : A) → i < length xs → set xs i x ≡ take i xs ++ x ∷ drop (i + 1) xs
   set-at xs i x l =
       let next : suc i ≡ i + 1 = omega arith in
       let apart : take i xs ++ get_or xs i x ∷ drop (i + 1) xs ≡ xs = ap (λ ys. take i xs ++ ys) (sym (drop-cons xs i x l ∙ ap (λ k. get_or xs i x ∷ drop k xs) next)) ∙ joined i xs in
@@ -61,6 +61,15 @@ module _ {A : Type 0} where
 module _ (idle : Idle) (old : Table) (e : Entry) (origin : e.origin ≡ idle.origin) (tag : e.tag ≡ idle.tag) (object : e.update.object ≡ idle.object) (act : e.update.act ≡ idle_act idle.object.kind) where
   is-free : IsFreeFor idle (free_number, e)
   is-free = record { number = refl; origin = origin; tag = tag; object = object; act = act }
+
+  -- one row is freed
+  pub freed-one : (at : ℕ) → at < length old.rows → IsFreed idle 1 at (at + 1) old (with_rows old (set old.rows at (free_number, e)))
+  freed-one at inside = record {
+    gap = (free_number, e) ∷ [];
+    free = (is-free, tt);
+    count = refl;
+    rows = ap (with_rows old) (set-at old.rows at (free_number, e) inside);
+  }
 
   -- one row more is freed
   pub freed-more : (from at : ℕ) (now : Table) → from ≤ at → at < length old.rows → IsFreed idle (at - from) from at old now

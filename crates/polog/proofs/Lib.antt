@@ -14,6 +14,7 @@ pub mod Strips
 pub mod Prunes
 pub mod Freed
 pub mod Gaps
+pub mod Vacated
 pub mod Placed
 pub mod Kept
 pub mod Items

@@ -20,7 +20,7 @@ use Rattle.polog.proofs.Orders.{each-filter, each-weaker, filter-join, filter-no
 
 -- ---- free rows
 
-free-is-not-live : (idle : Idle) (r : ℕ × Entry) → IsFreeFor idle r → is_live r ≡ false
+pub free-is-not-live : (idle : Idle) (r : ℕ × Entry) → IsFreeFor idle r → is_live r ≡ false
 free-is-not-live idle r free = ap not (eq-eqb r.0 free_number free.number)
 
 -- a number below a log's next one isn't that of a free row

@@ -5,8 +5,10 @@ use Rattle.std.specs.Prelude.{slice_range}
 use Rattle.std.proofs.Math.ListN.{get_or-map as get_or-map_same}
 use Rattle.std.proofs.lemmas.List.{take-map, drop-map, get_or-map, length-map, map-append, map-set}
 use Rattle.op_base.specs.declared.message.Entry.{Entry}
+use Rattle.op_base.specs.declared.name.Kind.{Kind}
+use Rattle.op_base.specs.declared.name.Kind.TheVariants as kinds
 use Rattle.polog.specs.Marks.{AreMarked, mark_of}
-use Rattle.polog.specs.Rows.{turned}
+use Rattle.polog.specs.Rows.{turned, idle_act}
 use Rattle.polog.specs.declared.marks.Stamp.{Stamp}
 
 module _ {A C : Type 0} (f : A → C) where
@@ -55,6 +57,11 @@ module _ (ss more : List Stamp) (es others : List Entry) (marked : AreMarked ss 
       ap (map (λ s. s.mark)) stamps ∙ map-insert (λ (s : Stamp). s.mark) i s ss ∙ (λ t. insert (marked t) i (is t))
       ∙ sym (ap (map (λ e. mark_of e.update.act)) entries ∙ map-insert (λ (e : Entry). mark_of e.update.act) i e es)
 
+  pub marked-more : (s : Stamp) (e : Entry) → s.mark ≡ mark_of e.update.act → more ≡ ss ++ s ∷ [] → others ≡ es ++ e ∷ [] → AreMarked more others
+  marked-more s e is stamps entries =
+      ap (map (λ s. s.mark)) stamps ∙ map-append (λ (s : Stamp). s.mark) ss (s ∷ []) ∙ (λ t. marked t ++ is t ∷ [])
+      ∙ sym (ap (map (λ e. mark_of e.update.act)) entries ∙ map-append (λ (e : Entry). mark_of e.update.act) es (e ∷ []))
+
   pub marked-set : (i : ℕ) (s : Stamp) (e : Entry) → s.mark ≡ mark_of e.update.act → more ≡ set ss i s → others ≡ set es i e → AreMarked more others
   marked-set i s e is stamps entries =
       ap (map (λ s. s.mark)) stamps ∙ map-set (λ (s : Stamp). s.mark) ss i s ∙ (λ t. set (marked t) i (is t))
@@ -69,3 +76,7 @@ module _ (ss more : List Stamp) (es others : List Entry) (marked : AreMarked ss 
   marked-turned to from end stamps entries =
       ap (map (λ s. s.mark)) stamps ∙ map-turned (λ (s : Stamp). s.mark) to from end ss ∙ ap (turned to from end) marked
       ∙ sym (ap (map (λ e. mark_of e.update.act)) entries ∙ map-turned (λ (e : Entry). mark_of e.update.act) to from end es)
+
+-- that of an act which free rows carry is none
+pub idle-unmarked : (kind : Kind) → 0 ≡ mark_of (idle_act kind)
+idle-unmarked kind = elim kind as (λ k. 0 ≡ mark_of (idle_act k)) [ kinds.Counter ↦ refl | _ ↦ refl ]

@@ -8,7 +8,7 @@ use Rattle.std.proofs.lemmas.List.Sorted.{IsPermutation-reverse, length_permutat
 use Rattle.op_base.specs.declared.message.Entry.{Entry}
 use Rattle.polog.specs.Order.{in_order, items_of}
 use Rattle.polog.specs.Rows.{arrived}
-use Rattle.polog.proofs.Orders.{each-weaker, each-passes, pairwise-parts, filter-join, filter-none, filter-in_order, items-join, told}
+use Rattle.polog.proofs.Orders.{each-weaker, each-passes, pairwise-parts, filter-join, filter-none, filter-in_order, items-join, told, not-true}
 use Rattle.polog.proofs.Moves.{Apart, apart-moved, in_order-of-moved}
 use Rattle.polog.proofs.Laid.{joined, length-in_order, length-items, arrived-filter}
 
@@ -22,6 +22,10 @@ reverse-items (r ∷ rs) =
 -- the entry of the last row is the first that waits
 pub first-waits : {E : Type 0} (rs rest : List (ℕ × E)) (e : E) → items_of rs ≡ items_of rest ++ e ∷ [] → reverse (items_of rs) ≡ e ∷ reverse (items_of rest)
 first-waits rs rest e last = ap reverse last ∙ reverse-append (items_of rest) (e ∷ [])
+
+-- and where all wait, they come in the order of their arrival
+pub all-wait : (rs : List (ℕ × Entry)) → reverse (items_of (reverse (in_order rs))) ≡ arrived rs
+all-wait rs = ap reverse (reverse-items (in_order rs)) ∙ reverse-reverse (items_of (in_order rs))
 
 pub none-waits : {E : Type 0} (items : List (ℕ × E)) → reverse (items_of items) ≡ [] → items ≡ []
 none-waits [] gone = refl
@@ -41,10 +45,6 @@ filter-whole p (x ∷ xs) same = elim (told (p x)) [
       let fewer = length-filter_both p (λ y. not (p y)) (λ y. refl) xs in
       absurd (omega (arith, same, ap length here, fewer))
 ]
-
-not-true : (b : Bool) → not b ≡ true → b ≡ false
-not-true true t = sym t
-not-true false t = refl
 
 module _ (p : Entry → Bool) (rs ss : List (ℕ × Entry)) (k : ℕ) (moved : IsPermutation rs ss) (apart : Apart rs) (kept : take k ss ≡ filter (λ r. not (p r.1)) rs) where
   whole : ss ≡ filter (λ r. not (p r.1)) rs ++ drop k ss

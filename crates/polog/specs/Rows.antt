@@ -48,6 +48,10 @@ abbrev pub idle_act : Kind → Act
 idle_act kinds.Counter = acts.Inc 0
 idle_act kind = acts.Clear
 
+-- a row says what it should where it is free
+abbrev pub IsIdle : ℕ × Entry → Type 0
+IsIdle r = is_live r ≡ false → r.1.update.act ≡ idle_act r.1.update.object.kind
+
 -- what rows say that are free for an entry's object
 abbrev pub idle_of : Entry → Idle
 idle_of e = record { origin = e.origin; tag = e.tag; object = e.update.object }
@@ -104,7 +108,7 @@ pub record IsSpread (n : ℕ) (rs : List (ℕ × Entry)) : Type 0 where
   pub ordered : Pairwise (λ a b. is_le (object_cmp a.1.update.object b.1.update.object) ≡ true) rs
   pub behind : Pairwise (λ a b. a.1.update.object ≡ b.1.update.object → is_live b ≡ true → is_live a ≡ true) rs
   pub fit : Each (λ r. IsTrue (fits n (message_of r.1))) rs
-  pub idle : Each (λ r. is_live r ≡ false → r.1.update.act ≡ idle_act r.1.update.object.kind) rs
+  pub idle : Each IsIdle rs
 
 -- where an object's rows stand: its entries, and behind them free rows
 pub record IsStand (object : ObjectId) (rs : List (ℕ × Entry)) (stand : Stand) : Type 0 where

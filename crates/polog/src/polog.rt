@@ -24,7 +24,9 @@ use crate::placing::{free_gone, place};
 use crate::reach::Reach;
 use crate::rows::Rows;
 use crate::search::stand_of;
-use crate::sweep::{Swept, close, first_stable, keep_unstable, make_room, sort, sweep_object};
+use crate::sweep::{
+    Swept, close, do_all_go, first_stable, keep_unstable, make_room, sort, sweep_object,
+};
 use causal_model::TypeRule;
 use op_base::{Entry, IdList, Message, NoMemory, ObjectId, Op, Tag};
 use std::alloc::Global;
@@ -243,7 +245,8 @@ impl Polog {
     }
 
     /// Takes out all entries that are stable where these are the stable counts, in one pass and one move of what stays. They
-    /// wait to be handed out by `next_stripped`.
+    /// wait to be handed out by `next_stripped`. Where many go that are of several objects, and none stays, their places stay free for
+    /// the next entries of their objects.
     pub fn strip(&mut self, stable: &Tag)
         requires tag { length stable.now ≡ self.old.n }
         requires handed_out { self.old.stripped ≡ [] }
@@ -251,6 +254,11 @@ impl Polog {
         // where the log had the last message that a member delivered, what is stable with it is taken out
         ensures stripped { KeepsStripped stable.now self.old self.new }
     {
+        if self.live >= MANY && self.rows.are_mixed() && do_all_go(&self.rows, stable) {
+            self.leaving.take_all(&mut self.rows);
+            self.live = 0;
+            return;
+        }
         let kept = keep_unstable(&mut self.rows, stable);
         self.leaving.take_tail(&mut self.rows, kept);
         self.live = kept;
@@ -308,7 +316,7 @@ impl Polog {
 
     /// Every entry once, side by side by object in the order of objects, and those of one object in history order. Behind those of an
     /// object there may be others, which say that it was cleared, or that nothing was added to it: they keep a place for its next
-    /// entries.
+    /// entries. Of an empty log there are none.
     pub fn grouped(&self) -> &[Entry]
         // what passes a test that these fail are the log's entries that pass it
         ensures members { (object : ObjectId) (passes : Entry → Bool) → FailsOnIdle passes → filter (λ e. is_of object e && passes e) result.now ≡ filter (λ e. is_of object e && passes e) self.now.entries }
@@ -316,6 +324,13 @@ impl Polog {
         ensures of { TellWhatIsLogged self.now result.now }
         ensures by_object { Pairwise (λ a b. is_le (object_cmp a.update.object b.update.object) ≡ true) result.now }
     {
+        if self.live == 0 {
+            return &self.rows.entries()[..0];
+        }
         self.rows.entries()
     }
 }
+
+/// Fewer entries than these leave no free rows where all leave at once: to open places for next ones then moves few rows, and costs less
+/// than to pass free ones over.
+const MANY: usize = 64;

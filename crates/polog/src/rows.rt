@@ -6,13 +6,14 @@ ghost use Rattle.op_base.specs.declared.message.Entry.{Entry};
 ghost use Rattle.polog.specs.Marks.{mark_of};
 ghost use Rattle.polog.specs.declared.marks.Stamp.{Stamp};
 ghost use Rattle.polog.specs.Order.{Pairwise, items_of};
-ghost use Rattle.polog.specs.Rows.{Table, with_rows, turned, is_used, is_live, IsFreed};
+ghost use Rattle.polog.specs.Rows.{Table, with_rows, turned, is_used, is_live, idle_of, IsFreed};
 
 use crate::idle::Idle;
 use crate::marks::{FREE, Stamp, next_marked};
 use op_base::{Entry, NoMemory};
 use std::alloc::Global;
 use std::marker::Model;
+use std::mem::replace;
 
 /// Rows of a number and an entry, with room for so many, all of which `create` takes. The entries stand side by side in
 /// memory, so that some of them can be lent as a slice.
@@ -234,6 +235,21 @@ impl Rows {
         into.stamps.push_reserved(self.stamps.take_last());
     }
 
+    /// Moves a row to the end of others, where there is room for it. In its place is then a row that is free for its object.
+    #[inline(always)]
+    pub fn move_out(&mut self, at: usize, into: &mut Rows)
+        requires place { at < length self.old.rows }
+        requires room { length into.old.rows < into.old.room }
+        ensures freed { (d : ℕ × Entry) → IsFreed (idle_of (slice_index_or self.old.rows at d).1) 1 at (at + 1) self.old self.new }
+        ensures moved { (d : ℕ × Entry) → into.new ≡ with_rows into.old (into.old.rows ++ slice_index_or self.old.rows at d ∷ []) }
+    {
+        let idle = Idle::of(&self.entries[at]);
+        let entry = replace(&mut self.entries[at], idle.entry());
+        into.entries.push_reserved(entry);
+        into.stamps.push_reserved(self.stamps[at]);
+        self.stamps[at] = FREE_STAMP;
+    }
+
     /// Takes out the last row, and hands out its entry. It is `None` exactly where there is no row.
     pub fn pop(&mut self) -> Option<Entry>
         ensures none { IfNone result (self.old.rows ≡ []) }
@@ -243,6 +259,17 @@ impl Rows {
     {
         self.stamps.pop();
         self.entries.pop()
+    }
+
+    /// Whether some row has a lesser number than the one ahead of it, as where entries of several objects arrived in turn. Nothing is
+    /// told of it.
+    pub fn are_mixed(&self) -> bool {
+        for at in 1..self.stamps.len() {
+            if self.stamps[at].number < self.stamps[at - 1].number {
+                return true;
+            }
+        }
+        false
     }
 
     /// Whether no row comes before one with a lesser number.

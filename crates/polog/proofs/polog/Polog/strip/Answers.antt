@@ -1,21 +1,25 @@
-use Rattle.std.proofs.Common.{◌≡◌, ℕ, ◌≤◌, Bool, not, ◌&&◌, List, length, length-take-le, reverse, take, drop, filter, IsTrue, sym, ap, subst, ◌∙◌, arith}
+use Rattle.std.proofs.Common.{◌≡◌, ℕ, ◌≤◌, Bool, true, false, not, ◌&&◌, List, [], length, length-take-le, reverse, take, drop, filter, IsTrue, sym, ap, subst, ◌∙◌, arith}
 use Rattle.std.specs.List.Sorted.{IsPermutation}
+use Rattle.std.proofs.lemmas.List.{length-map}
 use Rattle.std.proofs.lemmas.List.Sorted.{length_permutation}
 use Rattle.op_base.specs.Message.{fits}
 use Rattle.op_base.specs.declared.message.Entry.{Entry}
 use Rattle.causal_model.specs.Log.{message_of}
 use Rattle.polog.specs.Order.{Each, items_of, in_order}
-use Rattle.polog.specs.Rows.{Table, IsLaid, IsSpread, is_live, live_rows, arrived, with_rows}
+use Rattle.polog.specs.Rows.{Table, IsLaid, IsSpread, is_live, live_rows, idle_of, arrived, with_rows}
 use Rattle.polog.specs.Standing.{IsStripped}
 use Rattle.polog.specs.Value.{without_stable, is_stable_entry}
-use Rattle.polog.proofs.Gaps.{spread-filter, kept-live, kept-many, live-front, live-rest}
+use Rattle.polog.proofs.Gaps.{filter-both, spread-filter, kept-live, kept-many, live-front, live-rest}
 use Rattle.polog.proofs.Kept.{kept-moved}
 use Rattle.polog.proofs.Laid.{apart-from-laid, laid-filter, arrived-filter}
 use Rattle.polog.proofs.Moves.{Apart}
+use Rattle.polog.proofs.Orders.{each-weaker, filter-all, filter-none, not-false}
 use Rattle.polog.proofs.Standing.{stripped-is}
-use Rattle.polog.proofs.Strips.{none-waits, moved-apart, waits}
+use Rattle.polog.proofs.Strips.{all-wait, none-waits, moved-apart, waits}
+use Rattle.polog.proofs.Sweeps.{any-none}
+use Rattle.polog.proofs.Vacated.{none-passes, spread-vacated}
 use Rattle.polog.proofs.polog.Polog.strip.Goals as goal
-use Rattle.polog.proofs.polog.Polog.strip.Goals.{After-keep_unstable-kept, After-take_tail}
+use Rattle.polog.proofs.polog.Polog.strip.Goals.{After-keep_unstable-kept, After-take_tail, After-take_all}
 
 pub keep_unstable-kept-requires : goal.keep_unstable-kept-requires
 keep_unstable-kept-requires c =
@@ -94,10 +98,10 @@ taken c before left goes =
     (λ t. record { n = c.self.inside.n; room = (kept-rows c t).room; pushed = c.self.inside.next; entries = stays t; stripped = out t })
     ∙ ap (λ log. without_stable log c.args.stable.now) c.self.view_is
 
-pub invariant_of-self : goal.invariant_of-self
-invariant_of-self c =
-    let before = (goal.at.invariant_of-self c).After-keep_unstable-kept in
-    let here = (goal.at.invariant_of-self c).After-take_tail in
+pub invariant_of-self-2 : goal.invariant_of-self-2
+invariant_of-self-2 c =
+    let before = (goal.at.invariant_of-self-2 c).After-keep_unstable-kept in
+    let here = (goal.at.invariant_of-self-2 c).After-take_tail in
     let rs = c.self.inside.rows.rows in
     let ss = c.keep_unstable-kept.new.rows.rows in
     let k = c.keep_unstable-kept.result in
@@ -122,3 +126,61 @@ returns-clause-taken c =
 pub returns-clause-stripped : goal.returns-clause-stripped
 returns-clause-stripped c keeps covers n w me ms m chapter now stands =
     subst (IsStripped keeps covers n me ms m 0) (sym (returns-clause-taken c)) (stripped-is keeps covers n me ms w m c.args.self.now c.args.stable.now chapter now stands)
+
+-- ---- where all go
+
+pub take_all-requires-clause-empty : goal.take_all-requires-clause-empty
+take_all-requires-clause-empty c = none-waits c.self.inside.leaving.rows (ap (λ log. log.stripped) c.self.view_is ∙ c.requires.handed_out)
+
+pub take_all-requires-clause-apart : goal.take_all-requires-clause-apart
+take_all-requires-clause-apart c = apart-from-laid (live_rows c.self.inside.rows.rows) c.self.invariant.2.grouped
+
+module _ (c : After-take_all) where
+  abbrev stable : Entry → Bool
+  stable = is_stable_entry c.args.stable.now
+
+  abbrev entries : List (ℕ × Entry)
+  entries = live_rows c.self.inside.rows.rows
+
+  none-stays : filter (λ r. not (stable r.1)) entries ≡ []
+  none-stays =
+      let rows = c.self.inside.rows.rows in
+      let q : ℕ × Entry → Bool = λ r. is_live r && not (stable r.1) in
+      sym (filter-both is_live (λ r. not (stable r.1)) rows) ∙ filter-none q rows (any-none q rows (c.do_all_go.ensures ∙ ap not c.if-do_all_go.true))
+
+  all-go : filter (λ r. stable r.1) entries ≡ entries
+  all-go = filter-all (λ r. stable r.1) entries
+      (each-weaker (λ r. not (stable r.1) ≡ false) (λ r. stable r.1 ≡ true) (λ r. not-false (stable r.1)) entries (none-passes (λ r. not (stable r.1)) entries none-stays))
+
+  stays : arrived (live_rows c.take_all.new.rows.rows) ≡ filter (λ e. not (stable e)) (arrived entries)
+  stays = ap arrived (c.take_all.ensures.free ∙ sym none-stays) ∙ arrived-filter (λ e. not (stable e)) entries
+
+  out : reverse (items_of c.take_all.new.self.rows) ≡ filter stable (arrived entries)
+  out = ap (λ (t : Table). reverse (items_of t.rows)) c.take_all.ensures.taken ∙ all-wait entries ∙ ap arrived (sym all-go) ∙ arrived-filter stable entries
+
+  all-taken : record { n = c.self.inside.n; room = c.take_all.new.rows.room; pushed = c.self.inside.next; entries = arrived (live_rows c.take_all.new.rows.rows); stripped = reverse (items_of c.take_all.new.self.rows) }
+      ≡ without_stable c.args.self.now c.args.stable.now
+  all-taken =
+      (λ t. record { n = c.self.inside.n; room = c.take_all.ensures.room t; pushed = c.self.inside.next; entries = stays t; stripped = out t })
+      ∙ ap (λ log. without_stable log c.args.stable.now) c.self.view_is
+
+pub invariant_of-self : goal.invariant_of-self
+invariant_of-self c =
+    let old = c.self.inside.rows in
+    let new = c.take_all.new.rows in
+    let many = sym (length-map new.rows (λ r. idle_of r.1)) ∙ ap length c.take_all.ensures.places ∙ length-map old.rows (λ r. idle_of r.1) in (
+      c.self.invariant.0,
+      c.self.invariant.1,
+      subst (IsLaid c.self.inside.n c.self.inside.next) (sym c.take_all.ensures.free) (record { grouped = tt; below = tt; fit = tt }),
+      spread-vacated c.self.inside.n old.rows new.rows c.take_all.ensures.places c.take_all.ensures.free c.take_all.ensures.idle c.self.invariant.3,
+      sym (ap length c.take_all.ensures.free),
+      omega (arith, many, c.take_all.ensures.room, c.self.invariant.5),
+      omega (arith, c.take_all.ensures.room, c.self.invariant.6, ap (λ (t : Table). t.room) c.take_all.ensures.taken),
+    )
+
+pub returns-then-do_all_go-clause-taken : goal.returns-then-do_all_go-clause-taken
+returns-then-do_all_go-clause-taken c = all-taken (goal.at.returns-then-do_all_go-clause-taken c).After-take_all
+
+pub returns-then-do_all_go-clause-stripped : goal.returns-then-do_all_go-clause-stripped
+returns-then-do_all_go-clause-stripped c keeps covers n w me ms m chapter now stands =
+    subst (IsStripped keeps covers n me ms m 0) (sym (returns-then-do_all_go-clause-taken c)) (stripped-is keeps covers n me ms w m c.args.self.now c.args.stable.now chapter now stands)

@@ -1,13 +1,10 @@
-use Rattle.std.proofs.Common.{◌≡◌, ◌<◌, Bool, true, false, not, nat_eq, length, refl, sym, ap, ◌∙◌, arith}
+use Rattle.std.proofs.Common.{◌<◌, nat_eq, length, sym, ap, ◌∙◌, arith}
 use Rattle.std.proofs.lemmas.List.{get_or_read}
 use Rattle.polog.specs.Rows.{free_number}
 use Rattle.polog.specs.declared.marks.Stamp.{Stamp}
+use Rattle.polog.proofs.Orders.{not-not}
 use Rattle.polog.proofs.Tables.{as_many, row-seen}
 use Rattle.polog.proofs.rows.Rows.is_free.Goals as goal
-
-not-not : (b : Bool) → not (not b) ≡ b
-not-not true = refl
-not-not false = refl
 
 pub index-requires : goal.index-requires
 index-requires c =

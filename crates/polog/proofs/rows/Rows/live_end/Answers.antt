@@ -1,21 +1,13 @@
-use Rattle.std.proofs.Common.{◌≡◌, ℕ, ◌<◌, ◌≤◌, ◌-◌, Bool, true, false, not, List, length, get_or, inl, inr, refl, sym, ap, ◌∙◌, arith}
+use Rattle.std.proofs.Common.{◌≡◌, ℕ, ◌<◌, ◌≤◌, ◌-◌, true, false, List, length, get_or, inl, inr, sym, ap, ◌∙◌, arith}
 use Rattle.std.proofs.lemmas.Bool.{cases_lt, false≢true}
 use Rattle.op_base.specs.declared.message.Entry.{Entry}
 use Rattle.polog.specs.Rows.{is_live, is_used}
 use Rattle.polog.specs.declared.marks.Stamp.{Stamp}
-use Rattle.polog.proofs.Orders.{told}
+use Rattle.polog.proofs.Orders.{told, not-true, not-false}
 use Rattle.polog.proofs.Places.{get-other, any-of}
 use Rattle.polog.proofs.Tables.{as_many, row-seen}
 use Rattle.polog.proofs.rows.Rows.live_end.Goals as goal
 use Rattle.polog.proofs.rows.Rows.live_end.Goals.{After-deref, then-from-to-via-then-from-to, then-from-to-via-else-from-to+then-not-is_free}
-
-not-false : (b : Bool) → not b ≡ false → b ≡ true
-not-false true t = refl
-not-false false t = sym t
-
-not-true : (b : Bool) → not b ≡ true → b ≡ false
-not-true true t = sym t
-not-true false t = refl
 
 -- free rows stand behind the others from one place up to another
 abbrev AreBehind : List (ℕ × Entry) → ℕ → ℕ → Type 0
