@@ -1,14 +1,15 @@
 //! Settled items as their readers see them.
 
-ghost use Rattle.std.specs.Prelude.{◌≡◌, ◌<◌, ℕ, List, All, IsTrue, Option, length, slice_get, Some, option_copied};
+ghost use Rattle.std.specs.Prelude.{◌≡◌, ◌<◌, ℕ, List, Option, length, slice_get, Some, option_copied};
 ghost use Rattle.op_base.specs.declared.name.ObjectId.{ObjectId};
 ghost use Rattle.op_base.specs.declared.outcome.Cell.{Cell};
 ghost use Rattle.op_base.specs.declared.outcome.Item.{Item};
-ghost use Rattle.causal_model.specs.Items.{cell_in, is_filled, Rise, IsItem};
+ghost use Rattle.causal_model.specs.Items.{cell_in, Rise, IsItem};
 
 use op_base::{Cell, ObjectId, Value};
 
-/// A finite map from an object, and a value or none, to a cell that has a mark or a sum. No call takes memory.
+/// A finite map from an object, and a value or none, to a cell. An item whose cell has no mark and the sum 0 is as none. No call
+/// takes memory.
 pub trait ItemView {
     /// The items, in the order of their places.
     ghost items: { Self → List Item };
@@ -38,7 +39,4 @@ pub trait ItemView {
 
     /// The items stand in their one order, so no two are of one object and value.
     ghost rise: { (v : Self) → Rise (items v) };
-
-    /// Each item's cell has a mark or a sum.
-    ghost filled: { (v : Self) → All (λ item. IsTrue (is_filled item.cell)) (items v) };
 }

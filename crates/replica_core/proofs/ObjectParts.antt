@@ -55,7 +55,7 @@ module _ (f : Fields) (object : ObjectId) (entries : List Entry) (items : List I
   pub parts_of : (s : State) → Standing f s → ArePartsOf s.history object (map message_of entries) items
   parts_of s stands = record {
     logged = logged_in f object entries logged s stands;
-    settled = λ value. cells value ∙ ap (λ all. cell_in all object value) stands.items ∙ items_are_cells s.history object value;
+    settled = λ value. cells value ∙ stands.items.cells object value;
   }
 
   -- the sum of its cell is in the range that a counter's query asks for

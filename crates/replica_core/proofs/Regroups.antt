@@ -20,6 +20,7 @@ use Rattle.causal_buffer.specs.Standing.{IsBufferOf}
 use Rattle.polog.specs.Value.{Log}
 use Rattle.polog.specs.Standing.{IsLogOf}
 use Rattle.list_type.specs.Listed.{Listed}
+use Rattle.stable_state.proofs.Moves.{same_are_settled, settled_alike}
 use Rattle.replica_core.specs.Insertions.{insertions}
 use Rattle.replica_core.specs.Numbers.{are_numbers}
 use Rattle.replica_core.specs.Rooms.{AreParts}
@@ -49,7 +50,7 @@ module _ (f : Fields) (me n : ℕ) (counts : List ℕ) (matrix : Known) (parts :
         buffer = record { members = empty.buffer.members; window = empty.buffer.window; early = empty.buffer.early };
         log = empty.log;
         log_room = empty.log_room;
-        items = same ∙ stands.items ∙ sym (regroup_keeps_items n me s stable).2;
+        items = settled_alike s.history (regrouped n me s).history items (regroup_keeps_items n me s stable).2 (same_are_settled s.history f.items items same stands.items);
         items_room = omega (arith, ap length empty.log_entries, ap length empty.buffer.early);
         lists =
             let before = f.epoch * 2 ^ 24 + length s.history.present.messages in

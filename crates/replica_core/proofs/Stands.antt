@@ -24,6 +24,7 @@ use Rattle.causal_buffer.proofs.Standing.{early_are_ahead, early_are_near}
 use Rattle.list_type.specs.Listed.{Listed, AreWithin}
 use Rattle.list_type.specs.Shown.{shown as lists_shown}
 use Rattle.stable_state.specs.Shown.{shown}
+use Rattle.stable_state.proofs.Moves.{same_are_settled}
 use Rattle.replica_core.specs.Insertions.{insertions}
 use Rattle.replica_core.specs.Standing.{Fields, Standing, StandsForSome}
 use Rattle.replica_core.specs.Rules.{fields_of, StandsFor, SameSettings, Unchanged}
@@ -103,7 +104,7 @@ module _ (f : Fields) (s : State) (stands : Standing f s) where
     buffer = of;
     log = stands.log;
     log_room = stands.log_room;
-    items = same ∙ stands.items;
+    items = same_are_settled s.history f.items items same stands.items;
     items_room = room;
     lists = ∣ (λ object is_list. ap (λ (kept : ObjectId → List KeptElement). kept object) same_lists ∙ lists_of f s stands object is_list, within_same (f.epoch * 2 ^ 24 + length s.history.present.messages) f.lists lists same_lists (depths_of f s stands)) ∣₁;
     lists_room = elements;

@@ -13,7 +13,7 @@ use crate::durable::Durable;
 use crate::steady::{
     no_beat, no_local, no_receive, offer_frame, open_replicas, restart, send, send_noop,
 };
-use causal_model::{Beat, ItemView, Local, Receive};
+use causal_model::{Beat, Local, Receive};
 use op_base::{
     Answer, ElementIdList, IdList, MessageId, NoMemory, ObjectId, Tag, Update, updates_are_valid,
 };
@@ -213,7 +213,7 @@ impl KeepWorld {
         ensures { (keep : PlainKeep) → Shown self.now keep → result ≡ (entries_at keep.world r, items_at keep.world r) }
     {
         let replica = self.node(r).replica();
-        (replica.log.len(), replica.items.len())
+        (replica.log.len(), replica.items.filled_len())
     }
 
     /// How many messages of each member are stable at replica `r`.

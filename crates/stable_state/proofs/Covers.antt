@@ -52,10 +52,13 @@ module _ (u : Update) (v : List ℕ) (named : value_of u.act ≡ Some v) where
   in_set RwSet value t = refl
   in_set kind value t = absurd (false≢true t)
 
-  pub value_is_covered : is_set u.object.kind ≡ true → (items : List Item) (from to : ℕ) → ArePicked (is_place u.object (Some v)) items from to → ArePicked (covers_place (op.Update u)) items from to
-  value_is_covered set items from to = picked_alike (is_place u.object (Some v)) (covers_place (op.Update u)) items from to (λ object value.
+  pub covers_own : is_set u.object.kind ≡ true → (object : ObjectId) (value : Option (List ℕ)) → covers_place (op.Update u) object value ≡ is_place u.object (Some v) object value
+  covers_own set object value =
       same_after (same_object u.object object) (covers_value object.kind u.act value) (is_eq (option_cmp text_cmp (Some v) value)) (λ t.
       let same : u.object ≡ object = object_from_same u.object object t in
       in_set object.kind value (subst (λ (o : ObjectId). is_set o.kind ≡ true) same set)
       ∙ (λ i. names_value u.act v named i || same_value (named i) value) ∙ is_value v value)
-      ∙ sym (place_parts u.object object (Some v) value))
+      ∙ sym (place_parts u.object object (Some v) value)
+
+  pub value_is_covered : is_set u.object.kind ≡ true → (items : List Item) (from to : ℕ) → ArePicked (is_place u.object (Some v)) items from to → ArePicked (covers_place (op.Update u)) items from to
+  value_is_covered set items from to = picked_alike (is_place u.object (Some v)) (covers_place (op.Update u)) items from to (covers_own set)

@@ -15,3 +15,4 @@ pub mod Waiting
 pub mod Pending
 pub mod Moves
 pub mod Views
+pub mod Filled

@@ -20,25 +20,27 @@ use Rattle.causal_model.specs.Acts.{value_of, amount_of}
 use Rattle.causal_model.specs.CellSteps.{is_counter, with_act, cell_uncovered, cell_with, cell_applied, cell_settled, cell_absorbed, cell_moved, is_put_in}
 use Rattle.causal_model.specs.Log.{log_of, stripped_of}
 use Rattle.causal_model.specs.History.{History, with_message, is_history}
-use Rattle.causal_model.specs.Items.{cell_in, Rise, AreFilled}
+use Rattle.causal_model.specs.Items.{cell_in, Rise}
 use Rattle.causal_model.specs.Query.{IsWithin}
 use Rattle.causal_model.specs.Settled.{settled_cell, settled_items}
 use Rattle.causal_model.proofs.Cells.ItemMaps.{same_cells_same_list}
 use Rattle.causal_model.proofs.Cells.MovedCells.{cell_is_moved, counter_kind}
 use Rattle.causal_model.proofs.Cells.Places.{items_are_cells, items_are_filled, items_rise}
+use Rattle.stable_state.specs.Filled.{filled_of}
 use Rattle.stable_state.specs.Picked.{is_place, names_place}
 use Rattle.stable_state.specs.Settling.{settled_by}
 use Rattle.stable_state.specs.Shelf.{Shelved}
 use Rattle.stable_state.specs.Standing.{AreSettledOf, AreAbsorbed, AreMoved, AreNamedTouched}
 use Rattle.stable_state.specs.Touched.{is_touched, IsMarkTouched, StayTouched}
 use Rattle.stable_state.proofs.Cells.{place_itself, same_place}
+use Rattle.stable_state.proofs.Filled.{cell_of_filled, rise_of_filled, filled_are_filled}
 use Rattle.stable_state.proofs.Waiting.{unnamed_is_settled}
 
 module _ (h : History) (m : Message) where
   -- the items of a history without what a message covers
   pub covered_is_absorbed : (old new : Shelved) → AreSettledOf h old → ((object : ObjectId) (value : Option (List ℕ)) → cell_in new.items object value ≡ cell_uncovered object value m.op (cell_in old.items object value)) → AreAbsorbed h m 0 new
   covered_is_absorbed old new is cells = record {
-    cells = λ object value. cells object value ∙ ap (cell_uncovered object value m.op) (ap (λ items. cell_in items object value) is ∙ items_are_cells h object value);
+    cells = λ object value. cells object value ∙ ap (cell_uncovered object value m.op) (is.cells object value);
     touched = λ object value named. absurd (false≢true named);
   }
 
@@ -67,23 +69,45 @@ module _ (h : History) (m : Message) where
   }
 
   -- where what was touched of moved cells is settled, the items are those with the message
-  pub settled_with : (w : ℕ) (pending : ObjectId → Option (List ℕ) → Bool) (old new : Shelved) → IsTrue (is_history w (with_message h m)) → ((object : ObjectId) (value : Option (List ℕ)) → pending object value ≡ is_put_in (log_of (with_message h m)) object value)
-      → AreMoved h m old
-      → ((object : ObjectId) (value : Option (List ℕ)) → cell_in new.items object value ≡ (if is_touched old.touched object value then settled_by pending object value (cell_in old.items object value) else cell_in old.items object value))
-      → Rise new.items → AreFilled new.items → AreSettledOf (with_message h m) new
-  settled_with w pending old new t same moved settled rise filled =
-      let later = with_message h m in
-      same_cells_same_list new.items (settled_items later) rise (items_rise later) filled (items_are_filled later) (λ object value.
-      settled object value ∙ touched_or_not object value (is_touched old.touched object value) refl
-      ∙ (λ i. cell_settled object.kind (same object value i) (moved.cells object value i))
-      ∙ sym (cell_is_moved w h m object value t) ∙ sym (items_are_cells later object value)) where
-        touched_or_not : (object : ObjectId) (value : Option (List ℕ)) (touched : Bool) → is_touched old.touched object value ≡ touched
-            → (if touched then settled_by pending object value (cell_in old.items object value) else cell_in old.items object value) ≡ settled_by pending object value (cell_in old.items object value)
-        touched_or_not object value true is = refl
-        touched_or_not object value false is =
-            moved.cells object value
-            ∙ sym (unnamed_is_settled w h m object value t (λ named off. both_ways (is_touched old.touched object value) is (moved.touched object value named (ap (λ (c : Cell). c.off) (moved.cells object value) ∙ off))))
-            ∙ sym (λ i. cell_settled object.kind (same object value i) (moved.cells object value i))
+  module _ (w : ℕ) (pending : ObjectId → Option (List ℕ) → Bool) (old new : Shelved) (t : IsTrue (is_history w (with_message h m))) (same : (object : ObjectId) (value : Option (List ℕ)) → pending object value ≡ is_put_in (log_of (with_message h m)) object value)
+      (moved : AreMoved h m old)
+      (settled : (object : ObjectId) (value : Option (List ℕ)) → cell_in new.items object value ≡ (if is_touched old.touched object value then settled_by pending object value (cell_in old.items object value) else cell_in old.items object value)) where
+    touched_or_not : (object : ObjectId) (value : Option (List ℕ)) (touched : Bool) → is_touched old.touched object value ≡ touched
+        → (if touched then settled_by pending object value (cell_in old.items object value) else cell_in old.items object value) ≡ settled_by pending object value (cell_in old.items object value)
+    touched_or_not object value true is = refl
+    touched_or_not object value false is =
+        moved.cells object value
+        ∙ sym (unnamed_is_settled w h m object value t (λ named off. both_ways (is_touched old.touched object value) is (moved.touched object value named (ap (λ (c : Cell). c.off) (moved.cells object value) ∙ off))))
+        ∙ sym (λ i. cell_settled object.kind (same object value i) (moved.cells object value i))
+
+    cell_settled_with : (object : ObjectId) (value : Option (List ℕ)) → cell_in new.items object value ≡ settled_cell (with_message h m) object value
+    cell_settled_with object value =
+        settled object value ∙ touched_or_not object value (is_touched old.touched object value) refl
+        ∙ (λ i. cell_settled object.kind (same object value i) (moved.cells object value i))
+        ∙ sym (cell_is_moved w h m object value t)
+
+    pub settled_with : Rise new.items → AreSettledOf (with_message h m) new
+    settled_with rise =
+        let later = with_message h m in
+        record {
+          items = same_cells_same_list (filled_of new.items) (settled_items later) (rise_of_filled new.items rise) (items_rise later) (filled_are_filled new.items) (items_are_filled later) (λ object value.
+              cell_of_filled new.items rise object value ∙ cell_settled_with object value ∙ sym (items_are_cells later object value));
+          cells = cell_settled_with;
+        }
+
+-- items that are the same are the settled ones of the same history
+pub same_are_settled : (h : History) (old new : Shelved) → new.items ≡ old.items → AreSettledOf h old → AreSettledOf h new
+same_are_settled h old new same of = record {
+  items = ap filled_of same ∙ of.items;
+  cells = λ object value. ap (λ items. cell_in items object value) same ∙ of.cells object value;
+}
+
+-- items that are the settled ones of a history are those of another that has the same
+pub settled_alike : (h other : History) (s : Shelved) → settled_items other ≡ settled_items h → AreSettledOf h s → AreSettledOf other s
+settled_alike h other s alike of = record {
+  items = of.items ∙ sym alike;
+  cells = λ object value. of.cells object value ∙ sym (items_are_cells h object value) ∙ ap (λ items. cell_in items object value) (sym alike) ∙ items_are_cells other object value;
+}
 
 -- an operation that is none of a counter is not applied at once
 pub not_applied : (o : Op) → ((u : Update) → o ≡ op.Update u → u.object.kind ≢ Counter) → (object : ObjectId) (value : Option (List ℕ)) (cell : Cell) → cell_applied object value o cell ≡ cell

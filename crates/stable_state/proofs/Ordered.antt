@@ -1,17 +1,17 @@
 -- Slots in order while an item is put in, some are let go, or one gets another cell.
 use Rattle.std.proofs.Common.{◌≡◌, ◌≢◌, ◌⊎◌, ℕ, zero, suc, ◌+◌, ◌<◌, ◌≤◌, All, Contains, List, [], ◌∷◌, ◌++◌, length, take, drop, get_or, set, cond, refl, sym, ap, subst, ◌∙◌, inl, inr, length-drop, length-append, length-take-le, drop-cons, arith}
-use Rattle.std.specs.Prelude.{Option, Some, None, is_some, IsTrue, slice_range}
+use Rattle.std.specs.Prelude.{Option, Some, None, is_some, slice_range}
 use Rattle.std.specs.List.{insert, remove_range}
 use Rattle.std.proofs.lemmas.Bool.{both_ways, cases_eq, cases_lt}
 use Rattle.std.proofs.lemmas.List.{length-map, get_or_default, get_or-take, get_or-drop, take-map, drop-map, map-append, set_split, length-set, take-append-drop, get_or-set_same, get_or-set_other, get_or_past}
 use Rattle.std.proofs.lemmas.List.Edits.{length-insert, length-between, get_or-between}
-use Rattle.std.proofs.lemmas.List.Elements.{All-append, All-cons, All-push, All-take, All-drop, All-set}
+use Rattle.std.proofs.lemmas.List.Elements.{All-append, All-cons, All-push, All-take, All-drop}
 use Rattle.std.proofs.lemmas.List.Sums.{sum_by-set}
 use Rattle.op_base.specs.Order.{item_cmp}
 use Rattle.op_base.specs.declared.name.ObjectId.{ObjectId}
 use Rattle.op_base.specs.declared.outcome.Cell.{Cell}
 use Rattle.op_base.specs.declared.outcome.Item.{Item}
-use Rattle.causal_model.specs.Items.{is_filled, Rise}
+use Rattle.causal_model.specs.Items.{Rise}
 use Rattle.causal_model.proofs.Theory.Elements.{AllPairs-append}
 use Rattle.slab.specs.Slab.{Slab, get, ContainsKey, slab_len, with_value, Updates}
 use Rattle.stable_state.specs.Places.{with_cell}
@@ -24,7 +24,7 @@ use Rattle.stable_state.proofs.Slots.{IsKept, items_kept, held_kept, held_item, 
 pub more_room : (old new : Slab Item) (order order' : List ℕ) → old.capacity ≤ new.capacity → new ≡ record old { capacity = new.capacity } → order' ≡ order → IsOrdered old order → IsOrdered new order'
 more_room old new order order' more is order_is ordered =
     subst (λ slots. IsOrdered slots order') (sym is) (subst (IsOrdered (record old { capacity = new.capacity })) (sym order_is)
-    (record { held = ordered.held; counted = ordered.counted; fits = omega (arith, ordered.fits, more); rise = ordered.rise; filled = ordered.filled }))
+    (record { held = ordered.held; counted = ordered.counted; fits = omega (arith, ordered.fits, more); rise = ordered.rise }))
 
 -- ---- items are copied into other slots
 
@@ -47,18 +47,14 @@ module _ (old new : Slab Item) (order : List ℕ) (place slot : ℕ) (item : Ite
   pub items-insert : items_in new (insert order place slot) ≡ insert (items_in old order) place item
   items-insert = items_in-insert new order place slot ∙ (λ i. insert (items_kept old new order kept i) place (item_is new slot item changes.changed i))
 
-  pub ordered-insert : slab_len new ≡ slab_len old + 1 → slab_len old + 1 ≤ new.capacity → IsTrue (is_filled item.cell) → Rise (insert (items_in old order) place item) → IsOrdered new (insert order place slot)
-  ordered-insert len room filled rise =
+  pub ordered-insert : slab_len new ≡ slab_len old + 1 → slab_len old + 1 ≤ new.capacity → Rise (insert (items_in old order) place item) → IsOrdered new (insert order place slot)
+  ordered-insert len room rise =
       let held = held_kept old new order kept ordered.held in
       record {
         held = All-append (ContainsKey new) (take place order) (slot ∷ drop place order) (All-take (ContainsKey new) place order held) (All-cons (ContainsKey new) slot (drop place order) (ap is_some changes.changed) (All-drop (ContainsKey new) place order held));
         counted = omega (arith, len, ordered.counted, length-insert order place slot within);
         fits = omega (arith, len, room);
         rise = subst Rise (sym items-insert) rise;
-        filled =
-            let P = λ (x : Item). IsTrue (is_filled x.cell) in
-            let items = items_in old order in
-            subst (All P) (sym items-insert) (All-append P (take place items) (item ∷ drop place items) (All-take P place items ordered.filled) (All-cons P item (drop place items) filled (All-drop P place items ordered.filled)));
       }
 
 -- ---- some items are let go
@@ -94,7 +90,6 @@ module _ (old new : Slab Item) (order : List ℕ) (from to : ℕ) (ordered : IsO
   pub ordered-remove : slab_len new + length (slice_range order from to) ≡ slab_len old → new.capacity ≡ old.capacity → IsOrdered new (remove_range order from to)
   ordered-remove len capacity =
       let items = items_in old order in
-      let P = λ (x : Item). IsTrue (is_filled x.cell) in
       let long : length items ≡ length order = length-map order (item_in old) in
       record {
         held = held_kept old new (remove_range order from to) others_kept (All-append (ContainsKey old) (take from order) (drop to order) (All-take (ContainsKey old) from order ordered.held) (All-drop (ContainsKey old) to order ordered.held));
@@ -105,7 +100,6 @@ module _ (old new : Slab Item) (order : List ℕ) (from to : ℕ) (ordered : IsO
             let past : to + j < length items = omega (arith, m, length-drop to items) in
             subst (λ y. IsLess y (get_or (drop to items) j e)) (sym (get_or-take from items k d below ∙ get_or_default items k d e (omega (arith, below, le, within, long))))
             (subst (IsLess (get_or items k e)) (sym (get_or-drop to items j e)) (ordered.rise k (to + j) e (omega (arith, below, le)) past))));
-        filled = subst (All P) (sym items-remove) (All-append P (take from items) (drop to items) (All-take P from items ordered.filled) (All-drop P to items ordered.filled));
       }
 
 -- ---- an item gets another cell
@@ -196,10 +190,9 @@ module _ (old : Slab Item) (order : List ℕ) (place slot : ℕ) (cell : Cell) (
       let had : one (get old slot) ≡ 1 = ap (λ b. cond b 1 0) here in
       omega (arith, sum_by-set one old.slots slot (Some changed) None bound, had)
 
-  pub ordered-write : IsTrue (is_filled cell) → IsOrdered written order
-  ordered-write filled =
+  pub ordered-write : IsOrdered written order
+  ordered-write =
       let items = items_in old order in
-      let P = λ (x : Item). IsTrue (is_filled x.cell) in
       record {
         held = λ k d l. elim (cases_eq (get_or order k d) slot) [
           | inl same ↦ subst (ContainsKey written) (sym same) (ap is_some found)
@@ -208,5 +201,4 @@ module _ (old : Slab Item) (order : List ℕ) (place slot : ℕ) (cell : Cell) (
         counted = len-write ∙ ordered.counted;
         fits = omega (arith, len-write, ordered.fits);
         rise = subst Rise (sym items-write) (rise-with_cell place cell items ordered.rise);
-        filled = subst (All P) (sym (items-write ∙ with_cell_set place cell items no_item)) (All-set P items place (record (get_or items place no_item) { cell = cell }) filled ordered.filled);
       }

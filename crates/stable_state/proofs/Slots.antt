@@ -1,9 +1,10 @@
 -- The items in slots while one slot changes, or some.
 use Rattle.std.proofs.Common.{◌≡◌, ◌≢◌, ℕ, ◌<◌, All, AllPairs, List, [], ◌∷◌, ◌++◌, map, length, take, drop, get_or, refl, sym, ap, ◌∙◌, arith}
-use Rattle.std.specs.Prelude.{Option, Some, None, unwrap_or, is_some, IsSome}
+use Rattle.std.specs.Prelude.{Option, Some, None, unwrap_or, option_map, slice_get, is_some, IsSome}
 use Rattle.std.specs.List.{insert, remove_range}
 use Rattle.std.proofs.lemmas.List.{length-map, get_or-map, take-map, drop-map, map-append}
 use Rattle.std.proofs.lemmas.List.Elements.{All-head, All-tail}
+use Rattle.std.proofs.lemmas.Option.{slice_get-map}
 use Rattle.std.proofs.lemmas.Cmp.{tied_itself}
 use Rattle.std.specs.declared.cmp.Ordering.{Ordering}
 use Rattle.std.specs.declared.cmp.Ordering.TheVariants.{Less, Equal}
@@ -45,6 +46,10 @@ held_item slots slot held = by (get slots slot) held where
 
 pub item_at_place : (slots : Slab Item) (order : List ℕ) (k d : ℕ) (e : Item) → k < length order → get_or (items_in slots order) k e ≡ item_in slots (get_or order k d)
 item_at_place slots order k d e l = get_or-map (item_in slots) order k d e l
+
+-- the item in a slot of the order stands at its place
+pub item_of_slot : (slots : Slab Item) (order : List ℕ) (place slot : ℕ) (item : Item) → slice_get order place ≡ Some slot → get slots slot ≡ Some item → slice_get (items_in slots order) place ≡ Some item
+item_of_slot slots order place slot item at there = slice_get-map (item_in slots) order place ∙ ap (option_map (item_in slots)) at ∙ ap (λ (x : Item). Some x) (item_is slots slot item there)
 
 -- ---- slots of rising items are apart
 

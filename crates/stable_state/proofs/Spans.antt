@@ -1,5 +1,5 @@
 -- Items that stand side by side: what taking them out, or putting others there, does to each cell.
-use Rattle.std.proofs.Common.{◌≡◌, ℕ, ◌+◌, ◌<◌, ◌≤◌, All, IsTrue, Bool, true, false, not, List, [], ◌++◌, append-nil, length, take, drop, get_or, refl, sym, ap, subst, ◌∙◌, inl, inr, Option, None, arith, if◌then◌else◌}
+use Rattle.std.proofs.Common.{◌≡◌, ℕ, ◌+◌, ◌<◌, ◌≤◌, All, Bool, true, false, not, List, [], ◌++◌, append-nil, length, take, drop, get_or, refl, sym, ap, subst, ◌∙◌, inl, inr, Option, None, arith, if◌then◌else◌}
 use Rattle.std.specs.List.{filter, AllWithin, HoldsAt, between}
 use Rattle.std.specs.Ordering.{ordering_reverse, ordering_then, is_eq}
 use Rattle.std.specs.declared.cmp.Ordering.{Ordering}
@@ -7,13 +7,13 @@ use Rattle.std.specs.declared.cmp.Ordering.TheVariants.{Less, Equal, Greater}
 use Rattle.std.proofs.lemmas.Bool.{and_parts, both_ways, cases_Bool, cases_order, cond-true, cond-false, false_from_ne_true, not_from_true, not_from_false}
 use Rattle.std.proofs.lemmas.List.{length-take, length-drop, get_or-take, get_or-drop, get_or_default, take-append-drop}
 use Rattle.std.proofs.lemmas.List.Edits.{length-between, get_or-between, split_between}
-use Rattle.std.proofs.lemmas.List.Elements.{All-append, All-filter, All-nil, All-weaker, filter-append}
+use Rattle.std.proofs.lemmas.List.Elements.{All-append, All-nil, All-weaker, filter-append}
 use Rattle.std.proofs.lemmas.List.Kept.{AllPairs-filter}
 use Rattle.op_base.specs.Object.{same_object}
 use Rattle.op_base.specs.Order.{item_cmp, object_cmp}
 use Rattle.op_base.specs.declared.name.ObjectId.{ObjectId}
 use Rattle.op_base.specs.declared.outcome.Item.{Item}
-use Rattle.causal_model.specs.Items.{zero_cell, is_at, is_filled, cell_in, Rise, AreFilled}
+use Rattle.causal_model.specs.Items.{zero_cell, is_at, cell_in, Rise}
 use Rattle.causal_model.proofs.Cells.ItemMaps.{filter_all_of}
 use Rattle.causal_model.proofs.Cells.KindCells.{place_parts}
 use Rattle.causal_model.proofs.Theory.Lists.{filter_none}
@@ -115,9 +115,6 @@ module _ (passes : ObjectId → Option (List ℕ) → Bool) where
 
     pub rise_without : Rise items → Rise (without_span from to items)
     rise_without rise = subst Rise (sym without_is_filter) (AllPairs-filter (λ (a b : Item). item_cmp a.object a.value b.object b.value ≡ Less) (λ item. not (passes item.object item.value)) items rise)
-
-    pub filled_without : AreFilled items → AreFilled (without_span from to items)
-    filled_without each = subst AreFilled (sym without_is_filter) (All-filter (λ item. not (passes item.object item.value)) (λ item. IsTrue (is_filled item.cell)) items each)
 
 -- ---- one item
 

@@ -1,3 +1,4 @@
+pub mod Filled
 pub mod Shelf
 pub mod Touched
 pub mod Slots

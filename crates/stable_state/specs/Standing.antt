@@ -7,14 +7,16 @@ use Rattle.causal_model.specs.CellSteps.{cell_absorbed, cell_moved}
 use Rattle.causal_model.specs.History.{History}
 use Rattle.causal_model.specs.Items.{cell_in}
 use Rattle.causal_model.specs.Log.{stripped_of}
-use Rattle.causal_model.specs.Settled.{settled_items}
+use Rattle.causal_model.specs.Settled.{settled_cell, settled_items}
+use Rattle.stable_state.specs.Filled.{filled_of}
 use Rattle.stable_state.specs.Picked.{names_place}
 use Rattle.stable_state.specs.Shelf.{Shelved}
 use Rattle.stable_state.specs.Touched.{IsMarkTouched}
 
--- items are the settled ones of a history
-abbrev pub AreSettledOf : History → Shelved → Type 0
-AreSettledOf h shelved = shelved.items ≡ settled_items h
+-- the items that have a mark or a sum are the settled ones of a history, and each cell is the history's
+pub record AreSettledOf (h : History) (shelved : Shelved) : Type 0 where
+  pub items : filled_of shelved.items ≡ settled_items h
+  pub cells : (object : ObjectId) (value : Option (List ℕ)) → cell_in shelved.items object value ≡ settled_cell h object value
 
 -- what messages name is touched, if it has an off mark
 abbrev pub AreNamedTouched : List Message → Shelved → Type 0

@@ -1,13 +1,13 @@
--- Items side by side are in the one order and filled as all are: what a view of them owes, and so it stands here and not
+-- Items side by side are in the one order as all are: what a view of them owes, and so it stands here and not
 -- among the proofs.
-use Rattle.std.specs.Prelude.{◌≡◌, ℕ, ◌+◌, ◌-◌, ◌≤◌, List, length, IsTrue}
+use Rattle.std.specs.Prelude.{◌≡◌, ℕ, ◌+◌, ◌-◌, ◌≤◌, List, length}
 use Rattle.std.specs.List.{between}
 use Rattle.std.specs.declared.cmp.Ordering.TheVariants.{Less}
 use Rattle.std.proofs.Common.{get_or, sym, subst, arith}
 use Rattle.std.proofs.lemmas.List.Edits.{length-between, get_or-between}
 use Rattle.op_base.specs.Order.{item_cmp}
 use Rattle.op_base.specs.declared.outcome.Item.{Item}
-use Rattle.causal_model.specs.Items.{is_filled, Rise, AreFilled}
+use Rattle.causal_model.specs.Items.{Rise}
 
 -- they rise
 pub rise_between : (items : List Item) (from to : ℕ) → from ≤ to → to ≤ length items → Rise items → Rise (between from to items)
@@ -18,9 +18,3 @@ rise_between items from to ordered within rise = λ i j d lt l.
     let second = get_or-between items from to j d (omega (arith, l, len)) in
     subst (λ (a : Item). Before a (get_or (between from to items) j d)) (sym first)
     (subst (λ (b : Item). Before (get_or items (from + i) d) b) (sym second) (rise (from + i) (from + j) d (omega (arith, lt)) (omega (arith, l, len))))
-
--- each is filled
-pub filled_between : (items : List Item) (from to : ℕ) → to ≤ length items → AreFilled items → AreFilled (between from to items)
-filled_between items from to within filled = λ k d l.
-    let len : length (between from to items) ≡ to - from = length-between items from to within in
-    subst (λ (item : Item). IsTrue (is_filled item.cell)) (sym (get_or-between items from to k d (omega (arith, l, len)))) (filled (from + k) d (omega (arith, l, len)))

@@ -1,12 +1,16 @@
-//! Cells, one at a time: when one is an item, and what an act makes of it. The cells are this project's own profile.
+//! Cells, one at a time: when one has something, what an act makes of it, and which one is emptied for a while. The cells are this
+//! project's own profile.
 
-ghost use Rattle.std.specs.Prelude.{◌≡◌, ◌↔◌, ◌^◌, true, false, ◌+ℤ◌, option_copied};
+ghost use Rattle.std.specs.Prelude.{◌≡◌, ◌↔◌, ℕ, ◌^◌, true, false, ◌+ℤ◌, List, Option, option_copied};
+ghost use Rattle.op_base.specs.declared.name.ObjectId.{ObjectId};
+ghost use Rattle.op_base.specs.declared.operation.Op.TheVariants as op;
 ghost use Rattle.causal_model.specs.Acts.{value_of, amount_of};
-ghost use Rattle.causal_model.specs.CellSteps.{marks_on, marks_off, marks_settled, puts_in, with_act};
+ghost use Rattle.causal_model.specs.CellSteps.{covers_place, marks_on, marks_off, marks_settled, puts_in, with_act};
 ghost use Rattle.causal_model.specs.Items.{is_filled};
 ghost use Rattle.causal_model.specs.Query.{IsWithin};
+ghost use Rattle.stable_state.specs.Picked.{is_place};
 
-use op_base::{Act, Cell, Value};
+use op_base::{Act, Cell, Kind, Update, VALUE_BYTES_IN_PLACE, Value};
 
 /// The cell with no mark and the sum 0, which is no item.
 pub const NO_CELL: Cell = Cell {
@@ -109,4 +113,23 @@ pub fn puts_in(value: Option<&Value>, act: &Act) -> bool
         (Some(value), Act::Add(added)) => added == value,
         _ => false,
     }
+}
+
+/// Whether an update covers what is settled of one value alone, and puts that in again once it is stable. A value that is longer than
+/// what stands in place isn't kept for that: to compare it takes more than to take it out and put it back.
+pub fn comes_back(update: &Update) -> bool
+    ensures { result ≡ true → (object : ObjectId) (value : Option (List ℕ))
+        → covers_place (op.Update update.now) object value ≡ is_place update.now.object (value_of update.now.act) object value }
+{
+    match (update.object.kind, &update.act) {
+        (Kind::AwSet, Act::Add(value)) => is_short(value),
+        (Kind::RwSet, Act::Add(value)) => is_short(value),
+        (Kind::RwSet, Act::Rmv(value)) => is_short(value),
+        _ => false,
+    }
+}
+
+/// Whether a value is no longer than what stands in place.
+fn is_short(value: &Value) -> bool {
+    value.as_slice().len() <= VALUE_BYTES_IN_PLACE
 }

@@ -13,7 +13,8 @@ ghost use Rattle.causal_model.specs.Acts.{acts_on, value_of};
 ghost use Rattle.causal_model.specs.CellSteps.{covers_place, cell_uncovered, cell_with, cell_settled, puts_in, is_put_in};
 ghost use Rattle.causal_model.specs.Log.{log_of, stripped_of, message_of};
 ghost use Rattle.causal_model.specs.History.{History, no_history, with_message, is_history};
-ghost use Rattle.causal_model.specs.Items.{cell_in, is_filled, Rise, AreFilled};
+ghost use Rattle.causal_model.specs.Items.{cell_in, is_filled, Rise};
+ghost use Rattle.stable_state.specs.Filled.{filled_of};
 ghost use Rattle.stable_state.specs.Laws.{HasRange};
 ghost use Rattle.stable_state.specs.Picked.{ArePicked, is_set, is_place, replaced};
 ghost use Rattle.stable_state.specs.Places.{IsSpan};
@@ -24,7 +25,8 @@ ghost use Rattle.stable_state.specs.Standing.{AreSettledOf, AreAbsorbed, AreMove
 ghost use Rattle.stable_state.specs.Touched.{is_touched, IsMarkTouched, StayTouched, KeepTouched};
 
 use crate::cell::{
-    NO_CELL, into_value, is_filled, is_in_range, puts_in, value_of, with_act, without_pending,
+    NO_CELL, comes_back, into_value, is_filled, is_in_range, puts_in, value_of, with_act,
+    without_pending,
 };
 use crate::chunks::Spot;
 use crate::shelf::{Gap, Shelf};
@@ -33,13 +35,12 @@ use causal_model::ItemView;
 use op_base::{Act, Cell, Entry, Item, Kind, NoMemory, ObjectId, Update, Value};
 use std::alloc::Global;
 
-/// Settled items: a finite map from an object, and a value or none, to a cell that has a mark or a sum, in the one
-/// order of items. `reserve` and `copy` alone take memory.
+/// Settled items: a finite map from an object, and a value or none, to a cell, in the one order of items. An item with neither a
+/// mark nor a sum is as none: it keeps the place of one that is to come back. `reserve` and `copy` alone take memory.
 #[derive(Drop)]
 pub struct Items {
     shelf: Shelf,
     ghost rise: { Rise shelf.items },
-    ghost filled: { AreFilled shelf.items },
 }
 
 impl Items {
@@ -47,7 +48,7 @@ impl Items {
 
     /// No items, and no room. It takes no memory.
     pub fn new(alloc: Global) -> Items
-        ensures none { shown result ≡ record { items = []; touched = []; spare = 0 } }
+        ensures none { shown result ≡ record { items = []; slots = []; touched = []; spare = 0 } }
         ensures settled { (n me : ℕ) → AreSettledOf (no_history n me) (shown result) }
     {
         Items {
@@ -81,7 +82,8 @@ impl Items {
         is_in_range(&update.act, cell)
     }
 
-    /// Lets exactly what an update covers go. It takes no memory, and changes no other object's items.
+    /// Lets exactly what an update covers go. Where the update will put it in again, its item stays without marks. It takes no
+    /// memory, and changes no other object's items.
     pub fn cover(&mut self, update: &Update)
         ensures cells { (object : ObjectId) (value : Option (List ℕ)) → cell_in (shown self.new).items object value
             ≡ cell_uncovered object value (op.Update update.now) (cell_in (shown self.old).items object value) }
@@ -91,7 +93,9 @@ impl Items {
         ensures touched { StayTouched (shown self.old) (shown self.new) }
         ensures spare { (shown self.old).spare ≤ (shown self.new).spare }
     {
-        if let Some((from, to)) = self.covered_span(update) {
+        if comes_back(update) {
+            self.shelf.empty(&update.object, value_of(&update.act));
+        } else if let Some((from, to)) = self.covered_span(update) {
             self.shelf.remove_span(from, to);
         }
     }
@@ -128,6 +132,13 @@ impl Items {
         ensures span { IsSpan object.now (shown self.now).items result.0.place result.1 }
     {
         self.shelf.span(near, object)
+    }
+
+    /// How many items have a mark or a sum.
+    pub fn filled_len(&self) -> usize
+        ensures { result ≡ length (filled_of (shown self.now).items) }
+    {
+        self.shelf.filled_len()
     }
 
     /// The places of an object's items: the first, and the one behind the last.
@@ -204,6 +215,9 @@ impl Items {
         ensures marked { IsMarkTouched (shown self.new) update.object (value_of update.act) }
         ensures spare { (shown self.old).spare ≤ (shown self.new).spare + 1 }
     {
+        if self.shelf.change_found(&update) {
+            return;
+        }
         match self.shelf.find(
             self.shelf.hint_to_come(),
             &update.object,
@@ -346,8 +360,6 @@ impl ItemView for Items {
     }
 
     ghost rise = { λ all. all.rise };
-
-    ghost filled = { λ all. all.filled };
 }
 
 /// Whether a kind is a set's, in which a value that is added or removed is covered alone.

@@ -8,6 +8,7 @@ mod cell;
 mod chunks;
 mod items;
 mod laws;
+mod memo;
 mod order;
 mod rank;
 mod recent;

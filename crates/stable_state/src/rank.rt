@@ -35,6 +35,20 @@ pub struct Rank {
     second: u128,
 }
 
+impl Rank {
+    /// A number that differs for most ranks that differ. Nothing is told of it.
+    #[inline(always)]
+    pub fn mix(self) -> u64 {
+        let first = upper(self.first) ^ lower(self.first).wrapping_mul(MIX);
+        let second = upper(self.second) ^ lower(self.second).wrapping_mul(MIX);
+        let both = (first.wrapping_mul(MIX) ^ second).wrapping_mul(MIX);
+        both >> 32
+    }
+}
+
+/// An odd number whose bits are spread evenly: the golden ratio's, as in Fibonacci hashing (Knuth).
+const MIX: u64 = 0x9E37_79B9_7F4A_7C15;
+
 /// An item with its rank. Contracts see the item.
 #[derive(Drop)]
 pub struct Ranked {
@@ -106,6 +120,11 @@ impl Ranked {
         ensures { result ≡ item }
     {
         Ranked { rank, item }
+    }
+
+    /// Its rank.
+    pub fn rank(&self) -> Rank {
+        self.rank
     }
 
     /// The item.

@@ -3,23 +3,32 @@
 //! An index in order over records that stay where they are is a textbook rule.
 
 ghost use Rattle.std.specs.Prelude.{◌≡◌, ◌≢◌, ◌⊎◌, ℕ, ◌+◌, ◌-◌, ◌^◌, ◌<◌, ◌≤◌, true, false, [], ◌∷◌, ◌++◌, List, length, take, insert, slice_get};
-ghost use Rattle.std.specs.Prelude.{Some, IsTrue, IfOk, OnOk, OnSome, IfSome, IfErr, None, IsOk, All, AllPairs, Contains, HoldsAt, option_copied};
+ghost use Rattle.std.specs.Prelude.{if◌then◌else◌, Option, Some, IsTrue, IfOk, OnOk, OnSome, IfSome, IfErr, None, IsOk, All, AllPairs, Contains, HoldsAt, option_copied};
 ghost use Rattle.std.specs.Prelude.{vec_len, vec_capacity};
 ghost use Rattle.std.specs.List.{between};
-ghost use Rattle.causal_model.specs.Items.{is_at, is_filled, Rise};
+ghost use Rattle.op_base.specs.declared.operation.Op.TheVariants as op;
+ghost use Rattle.causal_model.specs.Acts.{value_of};
+ghost use Rattle.causal_model.specs.CellSteps.{cell_with};
+ghost use Rattle.causal_model.specs.Items.{zero_cell, cell_in, is_at, is_filled, Rise};
+ghost use Rattle.stable_state.specs.Filled.{empties, filled_of};
+ghost use Rattle.stable_state.specs.Laws.{HasRange};
+ghost use Rattle.stable_state.specs.Picked.{is_place};
+ghost use Rattle.op_base.specs.declared.name.ObjectId.{ObjectId};
 ghost use Rattle.op_base.specs.declared.outcome.Item.{Item};
 ghost use Rattle.slab.specs.Slab.{get, ContainsKey, HasRoomFor, slab_len, with_value};
 ghost use Rattle.stable_state.specs.Places.{is_before, is_up_to, with_cell, RisesWithOneAt, IsGapFor, IsSpan, IsParted};
 ghost use Rattle.stable_state.specs.Ranks.{rank_of, IsNamed};
-ghost use Rattle.stable_state.specs.Shelf.{put_at, without_span};
+ghost use Rattle.stable_state.specs.Shelf.{put_at, without_span, IsSlotOf};
 ghost use Rattle.stable_state.specs.Slots.{items_in, AreCopied};
-ghost use Rattle.stable_state.specs.Touched.{is_touched, StayTouched, KeepTouched, IsLast};
+ghost use Rattle.stable_state.specs.Touched.{is_touched, IsMarkTouched, StayTouched, KeepTouched, IsLast};
 
+use crate::cell::{NO_CELL, comes_back, is_filled, value_of, with_act};
 use crate::chunks::{CHUNK, Spot};
+use crate::memo::Memo;
 use crate::order::Order;
 use crate::rank::{Rank, Ranked, Sought};
 use crate::recent::Recent;
-use op_base::{Cell, Item, NoMemory, ObjectId, Value};
+use op_base::{Cell, Item, NoMemory, ObjectId, Update, Value};
 use slab::Slab;
 use std::alloc::Global;
 use std::marker::Model;
@@ -33,9 +42,10 @@ pub struct Gap {
     pub rank: Rank,
 }
 
-/// Settled items in their one order. Each stands in a slot that doesn't move, and a list of slots has the order.
-/// Contracts see the items, which of them were touched, and how many more can be put among them without memory. `reserve`
-/// and `copy` alone take memory.
+/// Settled items in their one order. Each stands in a slot that doesn't move, and a list of slots has the order. An item may have
+/// neither a mark nor a sum: then it is as none, and keeps its place.
+/// Contracts see the items, their slots, which of them were touched, and how many more can be put among them without memory.
+/// `reserve` and `copy` alone take memory.
 #[derive(Drop)]
 pub struct Shelf {
     slots: Slab<Ranked>,
@@ -46,6 +56,10 @@ pub struct Shelf {
     touched: Vec<usize>,
     // Where items stood of late, which is looked at first for the next.
     recent: Recent,
+    // In which slots items were found of late.
+    memo: Memo,
+    // How many of the items have neither a mark nor a sum.
+    empties: usize,
 }
 
 impl Model for Shelf {
@@ -63,13 +77,15 @@ impl Model for Shelf {
 impl Shelf {
     /// A shelf with no items and no room. It takes no memory.
     pub fn new(alloc: Global) -> Shelf
-        ensures { result ≡ record { items = []; touched = []; spare = 0 } }
+        ensures { result ≡ record { items = []; slots = []; touched = []; spare = 0 } }
     {
         Shelf {
             slots: Slab::new(alloc),
             order: Order::new(alloc),
             touched: Vec::new(alloc),
             recent: Recent::new(),
+            memo: Memo::new(alloc),
+            empties: 0,
         }
     }
 
@@ -81,10 +97,13 @@ impl Shelf {
         ensures touched { self.new.touched ≡ self.old.touched }
         ensures spare { self.old.spare ≤ self.new.spare }
     {
+        if k <= self.spare() {
+            return Ok(());
+        }
         self.slots.reserve(k)?;
         self.order.reserve(k)?;
         self.touched.reserve(k)?;
-        Ok(())
+        self.memo.reserve(self.slots.capacity())
     }
 
     /// How many items more can be put in, or touched, without memory.
@@ -108,6 +127,8 @@ impl Shelf {
             order,
             touched: Vec::new(alloc),
             recent: Recent::new(),
+            memo: Memo::new(alloc),
+            empties: self.empties,
         })
     }
 
@@ -115,9 +136,15 @@ impl Shelf {
     pub fn len(&self) -> usize
         ensures length { result ≡ length self.now.items }
         ensures rise { Rise self.now.items }
-        ensures filled { All (λ item. IsTrue (is_filled item.cell)) self.now.items }
     {
         self.order.len()
+    }
+
+    /// How many items have a mark or a sum.
+    pub fn filled_len(&self) -> usize
+        ensures { result ≡ length (filled_of self.now.items) }
+    {
+        self.order.len() - self.empties
     }
 
     /// The item at a place, counted from 0.
@@ -342,6 +369,7 @@ impl Shelf {
         }
         let chunk = self.order.insert(gap.spot, slot);
         self.slots.insert_reserved(Ranked::new(gap.rank, item));
+        self.memo.miss();
         self.recent.come(Spot {
             place: gap.spot.place,
             chunk,
@@ -371,16 +399,36 @@ impl Shelf {
         ensures touched { KeepTouched self.old self.new }
         ensures spare { self.old.spare ≤ self.new.spare }
     {
+        self.empties -= self.empties_in(from, to, near);
         empty_slots(&mut self.slots, &self.order, from, to, near);
         self.order.remove_range(from, to, near);
+    }
+
+    /// How many of the items at places from the first up to, and not with, the second have neither a mark nor a sum. A chunk is
+    /// looked at first.
+    fn empties_in(&self, from: usize, to: usize, near: usize) -> usize
+        requires ordered { from ≤ to }
+        requires within { to ≤ length self.now.items }
+        ensures { result ≡ empties (between from to self.now.items) }
+    {
+        if self.empties == 0 {
+            return 0;
+        }
+        let mut count = 0;
+        for place in from..to {
+            if !is_filled(&self.at_near(Spot { place, chunk: near }).cell) {
+                count += 1;
+            }
+        }
+        count
     }
 
     /// Gives the item at a spot's place another cell. With an off mark it is touched. It takes no memory.
     pub fn set_cell(&mut self, spot: Spot, cell: Cell)
         requires within { spot.place < length self.old.items }
-        requires filled { IsTrue (is_filled cell) }
         requires spare { IsTrue cell.off → 1 ≤ self.old.spare }
         ensures items { self.new.items ≡ with_cell spot.place cell self.old.items }
+        ensures rise { Rise self.new.items }
         ensures stay { StayTouched self.old self.new }
         ensures marked { cell.off ≡ true → HoldsAt (λ item. is_touched self.new.touched item.object item.value ≡ true) self.old.items spot.place }
         ensures unmarked { cell.off ≡ false → KeepTouched self.old self.new }
@@ -388,11 +436,101 @@ impl Shelf {
         ensures kept { cell.off ≡ false → self.old.spare ≤ self.new.spare }
     {
         let slot = self.order.at_near(spot);
+        self.memo.find(self.slots[slot].rank(), slot);
+        self.recent.come(spot);
+        self.write(slot, cell);
+    }
+
+    /// Sets the mark of an update that comes back, where its item was found of late, and says so. It takes no memory.
+    pub fn change_found(&mut self, update: &Update) -> bool
+        requires spare { 1 ≤ self.old.spare }
+        requires range { HasRange self.old update.now }
+        requires rise { Rise self.old.items }
+        ensures cells { result ≡ true → (object : ObjectId) (value : Option (List ℕ)) → cell_in self.new.items object value
+            ≡ cell_with object value (cell_in self.old.items object value) (op.Update update.now) }
+        ensures rise { Rise self.new.items }
+        ensures stay { StayTouched self.old self.new }
+        ensures marked { result ≡ true → IsMarkTouched self.new update.now.object (value_of update.now.act) }
+        ensures spare { self.old.spare ≤ self.new.spare + 1 }
+        ensures others { result ≡ false → self.new ≡ self.old }
+    {
+        if !comes_back(update) {
+            return false;
+        }
+        let Some(slot) = self.slot_found(&update.object, value_of(&update.act)) else {
+            return false;
+        };
+        let cell = with_act(&update.act, self.slots[slot].item().cell);
+        if !is_filled(&cell) {
+            return false;
+        }
+        self.write(slot, cell);
+        true
+    }
+
+    /// Takes marks and sum from the item of an object and a value, if there is one, which keeps its place. It takes no memory.
+    pub fn empty(&mut self, object: &ObjectId, value: Option<&Value>)
+        ensures cells { (other : ObjectId) (other_value : Option (List ℕ)) → cell_in self.new.items other other_value
+            ≡ (if is_place object.now (option_copied value.entry) other other_value then zero_cell else cell_in self.old.items other other_value) }
+        ensures rise { Rise self.new.items }
+        ensures touched { StayTouched self.old self.new }
+        ensures spare { self.old.spare ≤ self.new.spare }
+    {
+        if let Some(slot) = self.slot_found(object, value) {
+            self.write(slot, NO_CELL);
+            return;
+        }
+        match self.find(self.recent.to_go(), object, value) {
+            Ok(spot) => {
+                self.recent.go(spot);
+                self.set_cell(spot, NO_CELL);
+            }
+            Err(gap) => {
+                self.recent.go(gap.spot);
+                self.memo.miss();
+            }
+        }
+    }
+
+    /// The slot of the item of an object and a value, where it was found of late.
+    #[inline(always)]
+    fn slot_found(&self, object: &ObjectId, value: Option<&Value>) -> Option<usize>
+        ensures { IfSome result (IsSlotOf object.now (option_copied value.entry) self.now) }
+    {
+        if !self.memo.helps() {
+            return None;
+        }
+        let sought = Sought::new(object, value);
+        let slot = self.memo.slot(sought.rank())?;
+        match self.slots.get(slot) {
+            Some(ranked) if is_of(ranked, &sought) => Some(slot),
+            _ => None,
+        }
+    }
+
+    /// Gives the item in a slot another cell. With an off mark it is touched. It takes no memory.
+    fn write(&mut self, slot: usize, cell: Cell)
+        requires held { Contains self.old.slots slot }
+        requires spare { IsTrue cell.off → 1 ≤ self.old.spare }
+        ensures items { (place : ℕ) → slice_get self.old.slots place ≡ Some slot → self.new.items ≡ with_cell place cell self.old.items }
+        ensures rise { Rise self.new.items }
+        ensures stay { StayTouched self.old self.new }
+        ensures marked { (place : ℕ) → slice_get self.old.slots place ≡ Some slot → cell.off ≡ true
+            → HoldsAt (λ item. is_touched self.new.touched item.object item.value ≡ true) self.old.items place }
+        ensures unmarked { cell.off ≡ false → KeepTouched self.old self.new }
+        ensures spare { self.old.spare ≤ self.new.spare + 1 }
+        ensures kept { cell.off ≡ false → self.old.spare ≤ self.new.spare }
+    {
+        prove!(self.empties <= self.order.len());
+        self.empties = recounted(
+            self.empties,
+            is_filled(&self.slots[slot].item().cell),
+            is_filled(&cell),
+        );
         if cell.off {
             add(&mut self.touched, slot);
         }
         write_cell(&mut self.slots, slot, cell);
-        self.recent.come(spot);
     }
 
     /// How many times an item was touched.
@@ -550,6 +688,19 @@ fn empty_slots(slots: &mut Slab<Ranked>, order: &Order, from: usize, to: usize, 
 {
     for place in from..to {
         slots.remove(order.at_near(Spot { place, chunk: near }));
+    }
+}
+
+/// How many items have neither a mark nor a sum, where so many had none, and one may have other marks now or another sum.
+fn recounted(empties: usize, was_filled: bool, is_filled: bool) -> usize
+    requires some { was_filled ≡ false → 1 ≤ empties }
+    requires few { was_filled ≡ true → is_filled ≡ false → empties + 1 < 2 ^ 64 }
+    ensures { result + (if was_filled then 0 else 1) ≡ empties + (if is_filled then 0 else 1) }
+{
+    match (was_filled, is_filled) {
+        (true, false) => empties + 1,
+        (false, true) => empties - 1,
+        _ => empties,
     }
 }
 

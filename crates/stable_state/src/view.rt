@@ -4,7 +4,7 @@
 
 ghost use Rattle.std.specs.Prelude.{◌≡◌, ◌≤◌, length};
 ghost use Rattle.std.specs.List.{between};
-ghost use Rattle.causal_model.specs.Items.{Rise, AreFilled};
+ghost use Rattle.causal_model.specs.Items.{Rise};
 
 use crate::cell::NO_CELL;
 use crate::chunks::Spot;
@@ -21,7 +21,6 @@ pub struct ItemSpan<'a> {
     ghost ordered: { from ≤ to },
     ghost within: { to ≤ length shelf.now.items },
     ghost rise: { Rise shelf.now.items },
-    ghost filled: { AreFilled shelf.now.items },
 }
 
 impl<'a> ItemSpan<'a> {
@@ -30,7 +29,6 @@ impl<'a> ItemSpan<'a> {
         requires ordered { from ≤ to }
         requires within { to ≤ length shelf.now.items }
         requires rise { Rise shelf.now.items }
-        requires filled { AreFilled shelf.now.items }
         ensures { between result.from result.to result.shelf.now.items ≡ between from to shelf.now.items }
     {
         ItemSpan { shelf, from, to }
@@ -39,7 +37,7 @@ impl<'a> ItemSpan<'a> {
 
 impl ItemView for ItemSpan<'_> {
     ghost use Rattle.std.specs.List.{between};
-    ghost use Rattle.stable_state.specs.View.{rise_between, filled_between};
+    ghost use Rattle.stable_state.specs.View.{rise_between};
 
     ghost items = { λ span. between span.from span.to span.shelf.now.items };
 
@@ -74,6 +72,4 @@ impl ItemView for ItemSpan<'_> {
     }
 
     ghost rise = { λ span. rise_between span.shelf.now.items span.from span.to span.ordered span.within span.rise };
-
-    ghost filled = { λ span. filled_between span.shelf.now.items span.from span.to span.within span.filled };
 }

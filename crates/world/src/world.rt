@@ -14,7 +14,6 @@ ghost use Rattle.world.specs.Steps.{AreNodesOf, are_empty};
 
 use crate::frames::FrameRow;
 use crate::lagging::lagging_at;
-use causal_model::ItemView;
 use op_base::{Answer, ElementIdList, IdList, NoMemory, ObjectId, Tag};
 use replica_core::{CreateFault, are_numbers};
 use replica_node::{Journal, Node};
@@ -100,7 +99,7 @@ impl World {
         ensures { (plain : PlainWorld) → ShowsPlain self.now plain → result ≡ (entries_at plain r, items_at plain r) }
     {
         let replica = self.nodes[r as usize].replica();
-        (replica.log.len(), replica.items.len())
+        (replica.log.len(), replica.items.filled_len())
     }
 
     /// How many messages of each member are stable at replica `r`.

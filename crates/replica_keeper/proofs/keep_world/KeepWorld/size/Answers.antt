@@ -3,6 +3,7 @@ use Rattle.std.proofs.lemmas.List.{length-map}
 use Rattle.op_base.specs.Message.{id_of}
 use Rattle.causal_model.specs.Log.{log_of, message_of}
 use Rattle.causal_model.specs.Settled.{settled_items}
+use Rattle.stable_state.specs.Filled.{filled_of}
 use Rattle.stable_state.specs.Shown.{shown as shown_items}
 use Rattle.world_model.specs.Showing.{entries_at, items_at}
 use Rattle.world_model.specs.World.{replica_of}
@@ -19,6 +20,6 @@ returns c keep shown =
     let log = log_shown shown.shows.nodes rows keep.world shown.shows.shows c.args.r node stands in
     let entries : c.len.result ≡ entries_at keep.world c.args.r =
     c.len.ensures ∙ ap (λ (r : _). length r.log.entries) c.replica-replica.ensures ∙ sym (length-map node.inner.log.entries (λ e. id_of (message_of e))) ∙ ap length log ∙ length-map (log_of (replica_of keep.world c.args.r).history) id_of in
-    let items : c.len-2.result ≡ items_at keep.world c.args.r =
-    c.len-2.ensures ∙ ap (λ (r : _). length (shown_items r.items).items) c.replica-replica.ensures ∙ ap length node.stands.items ∙ ap (λ s. length (settled_items s.history)) (sym state) in
-    ap (λ (a : ℕ). (a, c.len-2.result)) entries ∙ ap (λ (b : ℕ). (entries_at keep.world c.args.r, b)) items
+    let items : c.filled_len.result ≡ items_at keep.world c.args.r =
+    c.filled_len.ensures ∙ ap (λ (r : _). length (filled_of (shown_items r.items).items)) c.replica-replica.ensures ∙ ap length node.stands.items.items ∙ ap (λ s. length (settled_items s.history)) (sym state) in
+    ap (λ (a : ℕ). (a, c.filled_len.result)) entries ∙ ap (λ (b : ℕ). (entries_at keep.world c.args.r, b)) items

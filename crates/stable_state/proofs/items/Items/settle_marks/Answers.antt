@@ -35,7 +35,7 @@ returns-clause-cells c = all_are_settled (put_in_by c.args.entries.now) c.args.s
 
 pub returns-clause-of : goal.returns-clause-of
 returns-clause-of c = λ w h m t same moved.
-    settled_with h m w (put_in_by c.args.entries.now) c.args.self.now.shelf c.loop-left.self.shelf t same moved (returns-clause-cells c) c.loop-left.self.rise c.loop-left.self.filled
+    settled_with h m w (put_in_by c.args.entries.now) c.args.self.now.shelf c.loop-left.self.shelf t same moved (returns-clause-cells c) c.loop-left.self.rise
 
 pub returns-clause-touched : goal.returns-clause-touched
 returns-clause-touched c = nothing_is_left c

@@ -6,8 +6,10 @@ use Rattle.std.proofs.lemmas.List.{length-map}
 use Rattle.std.proofs.lemmas.List.Elements.{Contains-append_left}
 use Rattle.causal_model.specs.Items.{Rise}
 use Rattle.slab.specs.Slab.{slab_len, Updates}
+use Rattle.stable_state.specs.Filled.{empties}
 use Rattle.stable_state.specs.Slots.{item_in, items_in, IsOrdered}
 use Rattle.stable_state.specs.Touched.{is_touched}
+use Rattle.stable_state.proofs.Filled.{empties-put}
 use Rattle.stable_state.proofs.Ordered.{items-insert, ordered-insert}
 use Rattle.stable_state.proofs.Touched.{touched_in, touched_moves, stands-insert, touched-push}
 use Rattle.stable_state.proofs.shelf.Shelf.insert.Goals as goal
@@ -17,6 +19,7 @@ use Rattle.stable_state.proofs.shelf.Shelf.insert.Goals.{then-item, else-item}
 record Noted (c : goal.After-come) : Type 0 where
   slots : c.if-item.self-inside.slots ≡ c.self.inside.slots
   order : c.if-item.self-inside.order ≡ c.self.inside.order
+  empties : c.if-item.self-inside.empties ≡ c.self.inside.empties
   more : (slot : ℕ) → Contains c.self.inside.touched.items slot → Contains c.if-item.self-inside.touched.items slot
   marked : c.args.item.cell.off ≡ true → c.if-item.self-inside.touched.items ≡ c.self.inside.touched.items ++ c.vacant_key-slot.result ∷ []
   room : vec_capacity c.self.inside.touched ≤ vec_capacity c.if-item.self-inside.touched
@@ -32,6 +35,7 @@ noted c =
           record {
             slots = ap (λ i. i.slots) w.self-inside-is;
             order = ap (λ i. i.order) w.self-inside-is;
+            empties = ap (λ i. i.empties) w.self-inside-is;
             more = λ other has. subst (λ xs. Contains xs other) (sym is) (Contains-append_left s.touched.items (slot ∷ []) other has);
             marked = λ _. is;
             room = subst (λ i. vec_capacity s.touched ≤ vec_capacity i.touched) (sym w.self-inside-is) w.add.ensures.capacity;
@@ -40,6 +44,7 @@ noted c =
       | else-item w ↦ record {
         slots = ap (λ i. i.slots) w.self-inside-is;
         order = ap (λ i. i.order) w.self-inside-is;
+        empties = ap (λ i. i.empties) w.self-inside-is;
         more = λ other has. subst (λ i. Contains i.touched.items other) (sym w.self-inside-is) has;
         marked = λ off. absurd (both_ways c.args.item.cell.off w.if-item.false off);
         room = omega (arith, ap (λ i. vec_capacity i.touched) w.self-inside-is);
@@ -60,6 +65,12 @@ within c = omega (arith, c.requires.within, ap (λ shelved. length shelved.items
 order_is : (c : goal.After-come) → c.insert-chunk.new.self.items ≡ insert c.self.inside.order.items c.args.gap.spot.place c.vacant_key-slot.result
 order_is c = c.insert-chunk.ensures.items ∙ ap (λ order. insert order.items c.args.gap.spot.place c.vacant_key-slot.result) (noted c).order
 
+items_are : (c : goal.After-come) → items_in c.insert_reserved.new.self c.insert-chunk.new.self.items ≡ insert (items_in c.self.inside.slots c.self.inside.order.items) c.args.gap.spot.place c.args.item
+items_are c =
+    let s = c.self.inside in
+    ap (items_in c.insert_reserved.new.self) (order_is c)
+    ∙ items-insert s.slots c.insert_reserved.new.self s.order.items c.args.gap.spot.place c.vacant_key-slot.result c.args.item c.self.invariant.ordered (within c) c.vacant_key-slot.ensures.vacant (changes c)
+
 pub invariant_of-self : goal.invariant_of-self
 invariant_of-self c =
     let s = c.self.inside in
@@ -67,15 +78,14 @@ invariant_of-self c =
     let len = c.insert_reserved.ensures.len ∙ ap (λ slots. slab_len slots + 1) (noted c).slots in
     let room : slab_len s.slots + 1 ≤ new.capacity = omega (arith, ap (λ shelved. shelved.spare) c.self.view_is, c.requires.spare, c.insert_reserved.ensures.capacity, ap (λ slots. slots.capacity) (noted c).slots) in
     let rise = subst (λ items. Rise (insert items c.args.gap.spot.place c.args.item)) (sym (ap (λ shelved. shelved.items) c.self.view_is)) c.requires.rise in
-    subst (IsOrdered new) (sym (order_is c))
-    (ordered-insert s.slots new s.order.items c.args.gap.spot.place c.vacant_key-slot.result c.args.item c.self.invariant (within c) c.vacant_key-slot.ensures.vacant (changes c) len room c.requires.filled rise)
+    record {
+      ordered = subst (IsOrdered new) (sym (order_is c))
+          (ordered-insert s.slots new s.order.items c.args.gap.spot.place c.vacant_key-slot.result c.args.item c.self.invariant.ordered (within c) c.vacant_key-slot.ensures.vacant (changes c) len room rise);
+      counted = (noted c).empties ∙ c.self.invariant.counted ∙ sym (empties-put c.args.gap.spot.place c.args.item (items_in s.slots s.order.items) c.requires.filled) ∙ ap empties (sym (items_are c));
+    }
 
 pub returns-clause-items : goal.returns-clause-items
-returns-clause-items c =
-    let s = c.self.inside in
-    ap (items_in c.insert_reserved.new.self) (order_is c)
-    ∙ items-insert s.slots c.insert_reserved.new.self s.order.items c.args.gap.spot.place c.vacant_key-slot.result c.args.item c.self.invariant (within c) c.vacant_key-slot.ensures.vacant (changes c)
-    ∙ ap (λ shelved. insert shelved.items c.args.gap.spot.place c.args.item) c.self.view_is
+returns-clause-items c = items_are c ∙ ap (λ shelved. insert shelved.items c.args.gap.spot.place c.args.item) c.self.view_is
 
 pub returns-clause-stay : goal.returns-clause-stay
 returns-clause-stay c = λ object value t off.
