@@ -1,12 +1,12 @@
 -- Timestamps, number by number.
-use Rattle.std.proofs.Common.{◌≡◌, ◌≢◌, ℕ, ◌+◌, ◌-◌, ◌<◌, ◌≤◌, ◌==◌, true, List, [], ◌∷◌, ◌++◌, length, drop, replicate, get_or, zero, suc, refl, sym, ap, ◌∙◌, arith}
+use Rattle.std.proofs.Common.{◌≡◌, ◌≢◌, ℕ, ◌+◌, ◌-◌, ◌<◌, ◌≤◌, ◌==◌, true, List, [], ◌∷◌, ◌++◌, ◌↔◌, length, drop, replicate, get_or, inl, inr, subst, zero, suc, refl, sym, ap, ◌∙◌, arith}
 use Rattle.std.specs.Prelude.{max, min}
-use Rattle.std.proofs.lemmas.Bool.{and_parts, leb-true, eq-eqb}
+use Rattle.std.proofs.lemmas.Bool.{and_parts, leb-true, eq-eqb, cases_lt}
 use Rattle.std.proofs.lemmas.Bool.Decides.{nat_tests}
 use Rattle.std.proofs.lemmas.Grind.{same_number_lists}
-use Rattle.std.proofs.lemmas.List.{length-take, length-drop, take-append-drop, get_or-drop, get_or-replicate, length-replicate}
+use Rattle.std.proofs.lemmas.List.{length-take, length-drop, take-append-drop, get_or-take, get_or-drop, get_or-replicate, length-replicate}
 use Rattle.op_base.specs.TagFields.{IsPadded, numbers_of}
-use Rattle.op_base.specs.Timestamp.{entry, join, count_above, at_most}
+use Rattle.op_base.specs.Timestamp.{entry, join, count_above, at_most, IsBelowChange}
 use Rattle.op_base.specs.declared.tag.Tag.TheInside.{Inside}
 
 -- ---- how many numbers are above
@@ -133,3 +133,39 @@ lesser_padded t u parts p q same len each =
           let zero_there : get_or t.parts (t.n + k) 0 ≡ 0 = sym (get_or-drop t.n t.parts k 0) ∙ ap (λ l. get_or l k 0) p.3 ∙ get_or-replicate (16 - t.n) k 0 0 few in
           get_or-drop t.n parts k 0 ∙ each (t.n + k) (omega (arith, few, p.1)) ∙ ap (λ v. min v (get_or u.parts (t.n + k) 0)) zero_there ∙ omega arith ∙ sym (get_or-replicate (16 - t.n) k 0 0 few)),
     )
+
+-- ---- numbers beside zeros
+
+-- there are zeros behind a timestamp's numbers
+place-padded : (t : Inside) → IsPadded t → (k : ℕ) → k < 16 → length (numbers_of t) ≤ k → get_or t.parts k 0 ≡ 0
+place-padded t p k l past =
+    let n : t.n ≤ k = omega (arith, past, length-take t.n t.parts, p.1, p.2) in
+    let at : t.n + (k - t.n) ≡ k = omega (arith, n) in
+    sym (ap (λ k. get_or t.parts k 0) at) ∙ sym (get_or-drop t.n t.parts (k - t.n) 0) ∙ ap (λ l. get_or l (k - t.n) 0) p.3 ∙ get_or-replicate (16 - t.n) (k - t.n) 0 0 (omega (arith, n, l))
+
+-- and its numbers stand at the first places
+entry-padded : (t : Inside) → IsPadded t → (k : ℕ) → k < length (numbers_of t) → get_or t.parts k 0 ≡ entry (numbers_of t) k
+entry-padded t p k l = sym (get_or-take t.n t.parts k 0 (omega (arith, l, length-take t.n t.parts)))
+
+-- so numbers are below each change of the members' ones exactly where they are at all places
+pub below_changes-padded : (t u v : Inside) → IsPadded t → IsPadded u → IsPadded v → length (numbers_of u) ≡ length (numbers_of t) → length (numbers_of v) ≡ length (numbers_of t) →
+    ((k : ℕ) → k < 16 → IsBelowChange (get_or t.parts k 0) (get_or u.parts k 0) (get_or v.parts k 0))
+    ↔ ((k : ℕ) → k < length (numbers_of t) → IsBelowChange (entry (numbers_of t) k) (entry (numbers_of u) k) (entry (numbers_of v) k))
+below_changes-padded t u v p q r same same' = (to, back)
+  where
+    to : ((k : ℕ) → k < 16 → IsBelowChange (get_or t.parts k 0) (get_or u.parts k 0) (get_or v.parts k 0)) → (k : ℕ) → k < length (numbers_of t) → IsBelowChange (entry (numbers_of t) k) (entry (numbers_of u) k) (entry (numbers_of v) k)
+    to all k l =
+        subst (λ b. IsBelowChange b (entry (numbers_of u) k) (entry (numbers_of v) k)) (entry-padded t p k l)
+        (subst (λ f. IsBelowChange (get_or t.parts k 0) f (entry (numbers_of v) k)) (entry-padded u q k (omega (arith, l, same)))
+        (subst (λ g. IsBelowChange (get_or t.parts k 0) (get_or u.parts k 0) g) (entry-padded v r k (omega (arith, l, same')))
+        (all k (omega (arith, l, length-take t.n t.parts, p.1)))))
+
+    back : ((k : ℕ) → k < length (numbers_of t) → IsBelowChange (entry (numbers_of t) k) (entry (numbers_of u) k) (entry (numbers_of v) k)) → (k : ℕ) → k < 16 → IsBelowChange (get_or t.parts k 0) (get_or u.parts k 0) (get_or v.parts k 0)
+    back all k l = elim (cases_lt k (length (numbers_of t))) [
+      | inl here ↦
+          subst (λ b. IsBelowChange b (get_or u.parts k 0) (get_or v.parts k 0)) (sym (entry-padded t p k here))
+          (subst (λ f. IsBelowChange (entry (numbers_of t) k) f (get_or v.parts k 0)) (sym (entry-padded u q k (omega (arith, here, same))))
+          (subst (λ g. IsBelowChange (entry (numbers_of t) k) (entry (numbers_of u) k) g) (sym (entry-padded v r k (omega (arith, here, same'))))
+          (all k here)))
+      | inr past ↦ inl (place-padded u q k l (omega (arith, past, same)) ∙ sym (place-padded v r k l (omega (arith, past, same'))))
+    ]

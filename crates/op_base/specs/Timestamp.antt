@@ -1,5 +1,5 @@
 -- Timestamps, as lists of one number a member.
-use Rattle.std.specs.Prelude.{ℕ, ◌+◌, max, Bool, nat_le, nat_lt, if◌then◌else◌, List, [], ◌∷◌, slice_index, replicate}
+use Rattle.std.specs.Prelude.{◌≡◌, ◌⊎◌, ℕ, ◌+◌, ◌<◌, max, Bool, nat_le, nat_lt, if◌then◌else◌, List, [], ◌∷◌, slice_index, replicate}
 use Rattle.std.specs.Cmp.Lexicographic.{pointwise}
 use Rattle.op_base.specs.declared.tag.MessageId.{MessageId}
 
@@ -26,6 +26,10 @@ count_above (x ∷ xs) (y ∷ ys) = (if nat_lt y x then 1 else 0) + count_above 
 -- whether no entry of the first is above that of the second
 abbrev pub at_most : List ℕ → List ℕ → Bool
 at_most xs ys = pointwise nat_le xs ys
+
+-- where one number isn't another, a bound is below both
+abbrev pub IsBelowChange : ℕ → ℕ → ℕ → Type 0
+IsBelowChange bound from to = (from ≡ to) ⊎ ((bound < from) × (bound < to))
 
 -- whether the number at an id's origin is at least the id's
 abbrev pub covers : List ℕ → MessageId → Bool

@@ -2,7 +2,7 @@
 //!
 //! Their texts are this project's own profile. UTF-8 is tested by `simdutf8`.
 
-ghost use Rattle.std.specs.Prelude.{◌≡◌, ◌≢◌, ◌≤◌, ◌+◌, ◌-◌, ◌*◌, ◌<◌, [], ◌∷◌, ◌++◌, length, take, drop, replicate, vec_len, vec_capacity, IfOk, IfErr, OnOk, OnErr, IsOk, IsTrue, position, not, Some, Ok};
+ghost use Rattle.std.specs.Prelude.{◌≡◌, ◌≢◌, ◌≤◌, ◌+◌, ◌-◌, ◌*◌, ◌<◌, [], ◌∷◌, ◌++◌, length, take, drop, replicate, vec_len, vec_capacity, IfOk, IfErr, IfSome, OnOk, OnErr, IsOk, IsTrue, is_some, position, nat_le, not, Some, Ok};
 ghost use Rattle.op_base.specs.declared.name.TheConstants.{VALUE_BYTES_IN_PLACE};
 ghost use Rattle.std.specs.List.{list_all};
 ghost use Rattle.std.specs.Prelude.{nat_eq, refl};
@@ -479,6 +479,40 @@ impl Value {
         match &self.stored {
             Stored::Short(short) => short.as_slice(),
             Stored::Long(bytes) => bytes.as_slice(),
+        }
+    }
+
+    /// Whether it stands in place: then a copy takes no memory.
+    #[inline(always)]
+    pub fn is_in_place(&self) -> bool
+        ensures { result ≡ nat_le (length self.now) VALUE_BYTES_IN_PLACE }
+    {
+        matches!(self.stored, Stored::Short(_))
+    }
+
+    /// An equal value of one that stands in place.
+    #[inline(always)]
+    pub fn copied_in_place(&self) -> Value
+        requires { length self.now ≤ VALUE_BYTES_IN_PLACE }
+        ensures { result ≡ self.now }
+    {
+        match &self.stored {
+            Stored::Short(short) => Value {
+                stored: Stored::Short(*short),
+            },
+            Stored::Long(_) => unreachable!(),
+        }
+    }
+
+    /// The bytes of one that stands in place, with zeros behind them. It is `None` exactly where it doesn't.
+    #[inline(always)]
+    pub fn padded(&self) -> Option<&[u8; VALUE_BYTES_IN_PLACE]>
+        ensures bytes { IfSome result (λ bytes. bytes.now ≡ self.now ++ replicate (VALUE_BYTES_IN_PLACE - length self.now) 0) }
+        ensures in_place { is_some result ≡ nat_le (length self.now) VALUE_BYTES_IN_PLACE }
+    {
+        match &self.stored {
+            Stored::Short(short) => Some(&short.bytes),
+            Stored::Long(_) => None,
         }
     }
 

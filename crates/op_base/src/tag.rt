@@ -1,7 +1,7 @@
 //! Timestamps: one number a member, as a textbook vector clock has it.
 
 ghost use Rattle.std.specs.Prelude.{◌≡◌, ℕ, ◌≤◌, ◌<◌, ◌^◌, ◌↔◌, min, length, slice_index, slice_set, IsTrue};
-ghost use Rattle.op_base.specs.Timestamp.{entry, zero_tag, join, count_above, at_most, covers};
+ghost use Rattle.op_base.specs.Timestamp.{entry, zero_tag, join, count_above, at_most, covers, IsBelowChange};
 ghost use Rattle.op_base.specs.declared.tag.TheConstants.{MOST_MEMBERS};
 
 use std::marker::Model;
@@ -138,6 +138,15 @@ impl Tag {
         self.count_above(other) == 0
     }
 
+    /// Whether, at each member where one timestamp differs from another, the number is below theirs.
+    pub fn is_below_changes(&self, from: &Tag, to: &Tag) -> bool
+        requires from { length from.now ≡ length self.now }
+        requires to { length to.now ≡ length self.now }
+        ensures { IsTrue result ↔ ((x : ℕ) → x < length self.now → IsBelowChange (entry self.now x) (entry from.now x) (entry to.now x)) }
+    {
+        are_below_changes(&self.parts, &from.parts, &to.parts)
+    }
+
     /// Whether the number at the id's origin is at least the id's.
     pub fn covers_id(&self, id: MessageId) -> bool
         requires { id.origin < length self.now }
@@ -168,4 +177,16 @@ fn lesser_at_places(parts: &[u32; 16], others: &[u32; 16]) -> [u32; 16]
         lesser[x] = lesser[x].min(others[x]);
     }
     lesser
+}
+
+/// Whether, at each place where one array differs from another, the number is below theirs. There is no early end, so that several
+/// places are told at once.
+fn are_below_changes(parts: &[u32; 16], from: &[u32; 16], to: &[u32; 16]) -> bool
+    ensures { IsTrue result ↔ ((x : ℕ) → x < 16 → IsBelowChange (slice_index parts.now x) (slice_index from.now x) (slice_index to.now x)) }
+{
+    let mut below = true;
+    for x in 0..16 {
+        below &= (from[x] == to[x]) | (parts[x] < from[x].min(to[x]));
+    }
+    below
 }

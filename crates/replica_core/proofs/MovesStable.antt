@@ -1,9 +1,7 @@
 -- What is stable, while it is moved from the log into items and lists.
-use Rattle.std.proofs.Common.{◌≡◌, ℕ, ◌+◌, ◌<◌, Bool, true, false, not, ◌&&◌, ◌==◌, nat_eq, take, IsTrue, List, [], ◌∷◌, ◌++◌, length, All, if◌then◌else◌, refl, sym, ap, subst, ◌∙◌, length-append, arith}
-use Rattle.std.specs.Cmp.Lexicographic.{pointwise, bytes_decides}
+use Rattle.std.proofs.Common.{◌≡◌, ℕ, ◌+◌, ◌<◌, Bool, true, false, not, ◌&&◌, IsTrue, List, [], ◌∷◌, ◌++◌, length, All, if◌then◌else◌, refl, sym, ap, subst, ◌∙◌, length-append, arith}
 use Rattle.std.specs.List.{filter}
-use Rattle.std.proofs.Math.Seq.{take-append_seam}
-use Rattle.std.proofs.lemmas.Bool.{and_parts, eqb-true, not-true, not_from_false}
+use Rattle.std.proofs.lemmas.Bool.{and_parts, not-true, not_from_false}
 use Rattle.std.proofs.lemmas.List.Elements.{All-append, All-cons, All-nil, All-filter, All-weaker, filter_passes}
 use Rattle.std.proofs.lemmas.List.FromFn.{length-map-range_with_len}
 use Rattle.std.proofs.lemmas.List.Filters.{length-filter_both}
@@ -27,14 +25,6 @@ use Rattle.stable_state.specs.Shelf.{Shelved}
 use Rattle.stable_state.specs.Standing.{AreAbsorbed}
 use Rattle.list_type.specs.Listed.{Listed, AreListsMoved}
 use Rattle.replica_core.specs.Settling.{AreLogged, AreWaiting}
-
--- numbers are equal where they are as many, and equal with what stands behind them
-pub same_numbers : (xs ys behind others : List ℕ) → ((length xs == length ys) && pointwise nat_eq (xs ++ behind) (ys ++ others)) ≡ true → xs ≡ ys
-same_numbers xs ys behind others t =
-    let both = and_parts (length xs == length ys) (pointwise nat_eq (xs ++ behind) (ys ++ others)) t in
-    let long : length xs ≡ length ys = eqb-true (length xs) (length ys) both.0 in
-    let whole : xs ++ behind ≡ ys ++ others = (bytes_decides (xs ++ behind) (ys ++ others)).0 both.1 in
-    sym (take-append_seam xs behind) ∙ (λ i. take (long i) (whole i)) ∙ take-append_seam ys others
 
 -- what is stripped leaves as many entries less
 pub parted_entries : (stable : List ℕ) (log stripped : Log) → stripped ≡ without_stable log stable → length stripped.stripped + length stripped.entries ≡ length log.entries
@@ -91,7 +81,7 @@ module _ (n w me : ℕ) (messages : List Message) (m : Message) (chapter : IsTru
 
 -- ---- where something may
 
-module _ {w limit : ℕ} {h : History} {m : Message} {log : Log} {items : Shelved} {lists : Listed} {epoch : ℕ} {id : MessageId} {before stable : List ℕ} (ready : AreLogged w limit h m log items lists epoch id before stable) where
+module _ {w limit : ℕ} {h : History} {m : Message} {log : Log} {items : Shelved} {lists : Listed} {epoch : ℕ} {id : MessageId} {moved : Bool} {stable : List ℕ} (ready : AreLogged w limit h m log items lists epoch id moved stable) where
   -- the messages are a chapter, and the stable counts one number a member
   chapter_of : IsTrue (is_chapter h.present.n w h.present.me (h.present.messages ++ m ∷ []))
   chapter_of = (IsHistory-from_test w (with_message h m) ready.of_history).chapter
@@ -108,9 +98,9 @@ module _ {w limit : ℕ} {h : History} {m : Message} {log : Log} {items : Shelve
       omega (arith, length-stable, (last_is_next h.present.n w h.present.me h.present.messages m chapter_of).1.member)
 
   -- where the counts stay and don't cover the id, log, items and lists are done
-  module _ (same : stable ≡ before) (covered : covers stable id ≡ false) where
+  module _ (unmoved : moved ≡ false) (covered : covers stable id ≡ false) where
     same_counts : stable_vector h.present.n h.present.me (with_message h m).present.messages ≡ stable_vector h.present.n h.present.me h.present.messages
-    same_counts = sym ready.counts ∙ same ∙ ready.counts_before
+    same_counts = sym ready.counts ∙ ready.stays unmoved
 
     is_unstable : is_stable (stable_vector h.present.n h.present.me (with_message h m).present.messages) m ≡ false
     is_unstable = (λ i. covers (sym ready.counts i) (sym ready.of_message i)) ∙ covered

@@ -14,7 +14,6 @@ use Rattle.causal_model.specs.Log.{log_of, message_of, kept_log}
 use Rattle.causal_model.specs.Parts.{is_on, ArePartsOf}
 use Rattle.causal_model.specs.Query.{IsWithin}
 use Rattle.causal_model.specs.State.{State}
-use Rattle.causal_model.proofs.Cells.Places.{items_are_cells}
 use Rattle.counter_types.proofs.Sums.{settled_is_in_range}
 use Rattle.polog.specs.Standing.{AreLoggedOf}
 use Rattle.polog.specs.Value.{is_of}

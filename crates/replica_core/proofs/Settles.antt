@@ -179,7 +179,7 @@ module _ (n me : ℕ) (messages : List Message) where
 
 -- ---- what the calls ask for
 
-module _ {w limit : ℕ} {h : History} {log : Log} {items : Shelved} {lists : Listed} {epoch : ℕ} {m : Message} {before stable : List ℕ} (ready : AreReady w limit h log items lists epoch m before stable) where
+module _ {w limit : ℕ} {h : History} {log : Log} {items : Shelved} {lists : Listed} {epoch : ℕ} {m : Message} {moved : Bool} {stable : List ℕ} (ready : AreReady w limit h log items lists epoch m moved stable) where
   -- the messages are a chapter with the next one, which fits the store
   chapter_of : IsTrue (is_chapter h.present.n w h.present.me (h.present.messages ++ m ∷ []))
   chapter_of = (IsHistory-from_test w (with_message h m) ready.of_history).chapter
@@ -220,7 +220,7 @@ module _ {w limit : ℕ} {h : History} {log : Log} {items : Shelved} {lists : Li
 
   -- what is stable can be moved once the message is logged
   pub are_logged : {logged : Log} {covered : Shelved} {put : Listed} → IsLogged store_keeps store_covers h.present.n h.present.me h.present.messages m logged → AreAbsorbed h m 0 covered → AreListsMoved h m 0 put
-      → (id : MessageId) → id ≡ id_of m → AreLogged w limit h m logged covered put epoch id before stable
+      → (id : MessageId) → id ≡ id_of m → AreLogged w limit h m logged covered put epoch id moved stable
   are_logged is absorbed lists_put id same = record {
     few = ready.few;
     of_history = ready.of_history;
@@ -230,7 +230,7 @@ module _ {w limit : ℕ} {h : History} {log : Log} {items : Shelved} {lists : Li
     in_epoch = ready.in_epoch;
     are_lists = lists_put;
     of_message = same;
-    counts_before = ready.counts_before;
+    stays = ready.stays;
     counts = ready.counts;
   }
 

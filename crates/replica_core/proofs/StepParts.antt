@@ -128,9 +128,9 @@ module _ (f : Fields) (s : State) (m : Message) (stands : Standing f s) (is : Is
       dropped ∙ ap (λ messages. record { n = f.n; w = f.w; messages = messages }) (sym (ap (λ (o : Sent). o.messages) dropped) ∙ left)
 
   -- log, items and lists
-  pub ready_with : 1 ≤ f.w → f.limit ≤ 1000000 → (before stable : List ℕ) → TellsStable f.matrix before → stable ≡ stable_vector f.n f.me (s.history.present.messages ++ m ∷ [])
-      → AreReady f.w f.limit s.history f.log f.items f.lists f.epoch m before stable
-  ready_with wide few before stable tells counts = record {
+  pub ready_with : 1 ≤ f.w → f.limit ≤ 1000000 → (moved : Bool) (stable : List ℕ) → (moved ≡ false → TellsStable f.matrix stable) → stable ≡ stable_vector f.n f.me (s.history.present.messages ++ m ∷ [])
+      → AreReady f.w f.limit s.history f.log f.items f.lists f.epoch m moved stable
+  ready_with wide few moved stable tells counts = record {
     wide = wide;
     few = few;
     of_history = is.is_history;
@@ -143,7 +143,7 @@ module _ (f : Fields) (s : State) (m : Message) (stands : Standing f s) (is : Is
       are_lists = lists_of f s stands;
     };
     room = stands.log_room ∙ ap (λ n. n * f.w) (sym stands.of_store);
-    counts_before = tells f.n f.me s.history.present.messages stands.matrix ∙ ap₂ (λ n me. stable_vector n me s.history.present.messages) (sym stands.of_store) (sym stands.of_member);
+    stays = λ unmoved. tells unmoved f.n f.me s.history.present.messages stands.matrix ∙ ap₂ (λ n me. stable_vector n me s.history.present.messages) (sym stands.of_store) (sym stands.of_member);
     counts = counts ∙ ap₂ (λ n me. stable_vector n me (s.history.present.messages ++ m ∷ [])) (sym stands.of_store) (sym stands.of_member);
   }
 
@@ -179,12 +179,12 @@ module _ (f : Fields) (s : State) (m : Message) (stands : Standing f s) (is : Is
   }
 
 -- All parts after the message, by their clauses: the fields stand for the state with it.
-module _ (f : Fields) (m : Message) (wide : 1 ≤ f.w) (few : f.limit ≤ 1000000) (counts before stable : List ℕ) (matrix : Known) (pushed window : Window) (held outbox : Sent) (log : Log) (items : Shelved) (lists : Listed) (due : Bool)
+module _ (f : Fields) (m : Message) (wide : 1 ≤ f.w) (few : f.limit ≤ 1000000) (moved : Bool) (counts stable : List ℕ) (matrix : Known) (pushed window : Window) (held outbox : Sent) (log : Log) (items : Shelved) (lists : Listed) (due : Bool)
     (is_counts : counts ≡ slice_set f.counts m.origin (entry m.tag m.origin))
-    (keeps : KeepsMatrix m f.matrix matrix) (told : TellsStable f.matrix before) (tells : TellsStable matrix stable)
+    (keeps : KeepsMatrix m f.matrix matrix) (told : moved ≡ false → TellsStable f.matrix stable) (tells : TellsStable matrix stable)
     (pushes : (messages : List Message) → IsWindowOf f.n f.w f.me messages f.window → IsWindowWith f.n f.w f.me messages m pushed) (drops : DropsHeld stable pushed window)
     (is_held : left_unstable stable held ≡ left_unstable stable (with_own_in f.matrix.me m f.outbox)) (is_outbox : outbox ≡ left_unstable stable held)
-    (settles : (h : History) → AreReady f.w f.limit h f.log f.items f.lists f.epoch m before stable → AreOf (with_message h m) log items lists) (room : log.room ≡ f.log.room)
+    (settles : (h : History) → AreReady f.w f.limit h f.log f.items f.lists f.epoch m moved stable → AreOf (with_message h m) log items lists) (room : log.room ≡ f.log.room)
     (had_room : length f.log.entries + length f.buffer.early + 1 ≤ f.items.spare) (spare : f.items.spare + length log.entries ≤ items.spare + (length f.log.entries + 1))
     (had_elements : insertions f.buffer.early + element_room m.op ≤ f.lists.spare) (elements : f.lists.spare ≤ lists.spare + element_room m.op) (deep : (most : ℕ) → AreWithin most f.lists → AreWithin (most + 1) lists)
     (is_due : due ≡ is_due_after f.me f.due m) where
@@ -194,7 +194,7 @@ module _ (f : Fields) (m : Message) (wide : 1 ≤ f.w) (few : f.limit ≤ 100000
       let messages = s.history.present.messages in
       let after = stable_with f s m stands is matrix stable keeps tells in
       standing_with f s m stands is counts matrix window log items lists outbox due is_counts (matrix_with f s m stands is matrix keeps)
-      (window_with f s m stands is pushed window stable after (pushes messages) drops) (settles s.history (ready_with f s m stands is wide few before stable told after)) room (omega (arith, had_room, spare)) (omega (arith, had_elements, elements))
+      (window_with f s m stands is pushed window stable after (pushes messages) drops) (settles s.history (ready_with f s m stands is wide few moved stable told after)) room (omega (arith, had_room, spare)) (omega (arith, had_elements, elements))
       (deep (f.epoch * 2 ^ 24 + length messages) (depths_of f s stands))
       (outbox_with f s m stands is held outbox stable after is_held is_outbox) is_due
 

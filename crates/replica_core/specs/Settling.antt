@@ -1,5 +1,5 @@
 -- What log, items and lists are while a message is put into them.
-use Rattle.std.specs.Prelude.{◌≡◌, ℕ, ◌≤◌, ◌*◌, IsTrue, List, Option, Some, None, if◌then◌else◌}
+use Rattle.std.specs.Prelude.{Bool, false, ◌≡◌, ℕ, ◌≤◌, ◌*◌, IsTrue, List, Option, Some, None, if◌then◌else◌}
 use Rattle.op_base.specs.Message.{id_of}
 use Rattle.op_base.specs.declared.message.Message.{Message}
 use Rattle.op_base.specs.declared.name.Kind.TheVariants.{Counter}
@@ -24,9 +24,9 @@ pub record AreOf (h : History) (log : Log) (items : Shelved) (lists : Listed) : 
   pub are_settled : AreSettledOf h items
   pub are_lists : AreListsOf h lists
 
--- They are those of a history of this epoch, and a message is its next one. The stable counts are the first without it, the
--- second with it.
-pub record AreReady (w limit : ℕ) (h : History) (log : Log) (items : Shelved) (lists : Listed) (epoch : ℕ) (m : Message) (before stable : List ℕ) : Type 0 where
+-- They are those of a history of this epoch, and a message is its next one. These are the stable counts with it, and where they
+-- haven't moved those without it too.
+pub record AreReady (w limit : ℕ) (h : History) (log : Log) (items : Shelved) (lists : Listed) (epoch : ℕ) (m : Message) (moved : Bool) (stable : List ℕ) : Type 0 where
   pub wide : 1 ≤ w
   pub few : limit ≤ 1000000
   pub of_history : IsTrue (is_history w (with_message h m))
@@ -34,12 +34,12 @@ pub record AreReady (w limit : ℕ) (h : History) (log : Log) (items : Shelved) 
   pub in_epoch : epoch ≡ epoch_of h
   pub are_of : AreOf h log items lists
   pub room : log.room ≡ h.present.n * w
-  pub counts_before : before ≡ stable_vector h.present.n h.present.me h.present.messages
+  pub stays : moved ≡ false → stable ≡ stable_vector h.present.n h.present.me h.present.messages
   pub counts : stable ≡ stable_vector h.present.n h.present.me (with_message h m).present.messages
 
 -- so it is for some history
-abbrev pub AreReadyForSome : Log → Shelved → Listed → ℕ → Message → List ℕ → List ℕ → Type 0
-AreReadyForSome log items lists epoch m before stable = (w : ℕ) × (limit : ℕ) × (h : History) × AreReady w limit h log items lists epoch m before stable
+abbrev pub AreReadyForSome : Log → Shelved → Listed → ℕ → Message → Bool → List ℕ → Type 0
+AreReadyForSome log items lists epoch m moved stable = (w : ℕ) × (limit : ℕ) × (h : History) × AreReady w limit h log items lists epoch m moved stable
 
 -- a log with a message's update, where its kind is logged
 abbrev pub with_logged : ℕ → List ℕ → Op → Log → Log
@@ -62,8 +62,9 @@ CanBeApplied None items = Unit {0}
 CanBeApplied (Some u) items = (u.object.kind ≡ Counter) × (1 ≤ items.spare) × HasRange items u
 
 -- What a history's next message covers is gone from log and items, the message is in the log where its kind is logged, and the
--- element that it puts in is in its list. This is its id, and the stable counts are the first without it, the second with it.
-pub record AreLogged (w limit : ℕ) (h : History) (m : Message) (log : Log) (items : Shelved) (lists : Listed) (epoch : ℕ) (id : MessageId) (before stable : List ℕ) : Type 0 where
+-- element that it puts in is in its list. This is its id, and these are the stable counts with it, and where they haven't moved those
+-- without it too.
+pub record AreLogged (w limit : ℕ) (h : History) (m : Message) (log : Log) (items : Shelved) (lists : Listed) (epoch : ℕ) (id : MessageId) (moved : Bool) (stable : List ℕ) : Type 0 where
   pub few : limit ≤ 1000000
   pub of_history : IsTrue (is_history w (with_message h m))
   pub of_limit : IsTrue (is_limited limit (with_message h m))
@@ -72,12 +73,12 @@ pub record AreLogged (w limit : ℕ) (h : History) (m : Message) (log : Log) (it
   pub in_epoch : epoch ≡ epoch_of h
   pub are_lists : AreListsMoved h m 0 lists
   pub of_message : id ≡ id_of m
-  pub counts_before : before ≡ stable_vector h.present.n h.present.me h.present.messages
+  pub stays : moved ≡ false → stable ≡ stable_vector h.present.n h.present.me h.present.messages
   pub counts : stable ≡ stable_vector h.present.n h.present.me (with_message h m).present.messages
 
 -- so it is for some history
-abbrev pub AreLoggedForSome : Log → Shelved → Listed → ℕ → MessageId → List ℕ → List ℕ → Type 0
-AreLoggedForSome log items lists epoch id before stable = (w : ℕ) × (limit : ℕ) × (h : History) × (m : Message) × AreLogged w limit h m log items lists epoch id before stable
+abbrev pub AreLoggedForSome : Log → Shelved → Listed → ℕ → MessageId → Bool → List ℕ → Type 0
+AreLoggedForSome log items lists epoch id moved stable = (w : ℕ) × (limit : ℕ) × (h : History) × (m : Message) × AreLogged w limit h m log items lists epoch id moved stable
 
 -- What is stable with a history's next message was stripped from the log, and the first k entries of that were handed out and
 -- are in items and lists. Those that are left wait.

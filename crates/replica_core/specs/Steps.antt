@@ -1,5 +1,5 @@
 -- What one message more makes of parts of a replica, and what the steps of receiving make of all its fields.
-use Rattle.std.specs.Prelude.{◌≡◌, ◌≢◌, ◌+◌, ◌≤◌, length, ℕ, Bool, not, ◌&&◌, ◌||◌, ◌==◌, IsTrue, List, [], ◌∷◌, ◌++◌, Some, if◌then◌else◌}
+use Rattle.std.specs.Prelude.{◌≡◌, ◌≢◌, ◌+◌, ◌≤◌, length, ℕ, Bool, not, ◌&&◌, ◌||◌, ◌==◌, IsTrue, option_copied, unwrap_or, List, [], ◌∷◌, ◌++◌, Some, if◌then◌else◌}
 use Rattle.op_base.specs.CopyRooms.{IsCopyRoomFor}
 use Rattle.op_base.specs.Message.{id_of}
 use Rattle.op_base.specs.declared.message.Message.{Message}
@@ -20,10 +20,10 @@ use Rattle.replica_core.specs.declared.step.Sender.{Sender}
 use Rattle.replica_core.specs.declared.step.Sender.TheVariants as sender
 
 -- who sent a message that comes to a member with this matrix: of an own one there is room for a copy, of another member's the
--- least of each column once it is noted
+-- least of each column once it is noted, where that moves
 abbrev pub IsSender : ℕ → Known → Message → Sender → Type 0
 IsSender me matrix m (sender.Own room) = (m.origin ≡ me) × IsCopyRoomFor room m.op
-IsSender me matrix m (sender.Other stable) = (m.origin ≢ me) × (stable.now ≡ stable_of (noted matrix.me m.origin m.tag matrix.rows))
+IsSender me matrix m (sender.Other moved) = (m.origin ≢ me) × (unwrap_or (option_copied moved) (stable_of matrix.rows) ≡ stable_of (noted matrix.me m.origin m.tag matrix.rows))
 
 -- where the matrix was that of messages of which this is the next, it is that of those with it
 abbrev pub KeepsMatrix : Message → Known → Known → Type 0

@@ -1,6 +1,6 @@
 //! Receiving messages of others, and delivering them in causal order.
 
-ghost use Rattle.std.specs.Prelude.{◌≡◌, ◌↔◌, ◌+◌, ◌<◌, ◌≤◌, false, [], length, vec_capacity, IsTrue, IfOk, OnErr, OnOk, Some, None};
+ghost use Rattle.std.specs.Prelude.{◌≡◌, ◌↔◌, ◌+◌, ◌<◌, ◌≤◌, false, [], length, vec_capacity, unwrap_or, IsTrue, IfOk, OnErr, OnOk, Some, None};
 ghost use Rattle.std.specs.Option.{IfSome, IfNone};
 ghost use Rattle.op_base.specs.Message.{fits, id_of};
 ghost use Rattle.op_base.specs.declared.message.Message.{Message as AMessage};
@@ -11,6 +11,7 @@ ghost use Rattle.causal_model.specs.Receiving.{is_old, is_far, next_of, next_ear
 ghost use Rattle.causal_model.specs.Receiving.{steps as steps_of};
 ghost use Rattle.causal_model.specs.State.{State};
 ghost use Rattle.list_type.specs.Shown.{shown as lists_shown};
+ghost use Rattle.stability_matrix.specs.Rows.{stable_of};
 ghost use Rattle.stable_state.specs.Shown.{shown};
 ghost use Rattle.replica_core.specs.Insertions.{insertions, element_room};
 
@@ -20,6 +21,7 @@ use crate::step::Sender;
 use causal_buffer::{CausalBuffer, is_deliverable};
 use causal_model::{Receive, Refusal};
 use op_base::{Message, MessageId, NoMemory, Op, Step, StepList, Tag};
+use stability_matrix::Matrix;
 use std::alloc::Global;
 
 impl Replica {
@@ -185,11 +187,12 @@ impl Replica {
         ensures buffer { self.new.buffer ≡ self.old.buffer }
     {
         let id = message.id();
-        let last = self.matrix.row(message.origin);
-        let stable = self.matrix.stable_with(message.origin, &message.tag);
-        match self.window.check(message, &last, &stable) {
+        let last = self.matrix.row_at(message.origin);
+        let moved = self.matrix.stable_moved(message.origin, &message.tag);
+        let stable = counts_after(&self.matrix, &moved);
+        match self.window.check(message, last, stable) {
             Ok(()) => {
-                self.step(message, Sender::Other(&stable));
+                self.step(message, Sender::Other(moved.as_ref()));
                 Step::Took(id)
             }
             Err(crook) => Step::Crook(id, crook),
@@ -207,4 +210,14 @@ fn comes_next(buffer: &mut CausalBuffer, message: &Message, counts: &Tag) -> boo
     ensures unchanged { buffer.new ≡ buffer.old }
 {
     is_deliverable(message, counts) && buffer.comes_next(message, counts)
+}
+
+/// What is stable once a message is noted, by what it moves.
+fn counts_after<'a>(matrix: &'a Matrix, moved: &'a Option<Tag>) -> &'a Tag
+    ensures { result.now ≡ unwrap_or moved.now (stable_of matrix.now.rows) }
+{
+    match moved {
+        Some(stable) => stable,
+        None => matrix.stable_counts(),
+    }
 }

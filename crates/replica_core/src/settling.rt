@@ -30,22 +30,22 @@ use type_rules::StoreRule;
 
 /// Takes out of log and items what a message covers, puts the message into the log where its kind keeps it, and its element
 /// into a list where it has one, and moves what is stable now from the log into items and lists. Then the items' marks are
-/// settled. `before` has the stable counts without the message, and `stable` those with it. The operation is taken out of the
-/// message where it is logged, put into a list or applied.
+/// settled. `stable` has the stable counts with the message; where they haven't moved, they are those without it too. The operation is
+/// taken out of the message where it is logged, put into a list or applied.
 pub fn settle(
     log: &mut Polog,
     items: &mut Items,
     lists: &mut Lists,
     epoch: u32,
     message: &mut Message,
-    before: &Tag,
+    moved: bool,
     stable: &Tag,
 )
-    requires ready { ∥ AreReadyForSome log.old (shown items.old) (lists_shown lists.old) epoch message.old before.now stable.now ∥₁ }
+    requires ready { ∥ AreReadyForSome log.old (shown items.old) (lists_shown lists.old) epoch message.old moved stable.now ∥₁ }
     requires spare { length log.old.entries + 1 ≤ (shown items.old).spare }
     requires lists_spare { element_room message.old.op ≤ (lists_shown lists.old).spare }
     requires deep { AreWithin (2 ^ 63) (lists_shown lists.old) }
-    ensures are_of { (w limit : ℕ) (h : History) → AreReady w limit h log.old (shown items.old) (lists_shown lists.old) epoch message.old before.now stable.now
+    ensures are_of { (w limit : ℕ) (h : History) → AreReady w limit h log.old (shown items.old) (lists_shown lists.old) epoch message.old moved stable.now
         → AreOf (with_message h message.old) log.new (shown items.new) (lists_shown lists.new) }
     ensures room { log.new.room ≡ log.old.room }
     // the room for items falls by no more than the log does, and one for the message
@@ -56,7 +56,7 @@ pub fn settle(
     cover(items, &message.op);
     let id = message.id();
     note(log, lists, epoch, message);
-    move_stable(log, items, lists, epoch, id, before, stable);
+    move_stable(log, items, lists, epoch, id, moved, stable);
     apply(items, message);
     items.settle_marks(log.grouped());
 }
@@ -144,31 +144,31 @@ fn insert(lists: &mut Lists, epoch: u32, message: &mut Message, log: &Polog)
     }
 }
 
-/// Moves what is stable from the log into items and lists. Where the stable counts are as they were before the log's last
-/// message, and this isn't stable, no entry is, and none is looked at.
+/// Moves what is stable from the log into items and lists. Where the stable counts haven't moved with the log's last message, and this
+/// isn't stable, no entry is, and none is looked at.
 fn move_stable(
     log: &mut Polog,
     items: &mut Items,
     lists: &mut Lists,
     epoch: u32,
     id: MessageId,
-    before: &Tag,
+    moved: bool,
     stable: &Tag,
 )
-    requires logged { ∥ AreLoggedForSome log.old (shown items.old) (lists_shown lists.old) epoch id before.now stable.now ∥₁ }
+    requires logged { ∥ AreLoggedForSome log.old (shown items.old) (lists_shown lists.old) epoch id moved stable.now ∥₁ }
     requires spare { length log.old.entries ≤ (shown items.old).spare }
-    ensures absorbed { (w limit : ℕ) (h : History) (m : AMessage) → AreLogged w limit h m log.old (shown items.old) (lists_shown lists.old) epoch id before.now stable.now
+    ensures absorbed { (w limit : ℕ) (h : History) (m : AMessage) → AreLogged w limit h m log.old (shown items.old) (lists_shown lists.old) epoch id moved stable.now
         → AreAbsorbed h m (length (stripped_of h m)) (shown items.new) }
-    ensures moved { (w limit : ℕ) (h : History) (m : AMessage) → AreLogged w limit h m log.old (shown items.old) (lists_shown lists.old) epoch id before.now stable.now
+    ensures moved { (w limit : ℕ) (h : History) (m : AMessage) → AreLogged w limit h m log.old (shown items.old) (lists_shown lists.old) epoch id moved stable.now
         → AreListsMoved h m (length (stripped_of h m)) (lists_shown lists.new) }
-    ensures log { (w limit : ℕ) (h : History) (m : AMessage) → AreLogged w limit h m log.old (shown items.old) (lists_shown lists.old) epoch id before.now stable.now
+    ensures log { (w limit : ℕ) (h : History) (m : AMessage) → AreLogged w limit h m log.old (shown items.old) (lists_shown lists.old) epoch id moved stable.now
         → IsLogOf store_keeps store_covers h.present.n h.present.me (with_message h m).present.messages log.new }
     ensures room { log.new.room ≡ log.old.room }
     ensures spare { (shown items.old).spare + length log.new.entries ≤ (shown items.new).spare + length log.old.entries }
     ensures lists_spare { (lists_shown lists.old).spare ≤ (lists_shown lists.new).spare }
     ensures deep { (most : ℕ) → AreWithin most (lists_shown lists.old) → AreWithin most (lists_shown lists.new) }
 {
-    if *stable == *before && !stable.covers_id(id) {
+    if !moved && !stable.covers_id(id) {
         return;
     }
     log.strip(stable);

@@ -1,6 +1,6 @@
 //! One step of a replica: a message becomes the next of its history.
 
-ghost use Rattle.std.specs.Prelude.{◌≡◌, ◌+◌, ◌<◌, ◌≤◌, not, length, All, IsTrue};
+ghost use Rattle.std.specs.Prelude.{false, ◌≡◌, ◌+◌, ◌<◌, ◌≤◌, not, length, All, IsTrue};
 ghost use Rattle.op_base.specs.Message.{fits};
 ghost use Rattle.causal_model.specs.State.{with_own, State};
 ghost use Rattle.causal_model.specs.Stability.{carries_operation};
@@ -10,6 +10,7 @@ ghost use Rattle.list_type.specs.Shown.{shown as lists_shown};
 ghost use Rattle.stable_state.specs.Shown.{shown};
 ghost use Rattle.replica_core.specs.Insertions.{insertions, element_room};
 ghost use Rattle.stability_matrix.specs.Rows.{stable_of};
+ghost use Rattle.stability_matrix.specs.Standing.{KeepsStable};
 ghost use Rattle.replica_core.specs.Steps.{IsSender, KeepsMatrix, is_due_after, with_own_in, left_unstable};
 
 use crate::replica::Replica;
@@ -23,8 +24,8 @@ use stability_matrix::Matrix;
 pub(crate) enum Sender<'a> {
     /// The replica itself: memory for a copy of the message, which is sent again until it is stable.
     Own(CopyRoom),
-    /// Another member: what is stable once the message is delivered.
-    Other(&'a Tag),
+    /// Another member: what is stable once the message is delivered, where that isn't what is stable now.
+    Other(Option<&'a Tag>),
 }
 
 impl Replica {
@@ -42,8 +43,7 @@ impl Replica {
         ensures buffer { self.new.buffer ≡ self.old.buffer }
     {
         let origin = message.origin;
-        let before = self.matrix.stable();
-        note(&mut self.matrix, &mut self.outbox, message, sender);
+        let moved = note(&mut self.matrix, &mut self.outbox, message, sender);
         self.counts.set(origin, message.tag.at(origin));
         self.due = is_due(self.due, self.me, message);
         let stable = self.matrix.stable_counts();
@@ -57,15 +57,16 @@ impl Replica {
             &mut self.lists,
             epoch,
             message,
-            &before,
+            moved,
             stable,
         );
     }
 }
 
 /// Notes a member's next message in its matrix, and puts a copy of an own one behind those that are sent again, unless it is
-/// stable at once, as in a store of one member. What isn't stable is then what it is with the message among them.
-fn note(matrix: &mut Matrix, outbox: &mut Outbox, message: &Message, sender: Sender<'_>)
+/// stable at once, as in a store of one member. What isn't stable is then what it is with the message among them. Says whether other
+/// messages are stable then.
+fn note(matrix: &mut Matrix, outbox: &mut Outbox, message: &Message, sender: Sender<'_>) -> bool
     requires origin { message.now.origin < length matrix.old.rows }
     requires entries { length message.now.tag ≡ length matrix.old.rows }
     requires sender { IsSender matrix.old.me matrix.old message.now sender }
@@ -74,16 +75,21 @@ fn note(matrix: &mut Matrix, outbox: &mut Outbox, message: &Message, sender: Sen
     requires next { message.now.origin ≡ matrix.old.me → All (λ e. ComesAfter e message.now) outbox.old.messages }
     ensures members { length matrix.new.rows ≡ length matrix.old.rows }
     ensures known { KeepsMatrix message.now matrix.old matrix.new }
+    ensures stays { result ≡ false → KeepsStable matrix.old matrix.new }
     ensures outbox { left_unstable (stable_of matrix.new.rows) outbox.new ≡ left_unstable (stable_of matrix.new.rows) (with_own_in matrix.old.me message.now outbox.old) }
 {
     match sender {
         Sender::Own(room) => {
-            matrix.note_own(message.tag);
+            let moved = matrix.note_own_moving(&message.tag);
             if !matrix.is_stable(message.id()) {
                 outbox.push(message.copied(room));
             }
+            moved
         }
-        Sender::Other(stable) => matrix.note_with(message.origin, &message.tag, stable),
+        Sender::Other(moved) => {
+            matrix.note_moved(message.origin, &message.tag, moved);
+            moved.is_some()
+        }
     }
 }
 

@@ -3,7 +3,7 @@ use Rattle.std.proofs.Common.{◌≡◌, ℕ, ◌<◌, All, List, [], ◌++◌, 
 use Rattle.std.proofs.lemmas.List.{take_at, get_or_default, get_or-take}
 use Rattle.stability_matrix.specs.declared.matrix.Matrix.TheInside.{Inside}
 use Rattle.stability_matrix.specs.Fields.{rows_of, known_of, IsKept}
-use Rattle.stability_matrix.specs.Rows.{row_of, stable_of, noted}
+use Rattle.stability_matrix.specs.Rows.{Known, row_of, stable_of, noted}
 use Rattle.stability_matrix.proofs.Entries.{length-stable_of, square-noted}
 
 module _ (m : Inside) (kept : IsKept m) where
@@ -26,6 +26,14 @@ module _ (m : Inside) (kept : IsKept m) where
   pub known-after : (after : List (List ℕ)) (stable : List ℕ) → length after ≡ m.n
       → known_of record { n = m.n; me = m.me; rows = after ++ drop m.n m.rows; stable = stable } ≡ record { me = m.me; rows = after }
   known-after after stable same = ap (λ rows. record { me = m.me; rows = rows }) (take_at after (drop m.n m.rows) m.n same)
+
+  -- and the stable counts of these
+  pub stable-after : (after : List (List ℕ)) (stable : List ℕ) → length after ≡ m.n → stable ≡ stable_of after → stable ≡ stable_of (take m.n (after ++ drop m.n m.rows))
+  stable-after after stable same is = is ∙ ap stable_of (sym (take_at after (drop m.n m.rows) m.n same))
+
+  -- the kept ones are those of the rows that are shown
+  pub stable-kept_of : (known : Known) → known_of m ≡ known → m.stable ≡ stable_of known.rows
+  stable-kept_of known is = kept.least ∙ ap (λ (known : Known). stable_of known.rows) is
 
   pub kept-noted : (origin : ℕ) (tag : List ℕ) (after : List (List ℕ)) (stable : List ℕ) → length tag ≡ m.n → after ≡ noted m.me origin tag (rows_of m)
       → length after ≡ m.n → stable ≡ stable_of after → IsKept record { n = m.n; me = m.me; rows = after ++ drop m.n m.rows; stable = stable }

@@ -4,7 +4,7 @@ use Rattle.std.proofs.lemmas.Bool.{cases_lt, cases_eq}
 use Rattle.std.proofs.lemmas.Grind.{get_or-set_at}
 use Rattle.std.proofs.lemmas.List.{set-get_or}
 use Rattle.causal_model.specs.Stability.{minimum}
-use Rattle.stability_matrix.specs.Rows.{LeastStays}
+use Rattle.op_base.specs.Timestamp.{IsBelowChange}
 
 minimum_below : (xs : List ℕ) (k : ℕ) → k < length xs → minimum xs ≤ get_or xs k 0
 minimum_below [] k l = absurd (omega (arith, l))
@@ -42,7 +42,7 @@ minimum-set_above (x ∷ xs) k v l was now =
     ]) there.0 (omega (arith, there.1, length-set (x ∷ xs) k v)) (get_or-set_other (x ∷ xs) k there.0 v 0 apart ∙ there.2)
 
 -- or where the number set is the one that was there
-pub minimum-set : (xs : List ℕ) (k v : ℕ) → k < length xs → LeastStays (minimum xs) (get_or xs k 0) v → minimum (set xs k v) ≡ minimum xs
+pub minimum-set : (xs : List ℕ) (k v : ℕ) → k < length xs → IsBelowChange (minimum xs) (get_or xs k 0) v → minimum (set xs k v) ≡ minimum xs
 minimum-set xs k v l stays = elim stays [
   | inl e ↦ ap (λ w. minimum (set xs k w)) (sym e) ∙ ap minimum (set-get_or xs k 0)
   | inr above ↦ minimum-set_above xs k v l above.0 above.1

@@ -4,14 +4,14 @@ use Rattle.std.proofs.lemmas.Bool.{cases_eq}
 use Rattle.std.proofs.lemmas.Grind.{get_or-set_at}
 use Rattle.std.proofs.lemmas.List.{map-set}
 use Rattle.std.proofs.lemmas.List.Elements.{All-set}
-use Rattle.op_base.specs.Timestamp.{entry}
+use Rattle.op_base.specs.Timestamp.{entry, IsBelowChange}
 use Rattle.causal_model.specs.Stability.{minimum}
-use Rattle.stability_matrix.specs.Rows.{row_of, column_of, stable_of, noted, LeastStays}
+use Rattle.stability_matrix.specs.Rows.{row_of, column_of, stable_of, noted}
 use Rattle.stability_matrix.proofs.Entries.{length-column, get_or-column, entry-stable_of, length-stable_of, is_stable_of}
 use Rattle.stability_matrix.proofs.Minimums.{minimum-set}
 
 -- what holds of numbers holds of equal ones
-pub stays-is : (least was now : ℕ) (l w v : ℕ) → l ≡ least → w ≡ was → v ≡ now → LeastStays least was now → LeastStays l w v
+pub stays-is : (least was now : ℕ) (l w v : ℕ) → l ≡ least → w ≡ was → v ≡ now → IsBelowChange least was now → IsBelowChange l w v
 stays-is least was now l w v at_least at_was at_now stays = elim stays [
   | inl e ↦ inl (at_was ∙ e ∙ sym at_now)
   | inr above ↦ inr (omega (arith, above.0, at_least, at_was), omega (arith, above.1, at_least, at_now))
@@ -32,7 +32,7 @@ module _ (me origin : ℕ) (tag : List ℕ) (rows : List (List ℕ)) where
 
   module _ (own : me < length rows) (there : origin < length rows) where
     -- the origin's row replaced moves no least
-    least-replaced : (x : ℕ) → LeastStays (minimum (column_of rows x)) (entry (row_of rows origin) x) (entry tag x)
+    least-replaced : (x : ℕ) → IsBelowChange (minimum (column_of rows x)) (entry (row_of rows origin) x) (entry tag x)
         → minimum (column_of replaced x) ≡ minimum (column_of rows x)
     least-replaced x stays =
         let column = column_of rows x in
@@ -41,7 +41,7 @@ module _ (me origin : ℕ) (tag : List ℕ) (rows : List (List ℕ)) where
         (stays-is (minimum column) (entry (row_of rows origin) x) (entry tag x) (minimum column) (get_or column origin 0) (entry tag x) refl (get_or-column rows x origin there) refl stays)
 
     -- nor does an entry of the own row set
-    least-own_row : (x : ℕ) → LeastStays (minimum (column_of replaced x)) (entry (row_of replaced me) x) (entry own_row x)
+    least-own_row : (x : ℕ) → IsBelowChange (minimum (column_of replaced x)) (entry (row_of replaced me) x) (entry own_row x)
         → minimum (column_of (noted me origin tag rows) x) ≡ minimum (column_of replaced x)
     least-own_row x stays =
         let column = column_of replaced x in
@@ -65,8 +65,8 @@ module _ (me origin : ℕ) (tag : List ℕ) (rows : List (List ℕ)) where
 
     module _ (square : All (λ row. length row ≡ length rows) rows) (len : length tag ≡ length rows) where
       -- in the origin's column the own entry becomes the message's number, in the others it is what it was
-      own_entry-stays : (x least : ℕ) → (x ≡ origin → LeastStays least (entry (row_of rows me) origin) (entry tag origin))
-          → LeastStays least (entry (row_of replaced me) x) (entry own_row x)
+      own_entry-stays : (x least : ℕ) → (x ≡ origin → IsBelowChange least (entry (row_of rows me) origin) (entry tag origin))
+          → IsBelowChange least (entry (row_of replaced me) x) (entry own_row x)
       own_entry-stays x least stays = elim (cases_eq x origin) [
         | inr ne ↦ inl (sym (get_or-set_other (row_of replaced me) origin x (entry tag origin) 0 ne))
         | inl e ↦
@@ -80,8 +80,8 @@ module _ (me origin : ℕ) (tag : List ℕ) (rows : List (List ℕ)) where
       ]
 
       -- so all leasts stay where each moved entry was and is above its column's
-      pub stable-kept : ((x : ℕ) → x < length rows → LeastStays (entry (stable_of rows) x) (entry (row_of rows origin) x) (entry tag x))
-          → LeastStays (entry (stable_of rows) origin) (entry (row_of rows me) origin) (entry tag origin) → stable_of (noted me origin tag rows) ≡ stable_of rows
+      pub stable-kept : ((x : ℕ) → x < length rows → IsBelowChange (entry (stable_of rows) x) (entry (row_of rows origin) x) (entry tag x))
+          → IsBelowChange (entry (stable_of rows) origin) (entry (row_of rows me) origin) (entry tag origin) → stable_of (noted me origin tag rows) ≡ stable_of rows
       stable-kept each at_own =
           let stable = stable_of rows in
           sym (is_stable_of (noted me origin tag rows) stable (length-stable_of rows ∙ sym length-noted) (λ x within.
@@ -96,7 +96,7 @@ module _ (me origin : ℕ) (tag : List ℕ) (rows : List (List ℕ)) where
 
 -- a row replaced moves no least of a column where its entry moves none
 pub column-stays : (rows : List (List ℕ)) (y : ℕ) (tag : List ℕ) (x : ℕ) → y < length rows
-    → LeastStays (minimum (column_of rows x)) (entry (row_of rows y) x) (entry tag x) → minimum (column_of (set rows y tag) x) ≡ minimum (column_of rows x)
+    → IsBelowChange (minimum (column_of rows x)) (entry (row_of rows y) x) (entry tag x) → minimum (column_of (set rows y tag) x) ≡ minimum (column_of rows x)
 column-stays rows y tag x l stays = least-replaced y y tag rows l l x stays
 
 -- ---- columns gone through from the first: the least of each so far is that of the rows, and the others are what they were

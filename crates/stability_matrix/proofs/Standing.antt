@@ -134,3 +134,7 @@ pub zeros_are_square : (n : ℕ) → All (λ row. length row ≡ n) (replicate n
 zeros_are_square n y d l =
     let k : y < n = omega (arith, l, length-replicate n (zero_tag n)) in
     ap length (get_or-replicate n y (zero_tag n) d k) ∙ length-replicate n 0
+
+-- of a matrix with the same stable counts these are those of the same messages
+pub keeps_stable : (old : Known) (stable : List ℕ) → stable ≡ stable_of old.rows → (n me : ℕ) (messages : List Message) → IsMatrixOf n me messages old → stable ≡ stable_vector n me messages
+keeps_stable old stable same n me messages of = same ∙ ap stable_of of.known ∙ stable_of-known n me messages

@@ -1,5 +1,5 @@
 -- Matrices of timestamps: a row for each member, which is what the member is known to have.
-use Rattle.std.specs.Prelude.{◌≡◌, ◌⊎◌, ℕ, ◌<◌, List, [], map, length, slice_set}
+use Rattle.std.specs.Prelude.{ℕ, List, [], map, length, slice_set}
 use Rattle.std.specs.List.{slice_index_or}
 use Rattle.op_base.specs.Timestamp.{entry}
 use Rattle.causal_model.specs.Counts.{members}
@@ -29,7 +29,3 @@ entry_set member at value rows = slice_set rows member (slice_set (row_of rows m
 -- the rows after a message of an origin: the origin's row is its timestamp, and so is member me's own entry of the origin
 abbrev pub noted : ℕ → ℕ → List ℕ → List (List ℕ) → List (List ℕ)
 noted me origin tag rows = entry_set me origin (entry tag origin) (slice_set rows origin tag)
-
--- where an entry moves, it was and is above its column's least
-abbrev pub LeastStays : ℕ → ℕ → ℕ → Type 0
-LeastStays least was now = (was ≡ now) ⊎ ((least < was) × (least < now))

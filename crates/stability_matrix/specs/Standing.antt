@@ -3,7 +3,7 @@ use Rattle.std.specs.Prelude.{◌≡◌, ℕ, IsTrue, List, [], ◌∷◌, ◌++
 use Rattle.op_base.specs.declared.message.Message.{Message}
 use Rattle.causal_model.specs.Counts.{members, counts, next_tag, is_deliverable}
 use Rattle.causal_model.specs.Stability.{known_vector, stable_vector}
-use Rattle.stability_matrix.specs.Rows.{Known}
+use Rattle.stability_matrix.specs.Rows.{Known, stable_of}
 
 -- a matrix is that of messages which member me of n delivered: its rows are the known vectors
 pub record IsMatrixOf (n me : ℕ) (messages : List Message) (matrix : Known) : Type 0 where
@@ -30,3 +30,7 @@ KeepsKnownOfOwn tag old new = (n me : ℕ) (messages : List Message) (m : Messag
 abbrev pub StableAfter : ℕ → List ℕ → Known → List ℕ → Type 0
 StableAfter origin tag matrix stable = (n me : ℕ) (messages : List Message) (m : Message) → IsMatrixOf n me messages matrix
     → ComesNext n origin tag messages m → stable ≡ stable_vector n me (messages ++ m ∷ [])
+
+-- where the matrix was that of messages, its stable counts are theirs still
+abbrev pub KeepsStable : Known → Known → Type 0
+KeepsStable old new = (n me : ℕ) (messages : List Message) → IsMatrixOf n me messages old → stable_of new.rows ≡ stable_vector n me messages

@@ -1,9 +1,9 @@
 //! The rows of a matrix, as a message is noted in them, and the least of each of their columns.
 
 ghost use Rattle.std.specs.Prelude.{◌≡◌, ◌≢◌, ◌<◌, ◌≤◌, ℕ, min, length, slice_set, All, IsTrue};
-ghost use Rattle.op_base.specs.Timestamp.{entry};
+ghost use Rattle.op_base.specs.Timestamp.{entry, IsBelowChange};
 ghost use Rattle.causal_model.specs.Stability.{minimum};
-ghost use Rattle.stability_matrix.specs.Rows.{column_of, stable_of, noted, LeastStays};
+ghost use Rattle.stability_matrix.specs.Rows.{column_of, stable_of, noted};
 
 use op_base::Tag;
 
@@ -16,8 +16,7 @@ pub(crate) fn note_in(rows: &mut [Tag], me: u8, origin: u8, tag: &Tag)
     ensures { rows.new ≡ noted me origin tag.now rows.old }
 {
     rows[origin as usize] = *tag;
-    let own = raised(&rows[me as usize], origin, tag);
-    rows[me as usize] = own;
+    rows[me as usize].set(origin, tag.at(origin));
 }
 
 /// A row with the number of a message of `origin` in it.
@@ -88,7 +87,7 @@ fn least_in(rows: &[Tag], x: u8) -> u32
 
 /// Whether a column's least stays where an entry of it moves: it doesn't, or was and is above the least.
 pub(crate) fn least_stays(least: u32, was: u32, now: u32) -> bool
-    ensures { IsTrue result → LeastStays least was now }
+    ensures { IsTrue result → IsBelowChange least was now }
 {
     (was == now) | (least < was) & (least < now)
 }

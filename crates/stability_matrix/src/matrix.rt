@@ -1,6 +1,6 @@
 //! A matrix of timestamps: what a replica knows that each member has.
 
-ghost use Rattle.std.specs.Prelude.{◌≡◌, ◌≢◌, ℕ, ◌<◌, ◌≤◌, List, [], length, slice_set, replicate, IsTrue};
+ghost use Rattle.std.specs.Prelude.{◌≡◌, ◌≢◌, ◌↔◌, ℕ, ◌<◌, ◌≤◌, false, List, [], length, slice_set, replicate, is_some, option_copied, unwrap_or, IfSome, IsTrue};
 ghost use Rattle.op_base.specs.Message.{id_of};
 ghost use Rattle.op_base.specs.Timestamp.{zero_tag, covers};
 ghost use Rattle.op_base.specs.declared.message.Message.{Message};
@@ -37,7 +37,7 @@ impl Model for Matrix {
 
 impl Matrix {
     ghost use Rattle.stability_matrix.specs.Rows.{row_of, stable_of, noted};
-    ghost use Rattle.stability_matrix.specs.Standing.{IsMatrixOf, KeepsKnown, KeepsKnownOfOwn, StableAfter};
+    ghost use Rattle.stability_matrix.specs.Standing.{IsMatrixOf, KeepsKnown, KeepsKnownOfOwn, KeepsStable, StableAfter};
 
     /// The matrix of a member of `n` before anything was delivered: all zeros.
     pub fn new(n: u8, me: u8) -> Matrix
@@ -85,22 +85,23 @@ impl Matrix {
         ensures members { length self.new.rows ≡ length self.old.rows }
         ensures known { KeepsKnown origin tag self.old self.new }
     {
-        let stable = self.stable_with(origin, &tag);
-        self.note_with(origin, &tag, &stable);
+        let moved = self.stable_moved(origin, &tag);
+        self.note_moved(origin, &tag, moved.as_ref());
     }
 
-    /// As `note`, where it is known what `stable_with` gives: no least is computed.
-    pub fn note_with(&mut self, origin: u8, tag: &Tag, stable: &Tag)
+    /// As `note`, where it is known what `stable_moved` gives: no least is computed.
+    pub fn note_moved(&mut self, origin: u8, tag: &Tag, moved: Option<&Tag>)
         requires origin { origin < length self.old.rows }
         requires other { origin ≢ self.old.me }
         requires entries { length tag.now ≡ length self.old.rows }
-        requires stable { stable.now ≡ stable_of (noted self.old.me origin tag.now self.old.rows) }
+        requires moved { unwrap_or (option_copied moved) (stable_of self.old.rows) ≡ stable_of (noted self.old.me origin tag.now self.old.rows) }
         ensures noted { self.new ≡ record { me = self.old.me; rows = noted self.old.me origin tag.now self.old.rows } }
         ensures members { length self.new.rows ≡ length self.old.rows }
         ensures known { KeepsKnown origin tag.now self.old self.new }
+        ensures stays { is_some (option_copied moved.entry) ≡ false → KeepsStable self.old self.new }
     {
         note_in(&mut self.rows[..self.n as usize], self.me, origin, tag);
-        self.stable = *stable;
+        become_moved(&mut self.stable, moved);
     }
 
     /// Notes an own message: the own row becomes the timestamp.
@@ -110,8 +111,23 @@ impl Matrix {
         ensures members { length self.new.rows ≡ length self.old.rows }
         ensures known { KeepsKnownOfOwn tag self.old self.new }
     {
+        self.note_own_moving(&tag);
+    }
+
+    /// As `note_own`, and says whether `stable` gives something else then.
+    pub fn note_own_moving(&mut self, tag: &Tag) -> bool
+        requires { length tag.now ≡ length self.old.rows }
+        ensures noted { self.new ≡ record { me = self.old.me; rows = slice_set self.old.rows self.old.me tag.now } }
+        ensures members { length self.new.rows ≡ length self.old.rows }
+        ensures known { KeepsKnownOfOwn tag.now self.old self.new }
+        ensures moved { IsTrue result ↔ (stable_of self.new.rows ≢ stable_of self.old.rows) }
+        ensures stays { result ≡ false → KeepsStable self.old self.new }
+    {
         let rows = &mut self.rows[..self.n as usize];
-        self.stable = set_row(rows, self.me, &tag, &self.stable);
+        let stable = set_row(rows, self.me, tag, &self.stable);
+        let moved = stable != self.stable;
+        self.stable = stable;
+        moved
     }
 
     /// The least entry of each column: how many messages of each member every member is known to have.
@@ -138,21 +154,27 @@ impl Matrix {
         ensures least { result ≡ stable_of (noted self.now.me origin tag self.now.rows) }
         ensures known { StableAfter origin tag self.now result }
     {
-        self.stable_with(origin, &tag)
+        self.stable_moved(origin, &tag).unwrap_or(self.stable)
     }
 
-    /// The same of a timestamp where it stands.
-    pub fn stable_with(&self, origin: u8, tag: &Tag) -> Tag
+    /// The same, where it isn't what `stable` gives now, and `None` exactly where it is.
+    pub fn stable_moved(&self, origin: u8, tag: &Tag) -> Option<Tag>
         requires origin { origin < length self.now.rows }
         requires other { origin ≢ self.now.me }
         requires entries { length tag.now ≡ length self.now.rows }
-        ensures least { result ≡ stable_of (noted self.now.me origin tag.now self.now.rows) }
-        ensures known { StableAfter origin tag.now self.now result }
+        ensures least { unwrap_or result (stable_of self.now.rows) ≡ stable_of (noted self.now.me origin tag.now self.now.rows) }
+        ensures moved { IfSome result (λ stable. stable ≢ stable_of self.now.rows) }
+        ensures known { StableAfter origin tag.now self.now (unwrap_or result (stable_of self.now.rows)) }
     {
         if self.keeps_least(origin, tag) {
-            return self.stable;
+            return None;
         }
-        least_with(&self.rows[..self.n as usize], self.me, origin, tag)
+        let least = least_with(&self.rows[..self.n as usize], self.me, origin, tag);
+        if least == self.stable {
+            None
+        } else {
+            Some(least)
+        }
     }
 
     /// Whether every member is known to have a message.
@@ -172,11 +194,17 @@ impl Matrix {
         ensures { IsTrue result → stable_of (noted self.now.me origin tag.now self.now.rows) ≡ stable_of self.now.rows }
     {
         let row = &self.rows[origin as usize];
-        let mut stay = true;
-        for x in 0..self.n {
-            stay &= least_stays(self.stable.at(x), row.at(x), tag.at(x));
-        }
         let own = self.rows[self.me as usize].at(origin);
-        stay & least_stays(self.stable.at(origin), own, tag.at(origin))
+        self.stable.is_below_changes(row, tag)
+            & least_stays(self.stable.at(origin), own, tag.at(origin))
+    }
+}
+
+/// Gives a timestamp other numbers, where it moves to others.
+fn become_moved(stable: &mut Tag, moved: Option<&Tag>)
+    ensures { stable.new ≡ unwrap_or (option_copied moved.entry) stable.old }
+{
+    if let Some(moved) = moved {
+        *stable = *moved;
     }
 }

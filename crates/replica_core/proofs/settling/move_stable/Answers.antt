@@ -3,20 +3,20 @@ use Rattle.std.proofs.lemmas.List.{nil_from_length}
 use denote.Struct.Props.{props}
 use Rattle.std.proofs.Math.Logic.{∥∥₁_elim, ∥∥₁_map}
 use Rattle.polog.specs.Value.{Log}
-use Rattle.replica_core.proofs.MovesStable.{same_numbers, parted_entries, stable_is_tag, origin_is_within, all_are_absorbed_already, all_are_moved_already, is_log_already, are_waiting}
+use Rattle.replica_core.proofs.MovesStable.{parted_entries, stable_is_tag, origin_is_within, all_are_absorbed_already, all_are_moved_already, is_log_already, are_waiting}
 use Rattle.replica_core.proofs.settling.move_stable.Goals as goal
 
 pub covers_id-requires : goal.covers_id-requires
 covers_id-requires c = ∥∥₁_elim c.requires.logged (search props) (λ x. origin_is_within x.4)
 
 pub returns-then-not-covers_id-clause-absorbed : goal.returns-then-not-covers_id-clause-absorbed
-returns-then-not-covers_id-clause-absorbed c = λ w limit h m logged. all_are_absorbed_already logged (same_numbers _ _ _ _ (sym c.if-eq.ensures)) (sym c.if-not-covers_id.ensures)
+returns-then-not-covers_id-clause-absorbed c = λ w limit h m logged. all_are_absorbed_already logged c.if-not-moved.true (sym c.if-not-covers_id.ensures)
 
 pub returns-then-not-covers_id-clause-moved : goal.returns-then-not-covers_id-clause-moved
-returns-then-not-covers_id-clause-moved c = λ w limit h m logged. all_are_moved_already logged (same_numbers _ _ _ _ (sym c.if-eq.ensures)) (sym c.if-not-covers_id.ensures)
+returns-then-not-covers_id-clause-moved c = λ w limit h m logged. all_are_moved_already logged c.if-not-moved.true (sym c.if-not-covers_id.ensures)
 
 pub returns-then-not-covers_id-clause-log : goal.returns-then-not-covers_id-clause-log
-returns-then-not-covers_id-clause-log c = λ w limit h m logged. is_log_already logged (same_numbers _ _ _ _ (sym c.if-eq.ensures)) (sym c.if-not-covers_id.ensures)
+returns-then-not-covers_id-clause-log c = λ w limit h m logged. is_log_already logged c.if-not-moved.true (sym c.if-not-covers_id.ensures)
 
 pub strip-requires-clause-tag : goal.strip-requires-clause-tag
 strip-requires-clause-tag c = ∥∥₁_elim c.requires.logged (search props) (λ x. stable_is_tag x.4)

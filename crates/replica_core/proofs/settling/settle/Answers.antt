@@ -34,8 +34,8 @@ pub note-requires-clause-numbers : goal.note-requires-clause-numbers
 note-requires-clause-numbers c = ∥∥₁_elim c.requires.ready (search props) (λ x. pruned_is_numbered x.3 (pruned_of x.3))
 
 -- log, items and lists, once the element is in its list
-logged : (c : After-note) {w limit : ℕ} {h : History} → AreReady w limit h c.args.log.now (shown c.args.items.now) (lists_shown c.args.lists.now) c.args.epoch c.args.message.now c.args.before.now c.args.stable.now
-    → AreLogged w limit h c.args.message.now c.note.new.log (shown c.cover.new.items) (lists_shown c.note.new.lists) c.args.epoch c.id-id.result c.args.before.now c.args.stable.now
+logged : (c : After-note) {w limit : ℕ} {h : History} → AreReady w limit h c.args.log.now (shown c.args.items.now) (lists_shown c.args.lists.now) c.args.epoch c.args.message.now c.args.moved c.args.stable.now
+    → AreLogged w limit h c.args.message.now c.note.new.log (shown c.cover.new.items) (lists_shown c.note.new.lists) c.args.epoch c.id-id.result c.args.moved c.args.stable.now
 logged c {w} {limit} {h} ready =
     let m = c.args.message.now in
     let is = logged_of ready (pruned_of ready) c.note.ensures.log in

@@ -1,20 +1,11 @@
-use Rattle.std.proofs.Common.{◌≡◌, ◌<◌, length, get_or, ap, below_more, refl, sym, subst, ◌∙◌, arith}
+use Rattle.std.proofs.Common.{◌≡◌, ◌<◌, length, ap, refl, sym, subst, ◌∙◌, arith}
 use Rattle.std.proofs.lemmas.Bool.{and_parts}
 use Rattle.op_base.specs.Timestamp.{entry}
 use Rattle.stability_matrix.specs.Fields.{rows_of}
-use Rattle.stability_matrix.specs.Rows.{row_of, stable_of, noted, LeastStays}
+use Rattle.stability_matrix.specs.Rows.{row_of, stable_of, noted}
 use Rattle.stability_matrix.proofs.Kept.{length-rows_of, square-rows_of, length-stable, row-kept, length-row}
 use Rattle.stability_matrix.proofs.Renewals.{stays-is, stable-kept}
 use Rattle.stability_matrix.proofs.matrix.Matrix.keeps_least.Goals as goal
-
-pub at-requires : goal.at-requires
-at-requires c = omega (arith, c.loop-x-test.true, length-stable c.self.inside c.self.invariant)
-
-pub at-requires-in-loop-x : goal.at-requires-in-loop-x
-at-requires-in-loop-x c =
-    let m = c.self.inside in
-    let there : c.args.origin < m.n = omega (arith, c.requires.origin, ap (λ known. length known.rows) c.self.view_is, length-rows_of m c.self.invariant) in
-    omega (arith, c.loop-x-test.true, length-row m c.self.invariant c.args.origin c.index-self-origin.result there)
 
 pub at-own-requires : goal.at-own-requires
 at-own-requires c =
@@ -22,15 +13,21 @@ at-own-requires c =
     let there : c.args.origin < m.n = omega (arith, c.requires.origin, ap (λ known. length known.rows) c.self.view_is, length-rows_of m c.self.invariant) in
     omega (arith, there, length-row m c.self.invariant m.me c.index-self-self.result c.self.invariant.member)
 
-pub at-requires-2 : goal.at-requires-2
-at-requires-2 c =
+pub is_below_changes-requires-clause-from : goal.is_below_changes-requires-clause-from
+is_below_changes-requires-clause-from c =
+    let m = c.self.inside in
+    let there : c.args.origin < m.n = omega (arith, c.requires.origin, ap (λ known. length known.rows) c.self.view_is, length-rows_of m c.self.invariant) in
+    omega (arith, length-row m c.self.invariant c.args.origin c.index-self-origin.result there, length-stable m c.self.invariant)
+
+pub is_below_changes-requires-clause-to : goal.is_below_changes-requires-clause-to
+is_below_changes-requires-clause-to c =
+    let m = c.self.inside in
+    omega (arith, c.requires.entries, ap (λ known. length known.rows) c.self.view_is, length-rows_of m c.self.invariant, length-stable m c.self.invariant)
+
+pub at-requires : goal.at-requires
+at-requires c =
     let m = c.self.inside in
     omega (arith, c.requires.origin, ap (λ known. length known.rows) c.self.view_is, length-rows_of m c.self.invariant, length-stable m c.self.invariant)
-
-pub loop-x-preserved : goal.loop-x-preserved
-loop-x-preserved c = λ true.
-    below_more (λ k. LeastStays (entry c.self.inside.stable k) (entry (get_or c.self.inside.rows c.args.origin c.index-self-origin.result) k) (entry c.args.tag.now k)) c.loop-x.x (c.loop-x.invariant (and_parts _ _ true).0)
-    (stays-is c.at.result c.at-in-loop-x.result c.at-in-loop-x-2.result _ _ _ (sym c.at.ensures) (sym c.at-in-loop-x.ensures) (sym c.at-in-loop-x-2.ensures) (c.least_stays-stay.ensures (and_parts _ _ true).1))
 
 pub returns : goal.returns
 returns c = λ true.
@@ -45,7 +42,7 @@ returns c = λ true.
     let own_row = row-kept m c.self.invariant m.me c.index-self-self.result c.self.invariant.member in
     let stays = stable-kept m.me origin tag rows (omega (arith, c.self.invariant.member, len)) there (square-rows_of m c.self.invariant) (c.requires.entries ∙ sym same)
     (λ x l. stays-is (entry m.stable x) _ (entry tag x) (entry (stable_of rows) x) (entry (row_of rows origin) x) (entry tag x)
-    (ap (λ stable. entry stable x) (sym c.self.invariant.least)) (ap (λ r. entry r x) (sym row)) refl (c.loop-x.invariant (and_parts _ _ true).0 x (omega (arith, l, len, c.loop-x-test.false))))
-    (stays-is c.at-2.result c.at-own.result c.at-3.result (entry (stable_of rows) origin) (entry (row_of rows m.me) origin) (entry tag origin)
-    (ap (λ stable. entry stable origin) (sym c.self.invariant.least) ∙ sym c.at-2.ensures) (ap (λ r. entry r origin) (sym own_row) ∙ sym c.at-own.ensures) (sym c.at-3.ensures) (c.least_stays.ensures (and_parts _ _ true).1)) in
+    (ap (λ stable. entry stable x) (sym c.self.invariant.least)) (ap (λ r. entry r x) (sym row)) refl (c.is_below_changes.ensures.0 (and_parts _ _ true).0 x (omega (arith, l, len, length-stable m c.self.invariant))))
+    (stays-is c.at.result c.at-own.result c.at-2.result (entry (stable_of rows) origin) (entry (row_of rows m.me) origin) (entry tag origin)
+    (ap (λ stable. entry stable origin) (sym c.self.invariant.least) ∙ sym c.at.ensures) (ap (λ r. entry r origin) (sym own_row) ∙ sym c.at-own.ensures) (sym c.at-2.ensures) (c.least_stays.ensures (and_parts _ _ true).1)) in
     subst (λ known. stable_of (noted known.me origin tag known.rows) ≡ stable_of known.rows) c.self.view_is stays
