@@ -308,7 +308,7 @@ either (inr b) f g = g b
 abbrev pub Alike : List ℕ → List ℕ → Type 0
 Alike xs ys = (i : ℕ) → slice_index xs i ≡ slice_index ys i
 
-pub written : (old bytes ys : List ℕ) (place : ℕ) → place + length bytes ≤ length old → length ys ≡ place → Alike old ys
+written : (old bytes ys : List ℕ) (place : ℕ) → place + length bytes ≤ length old → length ys ≡ place → Alike old ys
     → Alike ((take place old ++ bytes) ++ drop (place + length bytes) old) (ys ++ bytes)
 written old bytes ys place fits is alike i =
     let end = place + length bytes in
@@ -337,7 +337,7 @@ spaced (y ∷ ys) zeros none zero = refl
 spaced (y ∷ ys) zeros none (suc i) = spaced ys zeros none i
 
 -- the first bytes of what comes last are enough for as many of all
-pub enough : (xs ys : List ℕ) (n i : ℕ) → i < n → slice_index (xs ++ take (min (length ys) n) ys) i ≡ slice_index (xs ++ ys) i
+enough : (xs ys : List ℕ) (n i : ℕ) → i < n → slice_index (xs ++ take (min (length ys) n) ys) i ≡ slice_index (xs ++ ys) i
 enough [] ys n i l = either (cases_lt i (min (length ys) n)) (λ before. get_or-take (min (length ys) n) ys i 0 before)
     (λ past. get_or_past (take (min (length ys) n) ys) i 0 (omega (arith, past, length-take-le (min (length ys) n) ys (omega arith))) ∙ sym (get_or_past ys i 0 (omega (arith, l, past))))
 enough (x ∷ xs) ys n zero l = refl
@@ -364,13 +364,24 @@ pub unvalued_text : (key text : List ℕ) (byte : ℕ) → Alike text (byte ∷ 
 unvalued_text key text byte alike i = alike i ∙ sym (spaced (byte ∷ key) (0 ∷ []) (all_zeros 1) i)
 
 -- and with one that is written behind these
-pub valued_text : (old text key value : List ℕ) (byte : ℕ) → length old ≡ 66 → length key ≤ 32 → Alike old (byte ∷ key)
-    → text ≡ (take (length key + 2) old ++ take (min (length value) 32) value) ++ drop (length key + 2 + length (take (min (length value) 32) value)) old
+pub valued_text : (old text key value : List ℕ) (byte : ℕ) → Alike old (byte ∷ key)
+    → ((front : List ℕ) → length front ≡ length key + 2 → Alike old front → (i : ℕ) → i < 32 → slice_index text i ≡ slice_index (front ++ value) i)
     → (i : ℕ) → i < 32 → slice_index text i ≡ slice_index (byte ∷ key ++ 0 ∷ value) i
-valued_text old text key value byte long short alike is i l =
-    let ys = byte ∷ key ++ 0 ∷ [] in
+valued_text old text key value byte alike put i l =
+    let front = byte ∷ key ++ 0 ∷ [] in
+    put front (omega (arith, length-append key (0 ∷ []))) (unvalued_text key old byte alike) i l ∙ ap (λ xs. slice_index (byte ∷ xs) i) (append_assoc key (0 ∷ []) value)
+
+-- as many bytes of a value are written as a rank can have
+pub written_some : (old front value : List ℕ) (place : ℕ) → length old ≡ 66 → place ≤ 34 → length front ≡ place → Alike old front → (i : ℕ) → i < 32
+    → slice_index ((take place old ++ take (min (length value) 32) value) ++ drop (place + length (take (min (length value) 32) value)) old) i ≡ slice_index (front ++ value) i
+written_some old front value place long fits is alike i l =
     let some = take (min (length value) 32) value in
     let few : length some ≤ 32 = omega (arith, length-take-le (min (length value) 32) value (omega arith)) in
-    let is_long : length ys ≡ length key + 2 = omega (arith, length-append key (0 ∷ [])) in
-    let whole = written old some ys (length key + 2) (omega (arith, long, short, few)) is_long (unvalued_text key old byte alike) i in
-    ap (λ xs. slice_index xs i) is ∙ whole ∙ enough ys value 32 i l ∙ ap (λ xs. slice_index (byte ∷ xs) i) (append_assoc key (0 ∷ []) value)
+    written old some front place (omega (arith, long, fits, few)) is alike i ∙ enough front value 32 i l
+
+-- or a value with zeros behind it
+pub written_padded : (old front value padded : List ℕ) (place zeros : ℕ) → padded ≡ value ++ replicate zeros 0 → place + length padded ≤ length old → length front ≡ place → Alike old front → (i : ℕ)
+    → slice_index ((take place old ++ padded) ++ drop (place + length padded) old) i ≡ slice_index (front ++ value) i
+written_padded old front value padded place zeros is_padded fits is alike i =
+    written old padded front place fits is alike i ∙ ap (λ xs. slice_index (front ++ xs) i) is_padded
+    ∙ ap (λ xs. slice_index xs i) (sym (append_assoc front value (replicate zeros 0))) ∙ spaced (front ++ value) (replicate zeros 0) (all_zeros zeros) i

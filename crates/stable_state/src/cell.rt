@@ -10,7 +10,7 @@ ghost use Rattle.causal_model.specs.Items.{is_filled};
 ghost use Rattle.causal_model.specs.Query.{IsWithin};
 ghost use Rattle.stable_state.specs.Picked.{is_place};
 
-use op_base::{Act, Cell, Kind, Update, VALUE_BYTES_IN_PLACE, Value};
+use op_base::{Act, Cell, Kind, Update, Value};
 
 /// The cell with no mark and the sum 0, which is no item.
 pub const NO_CELL: Cell = Cell {
@@ -122,14 +122,9 @@ pub fn comes_back(update: &Update) -> bool
         → covers_place (op.Update update.now) object value ≡ is_place update.now.object (value_of update.now.act) object value }
 {
     match (update.object.kind, &update.act) {
-        (Kind::AwSet, Act::Add(value)) => is_short(value),
-        (Kind::RwSet, Act::Add(value)) => is_short(value),
-        (Kind::RwSet, Act::Rmv(value)) => is_short(value),
+        (Kind::AwSet, Act::Add(value)) => value.is_in_place(),
+        (Kind::RwSet, Act::Add(value)) => value.is_in_place(),
+        (Kind::RwSet, Act::Rmv(value)) => value.is_in_place(),
         _ => false,
     }
-}
-
-/// Whether a value is no longer than what stands in place.
-fn is_short(value: &Value) -> bool {
-    value.as_slice().len() <= VALUE_BYTES_IN_PLACE
 }

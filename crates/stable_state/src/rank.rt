@@ -4,7 +4,7 @@
 //! textbook rule. A text that is so short that the rank has all of it, and a zero behind it, is told by its rank alone: no
 //! other item has this rank.
 
-ghost use Rattle.std.specs.Prelude.{◌≡◌, ℕ, ◌/◌, ◌%◌, ◌^◌, ◌≤◌, ◌<◌, nat_lt, IfOk, IsTrue, option_copied, slice_index, length, take, drop, ◌+◌, ◌++◌, ◌∷◌, []};
+ghost use Rattle.std.specs.Prelude.{◌≡◌, ℕ, List, ◌/◌, ◌%◌, ◌^◌, ◌≤◌, ◌<◌, nat_lt, IfOk, IsTrue, option_copied, slice_index, length, take, drop, ◌+◌, ◌++◌, ◌∷◌, []};
 ghost use Rattle.std.specs.Option.{ForSome};
 ghost use Rattle.std.specs.Ordering.{nat_cmp};
 ghost use Rattle.op_base.specs.Name.{is_key, is_value};
@@ -256,11 +256,28 @@ fn front_of(object: &ObjectId, value: Option<&Value>) -> [u8; TEXT_BYTES]
     text[0] = place_of_kind(object.kind);
     text[1..1 + MOST_KEY_BYTES].copy_from_slice(object.key.padded());
     if let Some(value) = value {
-        let bytes = value.as_slice();
-        let len = bytes.len().min(RANK_BYTES);
-        write_at(&mut text, key.len() + 2, &bytes[..len]);
+        write_value(&mut text, key.len() + 2, value);
     }
     text
+}
+
+/// Writes a value into a text from a place on behind which zeros stand, as much of it as a rank can have. One that stands in place is
+/// written with the zeros behind it: then as many bytes are moved whatever it is.
+#[inline(always)]
+fn write_value(text: &mut [u8; TEXT_BYTES], place: usize, value: &Value)
+    requires { place ≤ 34 }
+    ensures written { (front : List ℕ) → length front ≡ place → ((i : ℕ) → slice_index text.old i ≡ slice_index front i)
+        → (i : ℕ) → i < 32 → slice_index text.new i ≡ slice_index (front ++ value.now) i }
+    ensures value { IsTrue (is_value value.now) }
+{
+    let bytes = value.as_slice();
+    match value.padded() {
+        Some(padded) => write_at(text, place, padded),
+        None => {
+            let len = bytes.len().min(RANK_BYTES);
+            write_at(text, place, &bytes[..len]);
+        }
+    }
 }
 
 /// A text of zeros.

@@ -1,7 +1,7 @@
-use Rattle.std.proofs.Common.{◌+◌, [], ◌∷◌, ◌++◌, length, take, drop, sym, ap, ◌∙◌}
+use Rattle.std.proofs.Common.{◌+◌, [], ◌∷◌, ◌++◌, length, sym, ap, ◌∙◌}
 use Rattle.std.specs.Prelude.{option_copied, unwrap_or, slice_index, slice_set}
 use borrow.Rule.Slice.PartMut.{put_mid}
-use Rattle.stable_state.proofs.Ranks.{key_fits, named_text, named_long, unvalued_text, valued_text}
+use Rattle.stable_state.proofs.Ranks.{named_text, unvalued_text, valued_text}
 use Rattle.stable_state.proofs.rank.front_of.Goals as goal
 
 pub returns-in-Some-clause-front : goal.returns-in-Some-clause-front
@@ -10,15 +10,11 @@ returns-in-Some-clause-front c =
     let place = c.place_of_kind.result in
     let wide = c.copy_from_slice.new.self in
     let old = put_mid 1 32 (slice_set c.zeros-text.result 0 place) wide in
-    let bytes = c.as_slice-bytes.result.now in
     let named = named_text c.zeros-text.result place key wide c.zeros-text.ensures.len c.zeros-text.ensures.each (c.copy_from_slice.ensures.after ∙ c.padded.ensures) in
-    let long = named_long c.zeros-text.result place wide c.zeros-text.ensures.len c.copy_from_slice.ensures.len in
-    let written =
-    c.write_at.ensures
-    ∙ (λ j. (take (length (c.as_slice-key.ensures.bytes j) + 2) old ++ take (c.min-len.ensures j) bytes) ++ drop (length (c.as_slice-key.ensures.bytes j) + 2 + length (take (c.min-len.ensures j) bytes)) old) in
     λ i l.
-    valued_text old c.write_at.new.text key bytes place long (key_fits key c.as_slice-key.ensures.valid) named written i l
-    ∙ (λ j. slice_index (c.place_of_kind.ensures j ∷ (key ++ 0 ∷ (c.as_slice-bytes.ensures.bytes ∙ ap (λ value. unwrap_or (option_copied value) []) (sym c.in-Some.is)) j)) i)
+    valued_text old c.write_value.new.text key c.in-Some.value.now place named
+    (λ front is. c.write_value.ensures.written front (is ∙ ap (λ key. length key + 2) (sym c.as_slice-key.ensures.bytes))) i l
+    ∙ (λ j. slice_index (c.place_of_kind.ensures j ∷ (key ++ 0 ∷ ap (λ value. unwrap_or (option_copied value) []) (sym c.in-Some.is) j)) i)
 
 pub returns-in_default-clause-front : goal.returns-in_default-clause-front
 returns-in_default-clause-front c = λ i l.
