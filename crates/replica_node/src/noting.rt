@@ -4,14 +4,13 @@
 //! a copy that was made and then noted would be moved twice more, and the places of all cases would be cleared for each.
 
 ghost use Rattle.std.specs.Prelude.{◌≡◌, ◌+◌, ◌≤◌, ◌++◌, ◌∷◌, []};
-ghost use Rattle.op_base.specs.CopyRooms.{IsCopyRoomFor, IsCopyRoomForAct, IsCopyRoomForValue};
-ghost use Rattle.op_base.specs.declared.operation.Act.TheVariants as acts;
+ghost use Rattle.op_base.specs.CopyRooms.{IsCopyRoomFor, IsCopyRoomForAct};
 ghost use Rattle.op_base.specs.declared.operation.Op.TheVariants as op;
 ghost use Rattle.replica_node.specs.Noting.{noted_as, message_of};
 
 use crate::recorder::Recorder;
 use causal_model::Note;
-use op_base::{Act, CopyRoom, Message, Op, Tag, Update, Value};
+use op_base::{Act, CopyRoom, Message, Op, Tag, Update};
 
 /// As what a message is noted.
 #[derive(Clone, Copy, Drop)]
@@ -53,7 +52,30 @@ pub(crate) fn note_copy<R: Recorder>(
     match op {
         Op::NoOp => note_noop(journal, noted, *origin, tag),
         Op::Update(update) => match &update.act {
-            Act::Add(value) => note_add(journal, noted, *origin, tag, update, value, room),
+            Act::Add(value) => note_act(
+                journal,
+                noted,
+                *origin,
+                tag,
+                update,
+                Act::Add(value.copied(room)),
+            ),
+            Act::Rmv(value) => note_act(
+                journal,
+                noted,
+                *origin,
+                tag,
+                update,
+                Act::Rmv(value.copied(room)),
+            ),
+            Act::Write(value) => note_act(
+                journal,
+                noted,
+                *origin,
+                tag,
+                update,
+                Act::Write(value.copied(room)),
+            ),
             _ => note_update(journal, noted, *origin, tag, update, room),
         },
     }
@@ -74,20 +96,18 @@ fn note_noop<R: Recorder>(journal: &mut R, noted: NotedAs, origin: u8, tag: &Tag
     }));
 }
 
-/// Notes an add: most messages of many stores carry one.
+/// Notes an update, by a copy of its act: most messages of many stores carry an act that has one value.
 #[inline(always)]
-fn note_add<R: Recorder>(
+fn note_act<R: Recorder>(
     journal: &mut R,
     noted: NotedAs,
     origin: u8,
     tag: &Tag,
     update: &Update,
-    value: &Value,
-    room: CopyRoom,
+    act: Act,
 )
     requires spare { 1 ≤ R.spare journal.old }
-    requires add { update.now.act ≡ acts.Add value.now }
-    requires room { IsCopyRoomForValue room value.now }
+    requires act { act ≡ update.now.act }
     ensures noted { R.notes journal.new ≡ R.notes journal.old ++ noted_as noted (message_of origin tag.now (op.Update update.now)) ∷ [] }
     ensures spare { R.spare journal.old ≤ R.spare journal.new + 1 }
     ensures asked { R.asked journal.new ≡ R.asked journal.old }
@@ -97,7 +117,7 @@ fn note_add<R: Recorder>(
         tag: *tag,
         op: Op::Update(Update {
             object: update.object,
-            act: Act::Add(value.copied(room)),
+            act,
         }),
     }));
 }

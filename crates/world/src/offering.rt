@@ -1,9 +1,13 @@
 //! Offering a member's outbox to a replica of the world.
 
-ghost use Rattle.std.specs.Prelude.{◌≡◌, ◌≢◌, ◌⊎◌, ◌<◌, ◌∷◌, [], length, IsTrue, All, IfOk, OnOk, OnErr};
+ghost use Rattle.std.specs.Prelude.{◌≡◌, ◌≢◌, ◌⊎◌, ◌<◌, ◌∷◌, [], length, None, IsTrue, All, IfOk, OnOk, OnErr};
 ghost use Rattle.op_base.specs.Message.{fits};
+ghost use Rattle.op_base.specs.declared.operation.Op.TheVariants as op;
 ghost use Rattle.causal_model.specs.Counts.{is_carried};
 ghost use Rattle.causal_model.specs.Follows.{FollowsOrStops};
+ghost use Rattle.causal_model.specs.Receiving.{refusal_of};
+ghost use Rattle.causal_model.specs.State.{State};
+ghost use Rattle.replica_core.specs.Rules.{StandsFor};
 ghost use Rattle.world_model.specs.World.{PlainWorld};
 ghost use Rattle.world_model.specs.Offering.{offered, offered_more, offered_between, resend_at, resent_of};
 ghost use Rattle.world.specs.Growing.{NotesOffers};
@@ -11,7 +15,7 @@ ghost use Rattle.world.specs.Shows.{state_of};
 ghost use Rattle.world.specs.Steps.{SameNode, OffersSome, OffersBetween, CanBeOffered, HasOffered, offered_at};
 
 use crate::world::World;
-use op_base::{Message, NoMemory, Step, StepList};
+use op_base::{Act, Message, NoMemory, Op, Step, StepList, Update};
 use outbox::Outbox;
 use replica_node::{Journal, Node};
 use std::alloc::Global;
@@ -144,6 +148,9 @@ fn offer_messages(
 }
 
 /// Offers a message to a node. One that isn't accepted costs a look at it. On `NoMemory` it was offered, or it wasn't.
+///
+/// What it carries is told apart before a copy is made, and most messages have a case of their own: the copy is then made where the
+/// node takes it from, and isn't moved there.
 fn offer_one(
     alloc: Global,
     node: &mut Node<Journal>,
@@ -160,8 +167,73 @@ fn offer_one(
     if node.replica().refusal(message).is_some() {
         return Ok(());
     }
-    let message = message.copy(alloc)?;
-    node.accept_behind(alloc, message, &mut made.steps)?;
+    let Message { origin, tag, op } = message;
+    match op {
+        Op::NoOp => {
+            let copy = Message {
+                origin: *origin,
+                tag: *tag,
+                op: Op::NoOp,
+            };
+            offer_copy(alloc, node, copy, message, made)
+        }
+        Op::Update(update) => match &update.act {
+            Act::Add(value) if value.is_in_place() => {
+                let copy = copy_with(message, update, Act::Add(value.copied_in_place()));
+                offer_copy(alloc, node, copy, message, made)
+            }
+            Act::Rmv(value) if value.is_in_place() => {
+                let copy = copy_with(message, update, Act::Rmv(value.copied_in_place()));
+                offer_copy(alloc, node, copy, message, made)
+            }
+            Act::Write(value) if value.is_in_place() => {
+                let copy = copy_with(message, update, Act::Write(value.copied_in_place()));
+                offer_copy(alloc, node, copy, message, made)
+            }
+            _ => {
+                let copy = message.copy(alloc)?;
+                offer_copy(alloc, node, copy, message, made)
+            }
+        },
+    }
+}
+
+/// A copy of a message, by a copy of its update's act.
+#[inline(always)]
+fn copy_with(message: &Message, update: &Update, act: Act) -> Message
+    requires update { message.now.op ≡ op.Update update.now }
+    requires act { act ≡ update.now.act }
+    ensures { result ≡ message.now }
+{
+    Message {
+        origin: message.origin,
+        tag: message.tag,
+        op: Op::Update(Update {
+            object: update.object,
+            act,
+        }),
+    }
+}
+
+/// Offers a copy of a message that isn't refused to a node. On `NoMemory` it was offered, or it wasn't.
+#[inline(always)]
+fn offer_copy(
+    alloc: Global,
+    node: &mut Node<Journal>,
+    copy: Message,
+    _message: &Message,
+    made: &mut Offers,
+) -> Result<(), NoMemory>
+    requires copy { copy ≡ _message.now }
+    requires fits { IsTrue (fits node.old.inner.n _message.now) }
+    requires carried { IsTrue (is_carried node.old.inner.limit _message.now) }
+    requires unrefused { (s : State) → StandsFor node.old.inner s → refusal_of node.old.inner.w s _message.now ≡ None }
+    ensures made { OnOk result (offered_at node.new made.new ≡ offered_more node.old.inner.w (offered_at node.old made.old) _message.now) }
+    ensures some { OnErr result ((state_of node.new ≡ state_of node.old) ⊎ (state_of node.new ≡ (offered_more node.old.inner.w (offered_at node.old made.old) _message.now).state)) }
+    ensures same { SameNode node.old node.new }
+    ensures noted { NotesOffers (_message.now ∷ []) node.old.journal.notes node.new.journal.notes }
+{
+    node.accept_behind(alloc, copy, &mut made.steps)?;
     made.kept = true;
     Ok(())
 }
