@@ -1,6 +1,8 @@
 """Traps: small scripts, each slow in a plain body for one reason, which is told beside it. `bench/scripts` runs them as it runs
 the workloads."""
 
+import random
+
 
 def resends(senders, members=16):
     """Each member but the sender is offered each sender's outbox."""
@@ -85,6 +87,68 @@ def deletes(asks=300, elements=64):
     return s + [f'resend 0 {k}' for k in range(1, 16)] + ['size 0'] + ['ask 0 list:d', 'tombs 0 list:d'] * asks
 
 
+# What the program multiplies by where it takes a hash: of an item, to remember in which slot it was found (`stable_state`), and of
+# an object, to remember where its entries stand (`polog`).
+FACTOR = 0x9E3779B97F4A7C15
+
+
+def alike_values(count):
+    """So many values of a set `s`, of 24 bytes each, whose items have one hash, whatever it is divided by: they were computed
+    backwards from it."""
+    begin, end = b'v' * 13, b'end'
+    number = lambda bytes: int.from_bytes(bytes, 'big')
+    first = number(bytes([0]) + b's\0' + begin[:5]) ^ number(begin[5:]) * FACTOR
+    fixed = (first * FACTOR ^ number(end + bytes(5)) * FACTOR) % 2**64
+    inverse, at, found = pow(FACTOR, -1, 2**64), 0, []
+    while len(found) < count:
+        middle = fixed ^ at
+        at = (at + inverse) % 2**64
+        if middle & 0x8080808080808080 == 0 and all(0x20 < b < 0x7F for b in middle.to_bytes(8, 'big')):
+            found.append((begin + middle.to_bytes(8, 'big') + end).decode())
+    return found
+
+
+def plain_values(count):
+    """As many values of as many bytes, of no pattern."""
+    R = random.Random(32)
+    return ['v' * 13 + ''.join(chr(R.randrange(0x21, 0x7F)) for _ in range(8)) + 'end' for _ in range(count)]
+
+
+def alike(values=alike_values, count=2000, turns=28000):
+    """Settled values whose items have one hash are added again and again, in another order."""
+    v = values(count)
+    s = ['store 1 64 65535'] + [f'do 0 awset:s add {it}' for it in v]
+    return s + [f'do 0 awset:s add {v[i * 1237 % count]}' for i in range(turns)] + ['size 0']
+
+
+def alike_keys(count):
+    """So many keys of sets, of one hash where the log remembers where entries stand."""
+    found, i = [], 0
+    while len(found) < count:
+        key = f'k{i:06d}'
+        padded = key.encode().ljust(32, b'\0')
+        total = sum(int.from_bytes(padded[at : at + 8], 'little') for at in range(0, 32, 8))
+        if (total * FACTOR % 2**64) >> 60 == 0: found.append(key)
+        i += 1
+    return found
+
+
+def plain_keys(count):
+    """As many keys, of no pattern."""
+    return [f'k{i:06d}' for i in random.Random(33).sample(range(10**6), count)]
+
+
+def guesses(keys=alike_keys, count=64, turns=400):
+    """Three members add to sets in turn, whose names have one hash, and hear each other: entries of all sets are in the log."""
+    k = keys(count)
+    pairs = [f'resend {a} {b}' for a in range(3) for b in range(3) if a != b]
+    s = ['store 3 64 65535']
+    for i in range(turns):
+        s += [f'do {r} awset:{k[(i * 24 + 3 * j + r) % count]} add v{(i + j) % 50}' for j in range(8) for r in range(3)] + pairs
+        if i % 4 == 3: s += [f'beat {r}' for r in range(3)] + pairs
+    return s
+
+
 # Each trap's word, what it is, and what makes its lines.
 TRAPS = {
     "marks": ("512 marks wait for 512 entries", marks),
@@ -96,4 +160,6 @@ TRAPS = {
     "logs": ("a log of 1024 entries, listed", logs),
     "regs": ("a register, written in turn", regs),
     "deletes": ("1024 deletes in the log, asked", deletes),
+    "alike": ("2000 values of one hash, added again", alike),
+    "guesses": ("64 sets of one hash in the log", guesses),
 }
