@@ -20,6 +20,7 @@ use crate::words::{Request, request_of};
 use op_base::{NoMemory, Text};
 use script_net::{Feed, Stop, split_line};
 use std::alloc::Global;
+use std::mem::ManuallyDrop;
 use std::process::ExitCode;
 use std::sync::Wait;
 use std::thread::Threads;
@@ -178,7 +179,10 @@ fn run_input<S: Source, K: Sink>(alloc: Global, source: &mut S, sink: &mut K) ->
             return Status::ReadFault;
         };
         if taken == 0 {
-            return finish(alloc, &mut feed, &mut out, sink);
+            let status = finish(alloc, &mut feed, &mut out, sink);
+            // The program ends, and the system takes back all memory at once: piece by piece it would take longer.
+            let _kept = ManuallyDrop::new(feed);
+            return status;
         }
         if count == MOST_INPUT {
             return Status::TooLong;

@@ -25,8 +25,8 @@ returns-then-taken-eq0 g c =
       given = inv.given;
       gave = gave_end _ _ _ inv.given c.read.new.buf c.in-Ok.taken c.if-taken-eq0.true inv.gave c.in-Ok.ensures.moved;
       few = omega (arith, inv.few);
-      ends = ends_concluded inv.given _ _ _ _ inv.few c.finish.result (c.in-Ok.ensures.end c.if-taken-eq0.true)
-          (c.finish.ensures inv.given _ _ (fed_with _ inv.given _ _ _ _ _ inv.empty inv.fed));
+      ends = ends_concluded inv.given _ _ _ _ inv.few c.finish-status.result (c.in-Ok.ensures.end c.if-taken-eq0.true)
+          (c.finish-status.ensures inv.given _ _ (fed_with _ inv.given _ _ _ _ _ inv.empty inv.fed));
     }
 
 pub returns-then-count-eq-MOST_INPUT : goal.returns-then-count-eq-MOST_INPUT
