@@ -58,6 +58,7 @@ pub fn are_few(arguments: &[&[u8]]) -> bool
 }
 
 /// The update of an object, a verb and its arguments.
+#[inline(always)]
 pub fn read_update(
     alloc: Global,
     object: &[u8],

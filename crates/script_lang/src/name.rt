@@ -24,11 +24,16 @@ pub fn read_member(n: u8, word: &[u8]) -> Result<u8, Fault>
     }
 }
 
-/// The object that a word names. It takes no memory.
+/// The object that a word names. It takes no memory. It is read where it will stand, as an update is: to be moved once more
+/// takes longer than its instructions tell, since what was just written in pieces isn't there at once to be read whole.
+#[inline(always)]
 pub fn read_object(alloc: Global, word: &[u8]) -> Result<ObjectId, Fault>
     ensures { result ≡ object_in word.now }
 {
-    ObjectId::read(alloc, word).map_err(|_| Fault::Object)
+    match ObjectId::read(alloc, word) {
+        Ok(object) => Ok(object),
+        Err(_) => Err(Fault::Object),
+    }
 }
 
 /// The list that a word names. It takes no memory.
