@@ -180,7 +180,7 @@ fn run_input<S: Source, K: Sink>(alloc: Global, source: &mut S, sink: &mut K) ->
         };
         if taken == 0 {
             let status = finish(alloc, &mut feed, &mut out, sink);
-            // The program ends, and the system takes back all memory at once: piece by piece it would take longer.
+            // The program ends, and the system takes back all memory at once; to give it back piece by piece takes longer.
             let _kept = ManuallyDrop::new(feed);
             return status;
         }
@@ -201,6 +201,9 @@ fn run_input<S: Source, K: Sink>(alloc: Global, source: &mut S, sink: &mut K) ->
 /// Of a script that is read each line that has come whole is run, and its reply written, before more is read. So where the
 /// source fails, the input is too long or memory runs out, the replies to the lines before are written. A live text and the
 /// summary of a made script are whole before their first byte is written.
+///
+/// Where all of a script has come, the memory of its replicas isn't given back: the program ends then. So this isn't for a caller
+/// who goes on.
 ///
 /// In mode `live` threads of `rt` wait for one another, and `gate` may hold them: what a clause says holds where the call
 /// returns, and no clause says that it does, that two threads ran at once, or that a letter came. The other modes neither
