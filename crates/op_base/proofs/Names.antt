@@ -69,6 +69,10 @@ plain_ascii [] all i = omega arith
 plain_ascii (b ∷ bs) all zero = let plain = (and_parts (is_plain_byte b) (list_all is_plain_byte bs) all).0 in grind (arith, nat_tests, plain)
 plain_ascii (b ∷ bs) all (suc i) = plain_ascii bs (and_parts (is_plain_byte b) (list_all is_plain_byte bs) all).1 i
 
+-- an exclamation mark is a text
+pub mark_is_utf8 : IsTrue (is_utf8 (33 ∷ []))
+mark_is_utf8 = is_utf8-from_IsUtf8 (33 ∷ []) (IsUtf8-from_ascii (33 ∷ []) (plain_ascii (33 ∷ []) refl))
+
 -- a short text of bytes of ASCII that a value may have is a value
 pub plain_has_no_fault : (bs : List ℕ) → is_short 4096 bs ≡ true → list_all is_plain_byte bs ≡ true → value_fault bs ≡ None
 plain_has_no_fault bs short all =

@@ -160,6 +160,14 @@ struct Short {
     bytes: [u8; VALUE_BYTES_IN_PLACE],
 }
 
+/// A text of one byte, which stands where another is written.
+const SHORTEST: Short = Short {
+    len: 1,
+    bytes: [
+        33, 0, 0, 0, 0, 0, 0, 0, 0, 0, 0, 0, 0, 0, 0, 0, 0, 0, 0, 0, 0, 0, 0, 0,
+    ],
+};
+
 impl Model for Value {
     ghost use Rattle.std.specs.Prelude.{List, ℕ};
 
@@ -544,9 +552,16 @@ impl Value {
         ensures in_place { length self.now ≤ VALUE_BYTES_IN_PLACE → IsOk result }
     {
         match &self.stored {
-            Stored::Short(short) => values.push_reserved(Value {
-                stored: Stored::Short(*short),
-            }),
+            Stored::Short(short) => {
+                // It is written where it stands: a copy that is made and then moved would be waited for.
+                values.push_reserved(Value {
+                    stored: Stored::Short(SHORTEST),
+                });
+                let last = values.len() - 1;
+                if let Stored::Short(place) = &mut values[last].stored {
+                    *place = *short;
+                }
+            }
             Stored::Long(bytes) => {
                 let copy = Vec::from_slice(alloc, bytes.as_slice())?;
                 values.push_reserved(Value {

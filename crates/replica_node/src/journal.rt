@@ -48,8 +48,9 @@ impl Journal {
     pub fn copy(&self, alloc: Global) -> Result<Journal, NoMemory>
         ensures { IfOk result (λ copy. copy.notes ≡ self.now.notes) }
     {
+        // Who has the copy notes its epoch next.
         let mut copy = Journal {
-            notes: Vec::with_capacity(alloc, self.notes.len())?,
+            notes: Vec::with_capacity(alloc, self.notes.len().saturating_add(1))?,
             asked: AskCount::none(),
         };
         for note in &self.notes {

@@ -1,6 +1,6 @@
 //! The window of all members, and the check of a message that comes.
 
-ghost use Rattle.std.specs.Prelude.{◌≡◌, ◌≢◌, ℕ, ◌+◌, ◌<◌, ◌≤◌, Bool, true, false, not, ◌&&◌, List, [], ◌∷◌, ◌++◌, length, filter, map, replicate, slice_set, nat_lt, IfOk, IfSome, IsTrue, None, if◌then◌else◌};
+ghost use Rattle.std.specs.Prelude.{◌≡◌, ◌≢◌, ℕ, ◌+◌, ◌<◌, ◌≤◌, Bool, true, false, not, ◌&&◌, List, [], ◌∷◌, ◌++◌, length, filter, map, min, replicate, slice_set, nat_lt, IfOk, IfSome, IsTrue, None, if◌then◌else◌};
 ghost use Rattle.op_base.specs.Message.{fits, number};
 ghost use Rattle.op_base.specs.Timestamp.{entry};
 ghost use Rattle.op_base.specs.declared.message.Message.{Message as AMessage};
@@ -120,6 +120,18 @@ fn more_noops(message: &Message, stable: &Tag) -> u32
     }
 }
 
+/// Lowers a timestamp's number at a member to another, where that is less. Else nothing is written, as nearly always: all numbers are
+/// compared next, and would wait for what was just written.
+#[inline(always)]
+fn lower_to(firsts: &mut Tag, x: u8, number: u32)
+    requires { x < length firsts.old }
+    ensures { firsts.new ≡ slice_set firsts.old x (min (entry firsts.old x) number) }
+{
+    if number < firsts.at(x) {
+        firsts.set(x, number);
+    }
+}
+
 impl TagWindow {
     /// The empty window of so many members, 1 to 16, and a window of 1 to 64 operations. It takes the memory for all that
     /// can be unstable, and `NoMemory` leaves nothing behind.
@@ -174,8 +186,7 @@ impl TagWindow {
     {
         let queue = &mut self.queues[origin as usize];
         queue.push(Held { tag, noop });
-        let first = self.firsts.at(origin).min(tag.at(origin));
-        self.firsts.set(origin, first);
+        lower_to(&mut self.firsts, origin, tag.at(origin));
     }
 
     /// Lets go of the timestamps of all messages that are stable where these are the stable counts.

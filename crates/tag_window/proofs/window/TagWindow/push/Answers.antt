@@ -1,4 +1,4 @@
-use Rattle.std.proofs.Common.{◌≡◌, ◌<◌, ◌++◌, ◌∷◌, [], length, min, set, sym, ap, ap₂, subst, ◌∙◌, arith}
+use Rattle.std.proofs.Common.{◌≡◌, ◌<◌, ◌++◌, ◌∷◌, [], length, min, set, sym, ap, subst, arith}
 use Rattle.std.proofs.lemmas.List.{length-map}
 use Rattle.tag_window.specs.declared.held.Held.{Held}
 use Rattle.op_base.specs.Timestamp.{entry}
@@ -17,10 +17,10 @@ invariant_of-self c =
     let new = c.push.new.self in
     let h : Held = record { tag = c.args.tag; noop = c.args.noop } in
     let l : x < length lines = omega (arith, c.requires.member, ap (λ (v : Window). length v.held) c.self.view_is, length-map lines (λ (q : Line). q.held)) in
-    let least : c.min-first.result ≡ min (entry c.self.inside.firsts x) (entry h.tag x) = c.min-first.ensures ∙ ap₂ min c.at.ensures c.at-2.ensures in
+    let least : min (entry c.self.inside.firsts x) c.at.result ≡ min (entry c.self.inside.firsts x) (entry h.tag x) = ap (min (entry c.self.inside.firsts x)) c.at.ensures in
     record {
       are_queues = queues-set c.self.inside.w c.self.inside.z lines x q new l c.index_mut-queue.ensures.value (ap (λ (p : Line). p.n) c.push.ensures) (ap (λ (p : Line). p.origin) c.push.ensures) (ap (λ (p : Line). p.room) c.push.ensures) c.self.invariant.are_queues;
-      are_firsts = subst (λ firsts. AreFirsts firsts (set lines x new)) (sym c.set.ensures) (firsts-push c.self.inside.firsts lines x c.min-first.result q new h l c.index_mut-queue.ensures.value c.push.ensures least c.self.invariant.are_firsts);
+      are_firsts = subst (λ firsts. AreFirsts firsts (set lines x new)) (sym c.lower_to.ensures) (firsts-push c.self.inside.firsts lines x (min (entry c.self.inside.firsts x) c.at.result) q new h l c.index_mut-queue.ensures.value c.push.ensures least c.self.invariant.are_firsts);
     }
 
 pub returns-clause-held : goal.returns-clause-held
