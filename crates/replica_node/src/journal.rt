@@ -48,9 +48,11 @@ impl Journal {
     pub fn copy(&self, alloc: Global) -> Result<Journal, NoMemory>
         ensures { IfOk result (λ copy. copy.notes ≡ self.now.notes) }
     {
-        // Who has the copy notes its epoch next.
+        // By the powers of two, as notes grow: one at least comes next, and what was let go serves the next copy.
+        let len = self.notes.len();
+        let room = len.checked_next_power_of_two().ok_or(NoMemory)?;
         let mut copy = Journal {
-            notes: Vec::with_capacity(alloc, self.notes.len().saturating_add(1))?,
+            notes: Vec::with_capacity(alloc, room)?,
             asked: AskCount::none(),
         };
         for note in &self.notes {
