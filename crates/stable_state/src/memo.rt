@@ -69,6 +69,7 @@ impl Memo {
         requires { 0 < vec_len self.now.slots }
         ensures { result < vec_len self.now.slots }
     {
-        (rank.mix() % self.slots.len() as u64) as usize
+        // The upper half of the product is below the length, and takes no division.
+        ((u128::from(rank.mix()) * self.slots.len() as u128) >> 64) as usize
     }
 }

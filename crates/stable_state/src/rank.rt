@@ -41,8 +41,7 @@ impl Rank {
     pub fn mix(self) -> u64 {
         let first = upper(self.first) ^ lower(self.first).wrapping_mul(MIX);
         let second = upper(self.second) ^ lower(self.second).wrapping_mul(MIX);
-        let both = (first.wrapping_mul(MIX) ^ second).wrapping_mul(MIX);
-        both >> 32
+        (first.wrapping_mul(MIX) ^ second).wrapping_mul(MIX)
     }
 }
 

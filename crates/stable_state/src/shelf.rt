@@ -120,7 +120,10 @@ impl Shelf {
         ensures items { IfOk result (λ copy. copy.items ≡ self.now.items) }
         ensures untouched { IfOk result (λ copy. copy.touched ≡ []) }
     {
-        let mut slots = Slab::with_capacity(alloc, self.order.len())?;
+        // By the powers of two, as the slots grow: items that come next have room there, and what was let go serves the next copy.
+        let len = self.order.len();
+        let room = len.checked_next_power_of_two().ok_or(NoMemory)?;
+        let mut slots = Slab::with_capacity(alloc, room)?;
         let order = copy_order(alloc, &self.slots, &self.order, &mut slots)?;
         Ok(Shelf {
             slots,
