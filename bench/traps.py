@@ -93,8 +93,8 @@ FACTOR = 0x9E3779B97F4A7C15
 
 
 def alike_values(count):
-    """So many values of a set `s`, of 24 bytes each, whose items have one hash, whatever it is divided by: they were computed
-    backwards from it."""
+    """So many values of a set `s`, of 24 bytes each, whose items' hashes are small numbers, and so tell one place, however many places
+    there are: they were computed backwards from them."""
     begin, end = b'v' * 13, b'end'
     number = lambda bytes: int.from_bytes(bytes, 'big')
     first = number(bytes([0]) + b's\0' + begin[:5]) ^ number(begin[5:]) * FACTOR
